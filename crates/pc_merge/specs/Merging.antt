@@ -89,6 +89,10 @@ abbrev pub IsCause : List Coming → Refusal → Type 0
 IsCause inputs why =
     (why ≡ OutOfMemory) ⊎ (why ≡ Device) ⊎ HasFault inputs why ⊎ ((why ≡ Conflict) × HaveConflict inputs) ⊎ ((why ≡ KeyOrder) × HasNoOrder inputs)
 
+-- what a merge may refuse, whether it is known what is to come or not: what its inputs may, and a conflict or keys that don't rise
+abbrev pub IsMergeRefusal : (Refusal → Type 0) → Refusal → Type 0
+IsMergeRefusal refusals why = (why ≡ Conflict) ⊎ (why ≡ KeyOrder) ⊎ refusals why
+
 -- The answer to one call where it is known what was left: the next entry, of whose key then nothing is left; None where all
 -- inputs had ended; or a refusal for a cause.
 abbrev pub GoesOn : Option (List Coming) → Option (List Coming) → Result (Option Triple) Refusal → Type 0

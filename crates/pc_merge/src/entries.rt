@@ -1,5 +1,6 @@
 //! Entries that come one after the other.
-ghost use Rattle.std.specs.Prelude.{◌≡◌, ℕ, Bool, Option};
+ghost use Rattle.std.specs.Prelude.{◌≡◌, ℕ, Bool, Option, IfErr, ⊤};
+ghost use Rattle.pc_types.specs.declared.refusal.Refusal.{Refusal};
 ghost use Rattle.pc_merge.specs.Coming.{Coming, GivesNext, GivesWithin, Standing, Stands};
 ghost use Rattle.pc_merge.specs.Lists.{all_of, list_coming, list_standing, list_within};
 
@@ -17,11 +18,15 @@ pub trait Entries {
     /// All that is to come, whether it is known or not, is of these points.
     ghost within: { Self → (ℕ → Bool) → Type 0 };
 
+    /// What may be refused, whether it is known what is to come or not.
+    ghost refusals: { Refusal → Type 0 } = { λ _. ⊤ };
+
     /// The next entry, or None at the end. After a refusal it answers the same one from then on.
     fn next(&mut self) -> Result<Option<Triple>, Refusal>
         ensures given { GivesNext (coming self.old) (coming self.new) result }
         ensures stands { Stands (standing self.old) (standing self.new) result }
-        ensures within { GivesWithin within self.old self.new result };
+        ensures within { GivesWithin within self.old self.new result }
+        ensures refusals { IfErr result refusals };
 }
 
 /// The entries of a list, in its order.
@@ -47,6 +52,8 @@ impl Entries for EntryList {
     ghost standing = { list_standing };
 
     ghost within = { list_within };
+
+    ghost refusals = { λ _. ⊥ };
 
     fn next(&mut self) -> Result<Option<Triple>, Refusal> {
         Ok(self.entries.next())

@@ -1,11 +1,11 @@
 //! Several streams of entries, made one.
-ghost use Rattle.std.specs.Prelude.{◌≡◌, ◌≤◌, ℕ, Bool, IsTrue, List, Some, None, MatchResult, IfOk, OnOk, length, map, vec_len};
+ghost use Rattle.std.specs.Prelude.{◌≡◌, ◌≤◌, ℕ, Bool, IsTrue, List, Some, None, MatchResult, IfErr, IfOk, OnOk, length, map, vec_len};
 ghost use Rattle.std.specs.List.{All};
 ghost use Rattle.pc_types.specs.declared.limits.TheConstants.{MOST_FILE_ENTRIES};
 ghost use Rattle.pc_merge.specs.Coming.{Coming};
 ghost use Rattle.pc_merge.specs.Given.{IsCauseOfAll, IsMerge};
 ghost use Rattle.pc_merge.specs.Inputs.{all_known, all_left, left_in, unopened};
-ghost use Rattle.pc_merge.specs.Merging.{GoesOn, IsCause, KeysGoOn, MergeRefuses};
+ghost use Rattle.pc_merge.specs.Merging.{GoesOn, IsCause, IsMergeRefusal, KeysGoOn, MergeRefuses};
 ghost use Rattle.pc_merge.specs.Standings.{AllGiveWithin, AllStand, AreWithin};
 
 use crate::entries::Entries;
@@ -58,6 +58,7 @@ impl Merge {
         ensures stand { AllStand (map E.standing inputs.old) (map E.standing inputs.new) result }
         ensures refused { MergeRefuses self.old.refused self.new.refused result }
         ensures within { OnOk result ((points : ℕ → Bool) → All (λ input. E.within input points) inputs.old → AreWithin E.within points inputs.new self.new.firsts) }
+        ensures refusals { IfErr result E.refusals }
     {
         let answer = draw_firsts(inputs, &mut self.firsts);
         if let Err(why) = &answer {
@@ -77,6 +78,7 @@ impl Merge {
         ensures within { AllGiveWithin E.within inputs.old self.old.firsts inputs.new self.new.firsts result }
         ensures stand { self.old.refused ≡ None → AllStand (map E.standing inputs.old) (map E.standing inputs.new) result }
         ensures refused { MergeRefuses self.old.refused self.new.refused result }
+        ensures refusals { self.old.refused ≡ None → IfErr result (IsMergeRefusal E.refusals) }
     {
         if let Some(why) = self.refused {
             return Err(why);
@@ -124,6 +126,7 @@ fn least_entry<E: Entries>(
     ensures rises { KeysGoOn firsts.old firsts.new result }
     ensures within { AllGiveWithin E.within inputs.old firsts.old inputs.new firsts.new result }
     ensures stand { AllStand (map E.standing inputs.old) (map E.standing inputs.new) result }
+    ensures refusals { IfErr result (IsMergeRefusal E.refusals) }
 {
     let Some(place) = firsts.least() else {
         return Ok(None);

@@ -6,7 +6,7 @@ ghost use Rattle.std.specs.List.{All};
 ghost use Rattle.pc_merge.specs.Coming.{Coming, IsWithin};
 ghost use Rattle.pc_merge.specs.Drawing.{Draws, GoOnPassing, HasCause, HasPassed, Passes, Rises, has_key};
 ghost use Rattle.pc_merge.specs.Inputs.{all_known, all_left};
-ghost use Rattle.pc_merge.specs.Merging.{IsBelow, IsCause, IsNewest};
+ghost use Rattle.pc_merge.specs.Merging.{IsBelow, IsCause, IsMergeRefusal, IsNewest};
 ghost use Rattle.pc_merge.specs.Standings.{AllStand, AreWithin};
 ghost use Rattle.pc_merge.specs.Tournaments.{IsFree, IsNoLater, at};
 
@@ -21,6 +21,7 @@ fn draw<E: Entries>(inputs: &mut [E], place: usize) -> Result<Option<Triple>, Re
     ensures draws { Draws (map E.coming inputs.old) (map E.coming inputs.new) place result }
     ensures stand { AllStand (map E.standing inputs.old) (map E.standing inputs.new) result }
     ensures within { IfOk result (λ next. (points : ℕ → Bool) → All (λ input. E.within input points) inputs.old → IsWithin points next × All (λ input. E.within input points) inputs.new) }
+    ensures refusals { IfErr result E.refusals }
 {
     inputs[place].next()
 }
@@ -36,6 +37,7 @@ pub(crate) fn draw_firsts<E: Entries>(
     ensures stand { AllStand (map E.standing inputs.old) (map E.standing inputs.new) result }
     ensures within { OnOk result ((points : ℕ → Bool) → All (λ input. E.within input points) inputs.old → AreWithin E.within points inputs.new firsts.new) }
     ensures known { (was : List Coming) → all_known (map E.coming inputs.old) ≡ Some was → MatchResult result (λ _. all_left (map E.coming inputs.new) firsts.new ≡ Some was) (IsCause was) }
+    ensures refusals { IfErr result E.refusals }
 {
     for place in 0..inputs.len() {
         let first = draw(inputs, place)?;
@@ -59,6 +61,7 @@ pub(crate) fn advance<E: Entries>(
     ensures passes { IfOk result (Passes firsts.old firsts.new place) }
     ensures passed { IfOk result (HasPassed (map E.coming inputs.old) firsts.old (map E.coming inputs.new) firsts.new place) }
     ensures cause { IfErr result (HasCause (map E.coming inputs.old) firsts.old) }
+    ensures refusals { IfErr result (IsMergeRefusal E.refusals) }
 {
     let next = draw(inputs, place)?;
     if !rises(firsts.standing(place), &next) {
@@ -94,6 +97,7 @@ pub(crate) fn newest_of<E: Entries>(
     ensures key { IfOk result (λ newest. newest.key ≡ entry.key) }
     ensures above { IfOk result (λ newest. (place : ℕ) → IsBelow newest.key (at firsts.new place)) }
     ensures goes_on { GoOnPassing (map E.coming inputs.old) firsts.old entry (map E.coming inputs.new) firsts.new result }
+    ensures refusals { IfErr result (IsMergeRefusal E.refusals) }
 {
     let mut newest = entry;
     while let Some(place) = least_with(firsts, &newest) {

@@ -2,11 +2,11 @@
 use Rattle.std.proofs.Common.{◌≡◌, ℕ, zero, suc, ◌<◌, List, [], ◌∷◌, ◌++◌, length, map, get_or, set, Option, Some, None, Result, Ok, Err, refl, sym, ap, subst, ◌∙◌, arith, inl, inr, cond, Bool, true, false}
 use Rattle.std.specs.List.{AllByRecursion, list_any}
 use Rattle.std.specs.Prelude.{◌==◌, ◌||◌, ◌≢◌, IsTrue, not, slice_get}
-use Rattle.std.proofs.lemmas.List.{map-set, get_or-map, length-map}
+use Rattle.std.proofs.lemmas.List.{map-set, get_or-map, length-map, nil_from_length}
 use Rattle.std.proofs.lemmas.List.Elements.{All-nil, All-cons, All-from_recursion}
 use Rattle.std.proofs.lemmas.Bool.{eqb-true}
 use Rattle.pc_types.specs.declared.Refusal.{Refusal}
-use Rattle.pc_types.specs.declared.Refusal.TheVariants.{OtherRun}
+use Rattle.pc_types.specs.declared.Refusal.TheVariants.{NoFile, OtherRun}
 use Rattle.pc_model.specs.Sets as set_of
 use Rattle.pc_part.specs.declared.ranges.Range.{Range}
 use Rattle.pc_part.specs.Parts.{AreRanges, points_of}
@@ -15,7 +15,7 @@ use Rattle.pc_merge.specs.Coming.{Standing, Stands}
 use Rattle.pc_merge.specs.Standings.{AllStand, standing_at}
 use Rattle.pc_streams.specs.declared.reader.PartReader.{PartReader}
 use Rattle.pc_streams.specs.Readers.{AnswersAs, StaysKnown, header_of, ranges_read, reads_within, standing_of}
-use Rattle.pc_stream_join.specs.Headers.{AreApart, AreHeaded, AreReadTo, IsHeadersFault, IsRead, StayKnown, all_headers, headers_fault, points_of_all, points_read, runs_fault}
+use Rattle.pc_stream_join.specs.Headers.{AreApart, AreHeaded, AreReadTo, HaveTwoRuns, IsHeadersFault, IsHeadersRefusal, IsRead, StayKnown, all_headers, headers_fault, points_of_all, points_read, runs_fault}
 use Rattle.pc_stream_join.proofs.StandingLaws.{one_refused}
 use Rattle.pc_stream_join.proofs.UnionLaws.{contains-union}
 
@@ -200,6 +200,26 @@ module _ {R : Type 0} (remaining : R → Option (List ℕ)) where
   -- they have no one run
   pub no_one_run : (was now : Readers) (runs : List ℕ) (why : Refusal) → AreRead was now runs → runs_fault runs ≡ Some why → IsHeadersFault (map (header_of remaining) was) why
   no_one_run was now runs why h fault = inr (inr (λ headers same. ap headers_fault (all_are was now runs h headers same) ∙ ap runs_fault (runs_back was now runs h) ∙ fault))
+
+  -- no inputs have no file, and nothing else is told of them
+  pub none_fault : (was now : Readers) (runs : List ℕ) (why : Refusal) → AreRead was now runs → was ≡ [] → runs_fault runs ≡ Some why → why ≡ NoFile
+  none_fault [] now runs why h none fault = let same : Some NoFile ≡ Some why = sym (ap runs_fault h.1) ∙ fault in cc
+  none_fault (first ∷ was) now runs why h none fault = absurd cc
+
+  pub none_agree : (was now : Readers) (runs : List ℕ) → AreRead was now runs → was ≡ [] → runs_fault runs ≡ None → ⊥
+  none_agree [] now runs h none fault = let same : Some NoFile ≡ None = sym (ap runs_fault h.1) ∙ fault in absurd cc
+  none_agree (first ∷ was) now runs h none fault = absurd cc
+
+  -- what is told of headers that were read
+  pub run_refusal : (was now : Readers) (runs : List ℕ) (why : Refusal) → AreRead was now runs → runs_fault runs ≡ Some why → IsHeadersRefusal remaining was now why
+  run_refusal was now [] why h fault = let same : why ≡ NoFile = cc in inl (same, nil_from_length was (sym (many_runs was now [] h)))
+  run_refusal was now (run ∷ others) why h fault = by (list_any (λ other. not (other == run)) others) fault
+    where
+      by : (t : Bool) → cond t (Some OtherRun) None ≡ Some why → IsHeadersRefusal remaining was now why
+      by true is =
+          let same : why ≡ OtherRun = cc in
+          inr (inl (same, (headers_of now (run ∷ others), are_told was now (run ∷ others) h, ap runs_fault (runs_back was now (run ∷ others) h) ∙ fault ∙ ap (λ (w : Refusal). Some w) same)))
+      by false is = absurd cc
 
 -- all are the first
 all_alike : (run : ℕ) (others : List ℕ) → list_any (λ other. not (other == run)) others ≡ false → AllByRecursion (λ other. other ≡ run) others

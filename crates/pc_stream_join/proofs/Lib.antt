@@ -6,3 +6,4 @@ mod FileLaws
 mod CauseLaws
 mod StepLaws
 mod StartLaws
+pub mod AgreeLaws

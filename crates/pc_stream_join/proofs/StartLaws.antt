@@ -18,7 +18,7 @@ use Rattle.pc_merge.specs.Standings.{AllStand, AreWithin}
 use Rattle.pc_streams.specs.declared.reader.PartReader.{PartReader}
 use Rattle.pc_streams.specs.Readers.{StaysKnown, coming_of, reads_within, standing_of}
 use Rattle.pc_stream_join.specs.Headers.{StayKnown}
-use Rattle.pc_stream_join.specs.Joining.{IsJoinWritten, IsUnjoinedFor, JoinStands, LeavesShort}
+use Rattle.pc_stream_join.specs.Joining.{IsJoinRefusal, IsJoinWritten, IsUnjoinedFor, JoinStands, LeavesShort}
 use Rattle.pc_stream_join.specs.Steps.{Begun, IsJoining, JoinEnds}
 use Rattle.pc_stream_join.specs.Writing.{Writing, header_text}
 
@@ -62,6 +62,10 @@ module _ {R W : Type 0} (remaining : R → Option (List ℕ)) (contents : W → 
     pub ends_cause : (r : Result ℕ Refusal) → JoinEnds remaining contents begun inputs out r → IfErr r (IsUnjoinedFor remaining begun.inputs)
     ends_cause (Ok count) ends = tt
     ends_cause (Err why) ends = ends.cause
+
+    pub ends_refusal : (r : Result ℕ Refusal) → JoinEnds remaining contents begun inputs out r → IfErr r IsJoinRefusal
+    ends_refusal (Ok count) ends = tt
+    ends_refusal (Err why) ends = ends.refusal
 
     pub ends_short : (r : Result ℕ Refusal) → JoinEnds remaining contents begun inputs out r → OnErr r (LeavesShort (contents (inner_of begun.out)) (contents (inner_of out)))
     ends_short (Ok count) ends = tt

@@ -26,13 +26,14 @@ use Rattle.pc_part.specs.Parts.{AreCovered, points_of}
 use Rattle.pc_part.specs.Texts.{end_text, triple_text}
 use Rattle.pc_merge.specs.Coming.{Coming, Standing}
 use Rattle.pc_merge.specs.Inputs.{all_known, left_in}
-use Rattle.pc_merge.specs.Merging.{AreAbove, GoesOn, IsBelow, KeysGoOn, Merging, MergeRefuses, all_behind}
+use Rattle.pc_merge.specs.Merging.{AreAbove, GoesOn, IsBelow, IsMergeRefusal, KeysGoOn, Merging, MergeRefuses, all_behind}
 use Rattle.pc_merge.specs.Standings.{AllGiveWithin, AllStand}
 use Rattle.pc_merge.specs.Tournaments.{at}
 use Rattle.pc_merge.proofs.GivenLaws.{causes_stand, ends_are_merges, given_grows}
 use Rattle.pc_streams.specs.declared.reader.PartReader.{PartReader}
 use Rattle.pc_streams.specs.Readers.{coming_of, reads_within, standing_of}
-use Rattle.pc_stream_join.specs.Joining.{JoinStands, LeavesShort}
+use Rattle.pc_streams.specs.Refusals.{IsReadRefusal, IsTextFault}
+use Rattle.pc_stream_join.specs.Joining.{IsJoinRefusal, JoinStands, LeavesShort}
 use Rattle.pc_stream_join.specs.Steps.{Begun, HasGivenLeft, IsAllGiven, IsJoining, IsSoFar, JoinEnds, JoinFails}
 use Rattle.pc_stream_join.specs.Writing.{Ends, FailsFor, GoesOut, Writing, header_text}
 use Rattle.pc_stream_join.proofs.CauseLaws.{join_cause}
@@ -76,6 +77,17 @@ below_trans : (key other : List ℕ) (first : Option Triple) → key_cmp key oth
 below_trans key other None less below = tt
 below_trans key other (Some first) less below = key_order.total.trans key other first.key less below
 
+-- ---- what may be refused
+
+merge_refusal : (why : Refusal) → IsMergeRefusal IsReadRefusal why → IsJoinRefusal why
+merge_refusal why (inl conflict) = inl conflict
+merge_refusal why (inr (inl order)) = inr (inr (inr (inr (subst IsTextFault (sym order) tt))))
+merge_refusal why (inr (inr read)) = inr (inr read)
+
+write_refusal : {T : Type 0} (old new : Tally T) (why : Refusal) → FailsFor old new why → IsJoinRefusal why
+write_refusal old new why (inl memory) = inr (inr (inl memory.0))
+write_refusal old new why (inr device) = inr (inr (inr (inl device.0)))
+
 module _ {R W : Type 0} (remaining : R → Option (List ℕ)) (contents : W → Option (List ℕ)) (begun : Begun R W) where
   -- ---- text
 
@@ -107,11 +119,12 @@ module _ {R W : Type 0} (remaining : R → Option (List ℕ)) (contents : W → 
     Left readers merging = left_in (map (coming_of remaining) readers) merging
 
     -- the merge was refused
-    pub next_fails : (why : Refusal) → GoesOn (Left inputs merge) (Left now merge_now) (Err why) → AllStand {X = Option Triple} (map standing_of inputs) (map standing_of now) (Err why) → JoinFails remaining contents begun now out why
-    next_fails why goes stand = record {
+    pub next_fails : (why : Refusal) → GoesOn (Left inputs merge) (Left now merge_now) (Err why) → AllStand {X = Option Triple} (map standing_of inputs) (map standing_of now) (Err why) → IsMergeRefusal IsReadRefusal why → JoinFails remaining contents begun now out why
+    next_fails why goes stand refusal = record {
       cause = λ was known.
           let k = joining.known was known in
           join_cause remaining begun.inputs was why known (causes_stand was joining.given k.0 why k.2 (subst (λ (l : Option (List Coming)). GoesOn l (Left now merge_now) (Err why)) k.1 goes));
+      refusal = merge_refusal why refusal;
       short = so_far_short joining.given writing out joining.so_far;
       stand = refused_stands (Option Triple) inputs now out why joining.stand joining.so_far.failures stand;
     }
@@ -147,6 +160,7 @@ module _ {R W : Type 0} (remaining : R → Option (List ℕ)) (contents : W → 
           let le : 4294967295 ≤ writing.count = le_of full in
           record {
             cause = λ was known. let g = given_more was known in inr (inr (inr (inr (refl, (more, g.0, g.2, (let many = joining.so_far.many in let one = many_more in omega arith))))));
+            refusal = inr (inl refl);
             short = so_far_short joining.given writing out joining.so_far;
             stand = still_refused now out Full (λ bad. cc) (stand ∙ joining.stand) joining.so_far.failures;
           }
@@ -182,6 +196,7 @@ module _ {R W : Type 0} (remaining : R → Option (List ℕ)) (contents : W → 
         pub entry_fails : (out_now : Tally W) (kept_now : List ℕ) (why : Refusal) → GoesOut contents out out_now writing.kept kept_now (triple_text entry) (Err why) → JoinFails remaining contents begun now out_now why
         entry_fails out_now kept_now why fails = record {
           cause = λ was known. why_failed fails.0;
+          refusal = write_refusal out out_now why fails.0;
           short = begins_short begun.run begun.ranges more joining.so_far.run_fits joining.so_far.apart rise_more covered_more fit_more few_more (contents (inner_of begun.out)) (contents (inner_of out_now))
               (subst (AppendsBeginning (contents (inner_of begun.out)) (contents (inner_of out_now))) (text_more joining.so_far.gone writing.kept joining.so_far.text)
               (begins_after (contents (inner_of begun.out)) (contents (inner_of out)) (contents (inner_of out_now)) joining.so_far.gone (writing.kept ++ triple_text entry) joining.so_far.sent fails.1));
@@ -241,6 +256,7 @@ module _ {R W : Type 0} (remaining : R → Option (List ℕ)) (contents : W → 
       sym (append_assoc so.gone writing.kept (end_text writing.count)) ∙ ap (λ (t : List ℕ). t ++ end_text writing.count) so.text ∙ ap (λ n. (header_text begun.run begun.ranges ++ flat_map triple_text all.given) ++ end_text n) so.many in
       record {
         cause = λ was known. why_failed ends.0;
+        refusal = write_refusal out out_now why ends.0;
         short = ends_short begun.run begun.ranges all.given so.run_fits so.apart so.rise so.covered so.fit so.few (contents (inner_of begun.out)) (contents (inner_of out_now))
             (subst (AppendsPart (contents (inner_of begun.out)) (contents (inner_of out_now))) whole
             (part_after (contents (inner_of begun.out)) (contents (inner_of out)) (contents (inner_of out_now)) so.gone (writing.kept ++ end_text writing.count) so.sent ends.1));

@@ -10,6 +10,7 @@ use Rattle.pc_part.specs.declared.ranges.Range.{Range}
 use Rattle.pc_part.specs.Parts.{AreRanges, points_of}
 use Rattle.pc_streams.specs.declared.reader.PartReader.{PartReader}
 use Rattle.pc_streams.specs.Readers.{KeepsToRanges, StaysKnown, coming_of, header_of, ranges_read, reads_within, standing_of}
+use Rattle.pc_streams.specs.Refusals.{IsReadRefusal}
 
 -- the headers of all, or what the first is refused with that is
 abbrev pub all_headers : List (Result (ℕ × List Range) Refusal) → Result (List (ℕ × List Range)) Refusal
@@ -30,6 +31,20 @@ headers_fault (Ok headers) = runs_fault (map (λ header. header.0) headers)
 abbrev pub IsHeadersFault : List (Option (Result (ℕ × List Range) Refusal)) → Refusal → Type 0
 IsHeadersFault known why =
     (why ≡ OutOfMemory) ⊎ (why ≡ Device) ⊎ ((headers : List (Result (ℕ × List Range) Refusal)) → known ≡ map Some headers → headers_fault (all_headers headers) ≡ Some why)
+
+-- the headers of all are those of one join, where they are known
+abbrev pub HaveOneHeader : List (Option (Result (ℕ × List Range) Refusal)) → Type 0
+HaveOneHeader known = (headers : List (Result (ℕ × List Range) Refusal)) → known ≡ map Some headers → headers_fault (all_headers headers) ≡ None
+
+-- the headers of all were read, and two are of different runs
+abbrev pub HaveTwoRuns : {R : Type 0} → (R → Option (List ℕ)) → List (PartReader R) → Type 0
+HaveTwoRuns remaining inputs =
+    (headers : List (ℕ × List Range)) × (map (header_of remaining) inputs ≡ map (λ header. Some (Ok header)) headers) × (headers_fault (Ok headers) ≡ Some OtherRun)
+
+-- What may be refused of inputs, whether their headers are known or not: NoFile where there are none, OtherRun once all headers are read
+-- and two are of different runs, and what a reader refuses.
+abbrev pub IsHeadersRefusal : {R : Type 0} → (R → Option (List ℕ)) → List (PartReader R) → List (PartReader R) → Refusal → Type 0
+IsHeadersRefusal remaining was now why = ((why ≡ NoFile) × (was ≡ [])) ⊎ ((why ≡ OtherRun) × HaveTwoRuns remaining now) ⊎ IsReadRefusal why
 
 -- the ranges that were read of each have gaps between them
 abbrev pub AreApart : {R : Type 0} → List (PartReader R) → Type 0

@@ -22,7 +22,8 @@ use Rattle.pc_merge.specs.Merging.{HasFault, HaveConflict}
 use Rattle.pc_merge.specs.Standings.{AllStand, HasFailed}
 use Rattle.pc_streams.specs.declared.reader.PartReader.{PartReader}
 use Rattle.pc_streams.specs.Readers.{coming_of, header_of}
-use Rattle.pc_stream_join.specs.Headers.{AreHeaded, IsHeadersFault, StayKnown}
+use Rattle.pc_streams.specs.Refusals.{IsReadRefusal}
+use Rattle.pc_stream_join.specs.Headers.{AreHeaded, HaveOneHeader, IsHeadersFault, IsHeadersRefusal, StayKnown}
 use Rattle.pc_stream_join.specs.declared.join.Joined.{Joined}
 
 -- the file of a run, ranges and entries
@@ -48,6 +49,11 @@ IsJoinCause was why = (why ≡ OutOfMemory) ⊎ (why ≡ Device) ⊎ HasFault wa
 abbrev pub IsUnjoinedFor : {R : Type 0} → (R → Option (List ℕ)) → List (PartReader R) → Refusal → Type 0
 IsUnjoinedFor remaining inputs why = (was : List Coming) → all_known (map (coming_of remaining) inputs) ≡ Some was → IsJoinCause was why
 
+-- what may be refused of inputs that have one header, whether it is known what is to come of them or not: two that conflict, too many
+-- entries, and what a reader refuses
+abbrev pub IsJoinRefusal : Refusal → Type 0
+IsJoinRefusal why = (why ≡ Conflict) ⊎ (why ≡ Full) ⊎ IsReadRefusal why
+
 -- what was written, taken alone, is read as Short
 abbrev pub LeavesShort : Option (List ℕ) → Option (List ℕ) → Type 0
 LeavesShort None now = ⊤
@@ -70,6 +76,8 @@ pub record IsStreamJoined {R W : Type 0} (remaining : R → Option (List ℕ)) (
   pub written : IsJoinWritten remaining contents run ranges read old new joined.entries
   pub points : joined.points ≡ set.items (file_of run ranges written.given).points
 
--- why no join is written: the inputs have no header together, and then nothing was, or else what is to come of them can't be joined
-abbrev pub IsStreamCause : {R : Type 0} → (R → Option (List ℕ)) → List (PartReader R) → Refusal → Type 0
-IsStreamCause remaining inputs why = IsHeadersFault (map (header_of remaining) inputs) why ⊎ IsUnjoinedFor remaining inputs why
+-- Why no join is written: the inputs have no header together, and the output is as it was; or they have one, and what is to come of
+-- them can't be joined.
+abbrev pub IsStreamCause : {R W : Type 0} → (R → Option (List ℕ)) → List (PartReader R) → List (PartReader R) → Tally W → Tally W → Refusal → Type 0
+IsStreamCause remaining inputs inputs_now old new why =
+    (IsHeadersFault (map (header_of remaining) inputs) why × IsHeadersRefusal remaining inputs inputs_now why × (new ≡ old)) ⊎ (HaveOneHeader (map (header_of remaining) inputs) × IsUnjoinedFor remaining inputs why × IsJoinRefusal why)

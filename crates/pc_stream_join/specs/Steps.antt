@@ -21,7 +21,7 @@ use Rattle.pc_merge.specs.Merging.{AreAbove, Merging}
 use Rattle.pc_merge.specs.Standings.{AreWithin}
 use Rattle.pc_streams.specs.declared.reader.PartReader.{PartReader}
 use Rattle.pc_streams.specs.Readers.{coming_of, reads_within, standing_of}
-use Rattle.pc_stream_join.specs.Joining.{IsJoinWritten, IsUnjoinedFor, JoinStands, LeavesShort}
+use Rattle.pc_stream_join.specs.Joining.{IsJoinRefusal, IsJoinWritten, IsUnjoinedFor, JoinStands, LeavesShort}
 use Rattle.pc_stream_join.specs.Writing.{Writing, header_text}
 
 -- what the join began with: the run and the ranges of its header, the inputs, and where it goes
@@ -69,6 +69,7 @@ pub record IsAllGiven {R W : Type 0} (remaining : R → Option (List ℕ)) (cont
 -- the join was refused for a cause, and what it left is read as Short
 pub record JoinFails {R W : Type 0} (remaining : R → Option (List ℕ)) (contents : W → Option (List ℕ)) (begun : Begun R W) (inputs : List (PartReader R)) (out : Tally W) (why : Refusal) : Type 0 where
   pub cause : IsUnjoinedFor remaining begun.inputs why
+  pub refusal : IsJoinRefusal why
   pub short : LeavesShort (contents (inner_of begun.out)) (contents (inner_of out))
   pub stand : JoinStands {X = ℕ} (map standing_of begun.inputs) (map standing_of inputs) (failures_of begun.out) (failures_of out) (Err why)
 

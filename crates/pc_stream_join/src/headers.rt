@@ -1,11 +1,13 @@
 //! The headers of several parts, made one.
-ghost use Rattle.std.specs.Prelude.{◌≡◌, ◌≢◌, [], Some, None, IfOk, IfErr, OnOk, length, map, not, slice_get, ◌==◌};
+ghost use Rattle.std.specs.Prelude.{◌≡◌, ◌≢◌, ◌⊎◌, [], Some, None, Err, IsOk, IfOk, IfErr, OnOk, length, map, not, slice_get, ◌==◌};
 ghost use Rattle.std.specs.List.{list_any};
 ghost use Rattle.pc_model.specs.Sets as set;
+ghost use Rattle.pc_types.specs.declared.Refusal.{Refusal};
 ghost use Rattle.pc_part.specs.Parts.{AreRanges, points_of};
 ghost use Rattle.pc_merge.specs.Standings.{AllStand};
 ghost use Rattle.pc_streams.specs.Readers.{header_of, standing_of};
-ghost use Rattle.pc_stream_join.specs.Headers.{AreApart, AreHeaded, AreReadTo, IsHeadersFault, MayBeRanges, StayKnown, points_read, runs_fault};
+ghost use Rattle.pc_streams.specs.Refusals.{IsReadRefusal};
+ghost use Rattle.pc_stream_join.specs.Headers.{AreApart, AreHeaded, AreReadTo, IsHeadersFault, IsHeadersRefusal, MayBeRanges, StayKnown, points_read, runs_fault};
 
 use pc_part::{PartHeader, Range, union_ranges};
 use pc_streams::PartReader;
@@ -14,9 +16,9 @@ use std::alloc::{AllocError, Global};
 use std::io::Read;
 
 /// The header of the join of the inputs, which is written in format 02: their run, and the points of all as ranges. The header of each
-/// input, whose text is in either format, is read where it isn't yet, in their order, and nothing behind it. Refuses, in this order: with what the first input refuses that does, with `NoFile`
-/// exactly where there are no inputs, and with `OtherRun` exactly where two are of different runs; and with `OutOfMemory` where
-/// memory ran out.
+/// input, whose text is in either format, is read where it isn't yet, in their order, and nothing behind it. Refuses, in this order: with
+/// what the first input refuses that does; with `NoFile` exactly where there are no inputs; with `OtherRun` exactly where all headers are
+/// read and two are of different runs. Where there are inputs it refuses with `OutOfMemory` where memory ran out.
 pub fn read_headers<R: Read>(
     alloc: Global,
     inputs: &mut [PartReader<R>],
@@ -25,6 +27,8 @@ pub fn read_headers<R: Read>(
     ensures format { IfOk result (λ header. header.format ≡ Format.Second) }
     ensures stays { OnOk result (StayKnown R.remaining inputs.old inputs.new) }
     ensures cause { IfErr result (IsHeadersFault (map (header_of R.remaining) inputs.old)) }
+    ensures none { inputs.old ≡ [] → result ≡ Err Refusal.NoFile }
+    ensures refusals { IfErr result (IsHeadersRefusal R.remaining inputs.old inputs.new) }
     ensures stand { AllStand (map standing_of inputs.old) (map standing_of inputs.new) result }
 {
     let runs = read_runs(alloc, inputs)?;
@@ -42,9 +46,11 @@ pub fn read_headers<R: Read>(
 fn read_runs<R: Read>(alloc: Global, inputs: &mut [PartReader<R>]) -> Result<Vec<u64>, Refusal>
     ensures read { IfOk result (λ runs. AreReadTo R.remaining (length inputs.old) inputs.old inputs.new runs.items) }
     ensures cause { IfErr result (IsHeadersFault (map (header_of R.remaining) inputs.old)) }
+    ensures none { inputs.old ≡ [] → IsOk result }
+    ensures refusals { IfErr result IsReadRefusal }
     ensures stand { AllStand (map standing_of inputs.old) (map standing_of inputs.new) result }
 {
-    let mut runs = Vec::with_capacity(alloc, inputs.len())?;
+    let mut runs = Vec::new(alloc);
     for place in 0..inputs.len() {
         let run = inputs[place].header()?;
         runs.push(run)?;

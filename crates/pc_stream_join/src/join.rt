@@ -1,9 +1,10 @@
 //! The join of parts, written as they are read.
-ghost use Rattle.std.specs.Prelude.{◌≡◌, IfOk, IfErr, OnErr, length, map};
+ghost use Rattle.std.specs.Prelude.{◌≡◌, [], Err, IfOk, IfErr, OnErr, length, map};
 ghost use Rattle.pc_types.specs.Tallies.{inner_of, failures_of};
+ghost use Rattle.pc_types.specs.declared.Refusal.{Refusal};
 ghost use Rattle.pc_streams.specs.Readers.{standing_of};
 ghost use Rattle.pc_stream_join.specs.Headers.{AreHeaded};
-ghost use Rattle.pc_stream_join.specs.Joining.{IsJoinWritten, IsStreamCause, IsStreamJoined, IsUnjoinedFor, JoinStands, LeavesShort};
+ghost use Rattle.pc_stream_join.specs.Joining.{IsJoinRefusal, IsJoinWritten, IsStreamCause, IsStreamJoined, IsUnjoinedFor, JoinStands, LeavesShort};
 ghost use Rattle.pc_stream_join.specs.Steps.{Begun, IsJoining, JoinEnds, StepsOn};
 
 use crate::headers::read_headers;
@@ -37,6 +38,7 @@ pub fn join_entries<R: Read, W: Write>(
     requires { AreHeaded R.remaining header.now.run header.now.ranges.items inputs.old }
     ensures written { IfOk result (IsJoinWritten R.remaining W.contents header.now.run header.now.ranges.items inputs.old out.old out.new) }
     ensures cause { IfErr result (IsUnjoinedFor R.remaining inputs.old) }
+    ensures refusals { IfErr result IsJoinRefusal }
     ensures short { OnErr result (LeavesShort (W.contents (inner_of out.old)) (W.contents (inner_of out.new))) }
     ensures stand { JoinStands (map standing_of inputs.old) (map standing_of inputs.new) (failures_of out.old) (failures_of out.new) result }
 {
@@ -90,14 +92,16 @@ fn write_next<R: Read, W: Write>(
 }
 
 /// Reads the headers of the inputs, as `read_headers` does, and writes the text of their join, as `join_entries` does; it tells the
-/// points and how many entries it has. Refuses as both do; nothing was written where a header is refused.
+/// points and how many entries it has. Refuses as `read_headers` does, and then the output is as it was; or, where the headers agree, as
+/// `join_entries` does.
 pub fn stream_join<R: Read, W: Write>(
     alloc: Global,
     inputs: &mut [PartReader<R>],
     out: &mut Tally<W>,
 ) -> Result<Joined, Refusal>
     ensures joined { IfOk result (IsStreamJoined R.remaining W.contents inputs.old out.old out.new) }
-    ensures cause { IfErr result (IsStreamCause R.remaining inputs.old) }
+    ensures cause { IfErr result (IsStreamCause R.remaining inputs.old inputs.new out.old out.new) }
+    ensures none { inputs.old ≡ [] → result ≡ Err Refusal.NoFile }
     ensures short { OnErr result (LeavesShort (W.contents (inner_of out.old)) (W.contents (inner_of out.new))) }
     ensures stand { JoinStands (map standing_of inputs.old) (map standing_of inputs.new) (failures_of out.old) (failures_of out.new) result }
 {

@@ -3,4 +3,5 @@ pub mod Draws
 pub mod Laws
 pub mod Places
 pub mod Readers
+pub mod Refusals
 pub mod Sources

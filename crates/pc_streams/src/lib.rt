@@ -2,6 +2,7 @@
 #![tactic(auto)]
 
 mod buffer;
+mod kept;
 mod laws;
 mod place;
 mod reader;

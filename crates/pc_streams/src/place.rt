@@ -1,5 +1,5 @@
 //! Where the text of a part is read, behind its header.
-ghost use Rattle.std.specs.Prelude.{◌≡◌, true, false, [], None, Ok, OnOk, IfOk};
+ghost use Rattle.std.specs.Prelude.{◌≡◌, true, false, [], None, Ok, OnOk, IfErr, IfOk};
 ghost use Rattle.std.specs.Int.{w32};
 ghost use Rattle.std.specs.Option.{option_map};
 ghost use Rattle.pc_types.specs.Counted.{one_more};
@@ -9,6 +9,7 @@ ghost use Rattle.pc_merge.specs.Coming.{GivesNext};
 ghost use Rattle.pc_streams.specs.Coming.{part_end_at};
 ghost use Rattle.pc_streams.specs.Draws.{Counts, Draws};
 ghost use Rattle.pc_streams.specs.Places.{first_place_at, place_coming, EndsAs, IsLawfulNext, PassesTo};
+ghost use Rattle.pc_streams.specs.Refusals.{IsReadRefusal};
 ghost use Rattle.pc_streams.specs.Sources.{text_left, tally_of};
 
 use crate::source::Source;
@@ -45,6 +46,7 @@ impl Place {
         ensures drawn { Draws (λ place. place) (text_left R.remaining source.old) (text_left R.remaining source.new) result first_place_at }
         ensures first { IfOk result (λ place. (place.last ≡ []) × (place.count ≡ 0) × (place.ended ≡ false)) }
         ensures counts { Counts (tally_of source.old) (tally_of source.new) result }
+        ensures refusals { IfErr result IsReadRefusal }
     {
         let header = source.header(alloc)?;
         Ok(Place {
@@ -83,6 +85,7 @@ impl Place {
         ensures ends { result ≡ Ok None → self.new.ended ≡ true }
         ensures header { (self.new.run ≡ self.old.run) × (self.new.ranges ≡ self.old.ranges) }
         ensures counts { Counts (tally_of source.old) (tally_of source.new) result }
+        ensures refusals { IfErr result IsReadRefusal }
     {
         if self.ended {
             return Ok(None);
@@ -116,6 +119,7 @@ impl Place {
 fn read_end<R: Read>(source: &mut Source<R>, count: u64) -> Result<(), Refusal>
     ensures ends { EndsAs (option_map (λ bytes. part_end_at count (number_at Refusal.Short w32 bytes)) (text_left R.remaining source.old)) result }
     ensures counts { Counts (tally_of source.old) (tally_of source.new) result }
+    ensures refusals { IfErr result IsReadRefusal }
 {
     let total = source.number()?;
     if u64::from(total) != count {

@@ -1,5 +1,5 @@
 //! A part's text, of which the entries come one after the other.
-ghost use Rattle.std.specs.Prelude.{◌≡◌, true, Some, None, Ok, Err, OnOk, IfOk};
+ghost use Rattle.std.specs.Prelude.{◌≡◌, true, Some, None, Ok, Err, OnOk, IfErr, IfOk};
 ghost use Rattle.std.specs.Option.{option_map};
 ghost use Rattle.pc_types.specs.Tallies.{inner_of, failures_of};
 ghost use Rattle.pc_types.specs.declared.Refusal.{Refusal};
@@ -8,8 +8,10 @@ ghost use Rattle.pc_merge.specs.Coming.{GivesNext, GivesWithin, Stands};
 ghost use Rattle.pc_streams.specs.Coming.{part_coming, part_header};
 ghost use Rattle.pc_streams.specs.Draws.{Counts};
 ghost use Rattle.pc_streams.specs.Places.{IsLawfulNext, PassesTo};
+ghost use Rattle.pc_streams.specs.Refusals.{IsReadRefusal};
 ghost use Rattle.pc_streams.specs.Readers.{coming_of, header_of, refused_of, counted_by, ranges_read, last_given, has_ended, reads_within, standing_of, AnswersAs, CountsOnce, KeepsToRanges, Refuses, StaysKnown, TellsRanges};
 
+use crate::kept::KeptRefusal;
 use crate::place::Place;
 use crate::source::Source;
 use pc_merge::Entries;
@@ -36,7 +38,7 @@ enum PartStage {
     // The header is read, and maybe entries, or the end.
     Among(Place),
     // A call was refused, and so is each later one.
-    Refused(Refusal),
+    Refused(KeptRefusal),
 }
 
 impl<R: Read> PartReader<R> {
@@ -75,11 +77,12 @@ impl<R: Read> PartReader<R> {
         ensures counts { CountsOnce (refused_of self.old) (counted_by self.old) (counted_by self.new) result }
         ensures stands { Stands (standing_of self.old) (standing_of self.new) result }
         ensures within { OnOk result (KeepsToRanges self.new (ranges_read self.new)) }
+        ensures refusals { IfErr result IsReadRefusal }
     {
         match &self.stage {
             PartStage::Unread => self.open(),
             PartStage::Among(place) => Ok(place.run()),
-            PartStage::Refused(why) => Err(*why),
+            PartStage::Refused(kept) => Err(kept.why()),
         }
     }
 
@@ -106,6 +109,7 @@ impl<R: Read> PartReader<R> {
         ensures refused { Refuses None (refused_of self.new) result }
         ensures counts { Counts (counted_by self.old) (counted_by self.new) result }
         ensures within { OnOk result (KeepsToRanges self.new (ranges_read self.new)) }
+        ensures refusals { IfErr result IsReadRefusal }
     {
         match Place::open(self.alloc, &mut self.source) {
             Ok(place) => {
@@ -122,9 +126,10 @@ impl<R: Read> PartReader<R> {
 
     // Refuses so from now on.
     fn refuse(&mut self, why: &Refusal)
+        requires { IsReadRefusal why.now }
         ensures { self.new ≡ record self.old { stage = PartStage.Refused why.now } }
     {
-        self.stage = PartStage::Refused(*why);
+        self.stage = PartStage::Refused(KeptRefusal::new(*why));
     }
 
     // The next entry, or None at the end. A refusal is not kept.
@@ -140,11 +145,12 @@ impl<R: Read> PartReader<R> {
         ensures header { OnOk result (StaysKnown (header_of R.remaining self.old) (header_of R.remaining self.new)) }
         ensures counts { CountsOnce (refused_of self.old) (counted_by self.old) (counted_by self.new) result }
         ensures within { GivesWithin reads_within self.old self.new result }
+        ensures refusals { IfErr result IsReadRefusal }
     {
         match &mut self.stage {
             PartStage::Unread => self.first(),
             PartStage::Among(place) => place.next(self.alloc, &mut self.source),
-            PartStage::Refused(why) => Err(*why),
+            PartStage::Refused(kept) => Err(kept.why()),
         }
     }
 
@@ -159,6 +165,7 @@ impl<R: Read> PartReader<R> {
         ensures sound { OnOk result (refused_of self.new ≡ None) }
         ensures header { OnOk result (StaysKnown (header_of R.remaining self.old) (header_of R.remaining self.new)) }
         ensures counts { Counts (counted_by self.old) (counted_by self.new) result }
+        ensures refusals { IfErr result IsReadRefusal }
     {
         let mut place = Place::open(self.alloc, &mut self.source)?;
         let answer = place.next(self.alloc, &mut self.source);
@@ -169,12 +176,15 @@ impl<R: Read> PartReader<R> {
 
 impl<R: Read> Entries for PartReader<R> {
     ghost use Rattle.pc_streams.specs.Readers.{coming_of, reads_within, standing_of};
+    ghost use Rattle.pc_streams.specs.Refusals.{IsReadRefusal};
 
     ghost coming = { coming_of R.remaining };
 
     ghost standing = { standing_of };
 
     ghost within = { reads_within };
+
+    ghost refusals = { IsReadRefusal };
 
     /// The next entry, or None at the end. The header is read before the first. Behind the last one it sees that the text tells
     /// how many there were, and ends. Refuses with `OutOfMemory` and, exactly where the count of failures has risen, with `Device`,
@@ -191,6 +201,7 @@ impl<R: Read> Entries for PartReader<R> {
         ensures counts { CountsOnce (refused_of self.old) (counted_by self.old) (counted_by self.new) result }
         ensures stands { Stands (standing_of self.old) (standing_of self.new) result }
         ensures within { GivesWithin reads_within self.old self.new result }
+        ensures refusals { IfErr result IsReadRefusal }
     {
         match self.step() {
             Ok(next) => Ok(next),

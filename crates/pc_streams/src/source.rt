@@ -8,6 +8,7 @@ ghost use Rattle.pc_part.specs.Parts.{AreRanges, RangesFrom};
 ghost use Rattle.pc_part.specs.Reading.{header_at, next_entry_at};
 ghost use Rattle.pc_streams.specs.Draws.{Counts, Draws};
 ghost use Rattle.pc_streams.specs.Places.{IsLawfulNext};
+ghost use Rattle.pc_streams.specs.Refusals.{IsReadRefusal};
 ghost use Rattle.pc_streams.specs.Sources.{text_left, tally_of, buffered, is_over_at};
 
 use crate::buffer::Buffer;
@@ -48,6 +49,7 @@ impl<R: Read> Source<R> {
         ensures drawn { Draws (λ header. (header.format, (header.run, header.ranges.items))) (text_left R.remaining self.old) (text_left R.remaining self.new) result header_at }
         ensures apart { IfOk result (λ header. AreRanges header.ranges.items) }
         ensures counts { Counts (tally_of self.old) (tally_of self.new) result }
+        ensures refusals { IfErr result IsReadRefusal }
     {
         loop {
             match read_header(alloc, self.buffer.left()) {
@@ -75,6 +77,7 @@ impl<R: Read> Source<R> {
         ensures drawn { Draws (λ entry. entry) (text_left R.remaining self.old) (text_left R.remaining self.new) result (next_entry_at format ranges.now last.now) }
         ensures lawful { IsLawfulNext ranges.now last.now result }
         ensures counts { Counts (tally_of self.old) (tally_of self.new) result }
+        ensures refusals { IfErr result IsReadRefusal }
     {
         loop {
             match read_next_entry(alloc, format, ranges, last, self.buffer.left()) {
@@ -93,6 +96,7 @@ impl<R: Read> Source<R> {
     pub fn number(&mut self) -> Result<u32, Refusal>
         ensures drawn { Draws (λ number. number) (text_left R.remaining self.old) (text_left R.remaining self.new) result (number_at Refusal.Short w32) }
         ensures counts { Counts (tally_of self.old) (tally_of self.new) result }
+        ensures refusals { IfErr result IsReadRefusal }
     {
         loop {
             match read_u32(self.buffer.left(), Refusal::Short) {
@@ -110,6 +114,7 @@ impl<R: Read> Source<R> {
     pub fn is_over(&mut self) -> Result<bool, Refusal>
         ensures drawn { Draws (λ over. over) (text_left R.remaining self.old) (text_left R.remaining self.new) result is_over_at }
         ensures counts { Counts (tally_of self.old) (tally_of self.new) result }
+        ensures refusals { IfErr result IsReadRefusal }
     {
         if !self.buffer.left().is_empty() {
             return Ok(false);

@@ -18,4 +18,5 @@ returns g c =
       );
       stand = drawn_stands g.E.Entries.standing inputs place before c.next.new.self c.next.result c.requires c.next.ensures.stands;
       within = drawn_within g.E.Entries.within inputs place before c.next.new.self c.next.result c.requires c.next.ensures.within;
+      refusals = c.next.ensures.refusals;
     }

@@ -1,8 +1,9 @@
-use Rattle.std.proofs.Common.{◌≡◌, List, ℕ, Some, None, sym, ap, ◌∙◌}
+use Rattle.std.proofs.Common.{◌≡◌, List, ℕ, Some, None, Err, true, false, sym, ap, ◌∙◌}
 use Rattle.std.specs.Prelude.{slice_get}
 use Rattle.std.proofs.lemmas.Result.{err_from_is_err_and}
+use Rattle.pc_types.specs.declared.Refusal.{Refusal}
 use Rattle.pc_stream_join.specs.Headers.{runs_fault}
-use Rattle.pc_stream_join.proofs.HeaderLaws.{are_apart, headed, no_one_run, stay}
+use Rattle.pc_stream_join.proofs.HeaderLaws.{are_apart, headed, no_one_run, none_agree, none_fault, run_refusal, stay}
 use Rattle.pc_stream_join.proofs.headers.read_headers.Goals as goal
 
 pub returns-in_err-run-clause-cause : goal.returns-in_err-run-clause-cause
@@ -27,3 +28,28 @@ returns-clause-headed g c =
 
 pub returns-clause-stays : goal.returns-clause-stays
 returns-clause-stays g c = stay g.R.Read.remaining c.args.inputs.now c.read_runs.new.inputs c.in_ok-runs.runs.items c.in_ok-runs.ensures.read
+
+pub returns-in_err-runs-clause-none : goal.returns-in_err-runs-clause-none
+returns-in_err-runs-clause-none g c = λ none. let bad : false ≡ true = c.in_err-runs.ensures.none none in absurd cc
+
+pub returns-in_err-run-clause-none : goal.returns-in_err-run-clause-none
+returns-in_err-run-clause-none g c = λ none.
+    let p = err_from_is_err_and c.from_residual-in_err-run.result c.from_residual-in_err-run.ensures.1 in
+    let fault : runs_fault c.in_ok-runs.runs.items ≡ Some c.in_err-run.field-0.0 = ap runs_fault (sym c.deref.ensures.value) ∙ c.in_err-run.ensures.fault in
+    rw (p.1, p.2) (ap (λ (why : Refusal). Err why) (none_fault g.R.Read.remaining c.args.inputs.now c.read_runs.new.inputs c.in_ok-runs.runs.items c.in_err-run.field-0.0 c.in_ok-runs.ensures.read none fault))
+
+pub returns-in_err-ranges-clause-none : goal.returns-in_err-ranges-clause-none
+returns-in_err-ranges-clause-none g c = λ none.
+    let agree : runs_fault c.in_ok-runs.runs.items ≡ None = ap runs_fault (sym c.deref.ensures.value) ∙ c.in_ok-run.ensures.one.1 in
+    absurd (none_agree g.R.Read.remaining c.args.inputs.now c.read_runs.new.inputs c.in_ok-runs.runs.items c.in_ok-runs.ensures.read none agree)
+
+pub returns-clause-none : goal.returns-clause-none
+returns-clause-none g c = λ none.
+    let agree : runs_fault c.in_ok-runs.runs.items ≡ None = ap runs_fault (sym c.deref.ensures.value) ∙ c.in_ok-run.ensures.one.1 in
+    absurd (none_agree g.R.Read.remaining c.args.inputs.now c.read_runs.new.inputs c.in_ok-runs.runs.items c.in_ok-runs.ensures.read none agree)
+
+pub returns-in_err-run-clause-refusals : goal.returns-in_err-run-clause-refusals
+returns-in_err-run-clause-refusals g c =
+    let p = err_from_is_err_and c.from_residual-in_err-run.result c.from_residual-in_err-run.ensures.1 in
+    let fault : runs_fault c.in_ok-runs.runs.items ≡ Some c.in_err-run.field-0.0 = ap runs_fault (sym c.deref.ensures.value) ∙ c.in_err-run.ensures.fault in
+    rw (p.1, p.2) (run_refusal g.R.Read.remaining c.args.inputs.now c.read_runs.new.inputs c.in_ok-runs.runs.items c.in_err-run.field-0.0 c.in_ok-runs.ensures.read fault)

@@ -9,13 +9,13 @@ use Rattle.pc_stream_join.proofs.headers.read_runs.Goals as goal
 
 pub returns-in_err-run-clause-cause : goal.returns-in_err-run-clause-cause
 returns-in_err-run-clause-cause g c =
-    let p = err_from_is_err_and c.from_residual-in_err-run.result c.from_residual-in_err-run.ensures.1 in
+    let p = err_from_is_err_and c.from_residual.result c.from_residual.ensures.1 in
     rw (p.1, p.2) (next_refused g.R.Read.remaining c.loop-place.place c.args.inputs.now c.loop-place.inputs c.loop-place.runs.items c.index-inputs-place.result c.header.new.self c.in_err-run.field-0.0
     c.loop-place.invariant.read (omega arith) c.in_err-run.ensures.header)
 
 pub returns-in_err-run-clause-stand : goal.returns-in_err-run-clause-stand
 returns-in_err-run-clause-stand g c =
-    let p = err_from_is_err_and c.from_residual-in_err-run.result c.from_residual-in_err-run.ensures.1 in
+    let p = err_from_is_err_and c.from_residual.result c.from_residual.ensures.1 in
     rw (p.1, p.2) (next_stands g.R.Read.remaining c.loop-place.place c.args.inputs.now c.loop-place.inputs c.loop-place.runs.items c.index-inputs-place.result c.header.new.self c.in_err-run.field-0.0
     c.loop-place.invariant.read (omega arith) c.in_err-run.ensures.stands)
 

@@ -8,7 +8,7 @@ use Rattle.pc_streams.specs.Readers.{standing_of}
 use Rattle.pc_stream_join.specs.Steps.{Begun}
 use Rattle.pc_stream_join.proofs.CauseLaws.{join_cause}
 use Rattle.pc_stream_join.proofs.FileLaws.{nothing_short}
-use Rattle.pc_stream_join.proofs.StartLaws.{ends_cause, ends_short, ends_stand, ends_written, inputs_refused, starts}
+use Rattle.pc_stream_join.proofs.StartLaws.{ends_cause, ends_refusal, ends_short, ends_stand, ends_written, inputs_refused, starts}
 use Rattle.pc_stream_join.proofs.join.join_entries.Goals as goal
 
 pub returns-then-inputs-gt-MOST_INPUTS-clause-short : goal.returns-then-inputs-gt-MOST_INPUTS-clause-short
@@ -54,6 +54,14 @@ returns-clause-cause g c =
     let joining = starts g.R.Read.remaining g.W.Write.contents c.args.header.now.run c.args.header.now.ranges.items c.args.inputs.now c.open.new.inputs c.args.out.now c.open.new.self c.in_ok-writer.writer c.in_ok-writer.ensures.run c.requires.of_all.apart c.in_ok-writer.ensures.begun
     c.in_ok-open.ensures.stand (c.in_ok-open.ensures.within (set.contains (points_of c.args.header.now.ranges.items)) c.requires.within) unrefused c.in_ok-open.ensures.known in
     ends_cause g.R.Read.remaining g.W.Write.contents begun c.write_entries.new.inputs c.write_entries.new.out c.write_entries.result (c.write_entries.ensures begun joining)
+
+pub returns-clause-refusals : goal.returns-clause-refusals
+returns-clause-refusals g c =
+    let begun : Begun g.row.R.Denot g.row.W.Denot = record { run = c.args.header.now.run; ranges = c.args.header.now.ranges.items; inputs = c.args.inputs.now; out = c.args.out.now } in
+    let unrefused : c.open.new.self.refused ≡ None = subst (λ (m : Merging). MergeRefuses {X = Unit {0}} m.refused c.open.new.self.refused (Ok tt)) c.in_ok-merge.ensures c.in_ok-open.ensures.refused in
+    let joining = starts g.R.Read.remaining g.W.Write.contents c.args.header.now.run c.args.header.now.ranges.items c.args.inputs.now c.open.new.inputs c.args.out.now c.open.new.self c.in_ok-writer.writer c.in_ok-writer.ensures.run c.requires.of_all.apart c.in_ok-writer.ensures.begun
+    c.in_ok-open.ensures.stand (c.in_ok-open.ensures.within (set.contains (points_of c.args.header.now.ranges.items)) c.requires.within) unrefused c.in_ok-open.ensures.known in
+    ends_refusal g.R.Read.remaining g.W.Write.contents begun c.write_entries.new.inputs c.write_entries.new.out c.write_entries.result (c.write_entries.ensures begun joining)
 
 pub returns-clause-short : goal.returns-clause-short
 returns-clause-short g c =

@@ -1,4 +1,4 @@
-use Rattle.std.proofs.Common.{ℕ, List, Err, map, sym, ap, subst, ◌∙◌, inr}
+use Rattle.std.proofs.Common.{ℕ, List, Err, map, refl, sym, ap, subst, ◌∙◌, inl, inr}
 use Rattle.std.proofs.lemmas.Result.{err_from_is_err_and}
 use Rattle.pc_types.specs.Tallies.{failures_of, inner_of}
 use Rattle.pc_part.specs.Parts.{points_in}
@@ -6,6 +6,7 @@ use Rattle.pc_part.proofs.RangePointLaws.{items-points_of}
 use Rattle.pc_merge.specs.Coming.{Standing}
 use Rattle.pc_streams.specs.Readers.{standing_of}
 use Rattle.pc_stream_join.specs.Joining.{JoinStands}
+use Rattle.pc_stream_join.proofs.AgreeLaws.{one_header_before}
 use Rattle.pc_stream_join.proofs.FileLaws.{nothing_short}
 use Rattle.pc_stream_join.proofs.StartLaws.{inputs_refused, known_stays}
 use Rattle.pc_stream_join.proofs.join.stream_join.Goals as goal
@@ -25,10 +26,24 @@ returns-in_err-points_in-clause-short g c =
     let p = err_from_is_err_and c.from_residual-in_err-points_in.result c.from_residual-in_err-points_in.ensures.1 in
     rw p.1 (nothing_short (g.W.Write.contents (inner_of c.args.out.now)))
 
+pub returns-in_err-header-clause-cause : goal.returns-in_err-header-clause-cause
+returns-in_err-header-clause-cause g c =
+    let p = err_from_is_err_and c.from_residual.result c.from_residual.ensures.1 in
+    rw (p.1, p.2) (inl (c.in_err-header.ensures.cause, c.in_err-header.ensures.refusals, refl))
+
+pub returns-in_err-points_in-clause-cause : goal.returns-in_err-points_in-clause-cause
+returns-in_err-points_in-clause-cause g c =
+    let p = err_from_is_err_and c.from_residual-in_err-points_in.result c.from_residual-in_err-points_in.ensures.1 in
+    rw (p.1, p.2) (inl (inl refl, inr (inr (inl refl)), refl))
+
 pub returns-in_err-entries-clause-cause : goal.returns-in_err-entries-clause-cause
 returns-in_err-entries-clause-cause g c =
     let p = err_from_is_err_and c.from_residual-in_err-entries.result c.from_residual-in_err-entries.ensures.1 in
-    rw (p.1, p.2) (inr (λ was known. c.in_err-entries.ensures.cause was (known_stays g.R.Read.remaining c.args.inputs.now c.read_headers.new.inputs was c.in_ok-header.ensures.stays known)))
+    rw (p.1, p.2) (inr (
+      one_header_before g.R.Read.remaining c.in_ok-header.header.run c.in_ok-header.header.ranges.items c.read_headers.new.inputs c.in_ok-header.ensures.headed c.args.inputs.now c.in_ok-header.ensures.stays,
+      λ was known. c.in_err-entries.ensures.cause was (known_stays g.R.Read.remaining c.args.inputs.now c.read_headers.new.inputs was c.in_ok-header.ensures.stays known),
+      c.in_err-entries.ensures.refusals,
+    ))
 
 pub returns-in_err-entries-clause-stand : goal.returns-in_err-entries-clause-stand
 returns-in_err-entries-clause-stand g c =

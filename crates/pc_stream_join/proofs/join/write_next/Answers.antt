@@ -12,7 +12,7 @@ pub returns-in_err-entry-clause-steps : goal.returns-in_err-entry-clause-steps
 returns-in_err-entry-clause-steps g c = λ begun joining.
     let p = err_from_is_err_and c.from_residual.result c.from_residual.ensures.1 in
     rw (p.1, p.2) (next_fails g.R.Read.remaining g.W.Write.contents begun c.args.inputs.now c.args.merge.now c.args.writer.now c.args.out.now joining c.next.new.inputs c.next.new.self c.in_err-entry.field-0.0
-    c.in_err-entry.ensures.goes_on (c.in_err-entry.ensures.stand joining.unrefused))
+    c.in_err-entry.ensures.goes_on (c.in_err-entry.ensures.stand joining.unrefused) (c.in_err-entry.ensures.refusals joining.unrefused))
 
 pub returns-in_default-clause-steps : goal.returns-in_default-clause-steps
 returns-in_default-clause-steps g c = λ begun joining.

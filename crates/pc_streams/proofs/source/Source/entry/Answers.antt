@@ -4,7 +4,7 @@ use Rattle.pc_part.proofs.LocalSteps.{next_entry_local}
 use Rattle.pc_streams.specs.Sources.{text_left, tally_of, buffered}
 use Rattle.pc_streams.proofs.OfText.{drawn_by, refused_by, fits_by, counts_since}
 use Rattle.pc_streams.proofs.LawfulNext.{next_lawful}
-use Rattle.pc_streams.proofs.Spared.{spared_by, spared_next}
+use Rattle.pc_streams.proofs.Spared.{refusal_by, spared_by, spared_next}
 use Rattle.pc_streams.proofs.source.Source.entry.Goals as goal
 
 pub keep_last-requires : goal.keep_last-requires
@@ -41,3 +41,8 @@ returns-in_err-read_on-in-Err-clause-counts g c =
 
 pub returns-in-Ok-clause-lawful : goal.returns-in-Ok-clause-lawful
 returns-in-Ok-clause-lawful g c = next_lawful c.args.format c.args.ranges.now c.args.last.now c.left.result.now c.in-Ok.entry c.in-Ok.rest.now c.in-Ok.ensures
+
+pub returns-in_err-read_on-in-Err-clause-refusals : goal.returns-in_err-read_on-in-Err-clause-refusals
+returns-in_err-read_on-in-Err-clause-refusals g c =
+    refusal_by (next_entry_at c.args.format c.args.ranges.now c.args.last.now c.left.result.now) c.in-Err.why c.in_err-read_on-in-Err.field-0.0 (buffered c.loop-entry.self) (buffered c.read_on.new.self) (g.R.Read.remaining c.read_on.new.self.tally.inner) c.from_residual.result (spared_next c.args.format c.args.ranges.now c.args.last.now c.left.result.now) c.in-Err.ensures
+    c.in_err-read_on-in-Err.ensures.refusals c.from_residual.ensures

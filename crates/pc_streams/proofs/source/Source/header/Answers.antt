@@ -4,7 +4,7 @@ use Rattle.pc_part.specs.Reading.{header_at}
 use Rattle.pc_part.proofs.LocalSteps.{header_local}
 use Rattle.pc_streams.specs.Sources.{text_left, tally_of, buffered}
 use Rattle.pc_streams.proofs.OfText.{drawn_by, refused_by, fits_by, counts_since}
-use Rattle.pc_streams.proofs.Spared.{spared_by, spared_header}
+use Rattle.pc_streams.proofs.Spared.{refusal_by, spared_by, spared_header}
 use Rattle.pc_streams.proofs.source.Source.header.Goals as goal
 
 pub keep_last-requires : goal.keep_last-requires
@@ -38,3 +38,8 @@ pub returns-in_err-read_on-in-Err-clause-counts : goal.returns-in_err-read_on-in
 returns-in_err-read_on-in-Err-clause-counts g c =
     counts_since (Unit {0}) (tally_of c.args.self.now) (tally_of c.loop-header.self) (tally_of c.read_on.new.self) c.in_err-read_on-in-Err.field-0.0 c.from_residual.result c.loop-header.invariant.sound
     c.in_err-read_on-in-Err.ensures.counts c.from_residual.ensures
+
+pub returns-in_err-read_on-in-Err-clause-refusals : goal.returns-in_err-read_on-in-Err-clause-refusals
+returns-in_err-read_on-in-Err-clause-refusals g c =
+    refusal_by (header_at c.left.result.now) c.in-Err.why c.in_err-read_on-in-Err.field-0.0 (buffered c.loop-header.self) (buffered c.read_on.new.self) (g.R.Read.remaining c.read_on.new.self.tally.inner) c.from_residual.result (spared_header c.left.result.now) c.in-Err.ensures.read
+    c.in_err-read_on-in-Err.ensures.refusals c.from_residual.ensures

@@ -5,7 +5,7 @@ use Rattle.pc_types.specs.Fields.{number_at}
 use Rattle.pc_streams.proofs.NumberLocal.{number_local}
 use Rattle.pc_streams.specs.Sources.{text_left, tally_of, buffered}
 use Rattle.pc_streams.proofs.OfText.{drawn_by, refused_by, fits_by, counts_since}
-use Rattle.pc_streams.proofs.Spared.{spared_by, spared_number}
+use Rattle.pc_streams.proofs.Spared.{refusal_by, spared_by, spared_number}
 use Rattle.pc_streams.proofs.source.Source.number.Goals as goal
 
 pub keep_last-requires : goal.keep_last-requires
@@ -39,3 +39,8 @@ pub returns-in_err-read_on-in-Err-clause-counts : goal.returns-in_err-read_on-in
 returns-in_err-read_on-in-Err-clause-counts g c =
     counts_since (Unit {0}) (tally_of c.args.self.now) (tally_of c.loop-number.self) (tally_of c.read_on.new.self) c.in_err-read_on-in-Err.field-0.0 c.from_residual.result c.loop-number.invariant.sound
     c.in_err-read_on-in-Err.ensures.counts c.from_residual.ensures
+
+pub returns-in_err-read_on-in-Err-clause-refusals : goal.returns-in_err-read_on-in-Err-clause-refusals
+returns-in_err-read_on-in-Err-clause-refusals g c =
+    refusal_by (number_at Short w32 c.left.result.now) c.in-Err.why c.in_err-read_on-in-Err.field-0.0 (buffered c.loop-number.self) (buffered c.read_on.new.self) (g.R.Read.remaining c.read_on.new.self.tally.inner) c.from_residual.result (spared_number w32 c.left.result.now) (λ memory. c.in-Err.ensures)
+    c.in_err-read_on-in-Err.ensures.refusals c.from_residual.ensures
