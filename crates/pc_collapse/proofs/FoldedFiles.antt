@@ -24,7 +24,7 @@ use Rattle.pc_model.proofs.ContentLaws.{contains-union}
 use Rattle.pc_model.proofs.JoinLaws.{get-joined}
 use Rattle.pc_part.specs.Joins.{first_cause, IsRefusedBy}
 use Rattle.pc_merge.specs.Given.{IsUnderAt}
-use Rattle.pc_collapse.specs.Folds.{folded, has_other_run, NoneConflict, IsFold, IsFoldCause, Folds}
+use Rattle.pc_merge.specs.Folds.{folded, has_other_run, NoneConflict, IsFold, IsFoldCause, Folds}
 use Rattle.pc_collapse.specs.Worth.{Fact, FactHolds, Among, AreFactsGiven, AreWorth, AreOfOneRun, IsCauseFor, JoinsToOne}
 use Rattle.pc_collapse.specs.Worth.Fact.{HasTriple, HasPoint, HasRun}
 use Rattle.pc_collapse.proofs.FactLists.{among_file, file_among, sound_trans, worth_same, worth_trans, worth_append}

@@ -33,7 +33,7 @@ use Rattle.pc_merge.specs.Given.{HasGiven, HasTooMany, IsCauseOfAll, IsMerge, Is
 use Rattle.pc_merge.specs.Inputs.{all_known}
 use Rattle.pc_merge.specs.Standings.{AllStand}
 use Rattle.pc_merge.specs.Merging.{HasFault, HasNoOrder, HaveConflict, IsBelow, all_behind, behind, entries_behind, first_of, firsts_of}
-use Rattle.pc_collapse.specs.Folds.{NoneConflict, folded, has_other_run, IsFoldCause}
+use Rattle.pc_merge.specs.Folds.{NoneConflict, folded, has_other_run, IsFoldCause}
 use Rattle.pc_collapse.specs.declared.merging.PartEntries.{PartEntries}
 use Rattle.pc_collapse.specs.Merges.{AreAllPoints, IsCovered, entries_coming, entries_of_file, entries_standing, entries_within, file_coming, file_entries}
 use Rattle.pc_collapse.specs.Worth.{Fact, FactHolds, Among, Stays, AreFactsGiven, AreWorth, AreOfOneRun, IsCauseFor}

@@ -17,7 +17,7 @@ use Rattle.pc_model.specs.Headline.{TakesPointValue, IsMade}
 use Rattle.pc_model.specs.Headline.IsMade.{Joined}
 use Rattle.pc_model.proofs.ContentLaws.{contains-union}
 use Rattle.pc_model.proofs.ShelfFileLaws.{join_well, joined_of_points, run_is, made_join_well, headline}
-use Rattle.pc_collapse.specs.Folds.{folded, has_other_run, IsFold, IsFoldCause, Folds}
+use Rattle.pc_merge.specs.Folds.{folded, has_other_run, IsFold, IsFoldCause, Folds}
 use Rattle.pc_collapse.specs.Laws.{IsOfAllPoints, IsStateOfItsPoints, FilesFoldWell, FoldsAreStates}
 
 -- what holds of all files holds of the first, and of the others

@@ -13,7 +13,7 @@ use Rattle.pc_model.specs.Files.{File, shelf, numbers_to}
 use Rattle.pc_model.specs.Replies.{Setting}
 use Rattle.pc_model.specs.Standing.{IsOfItsPoints, HasLegalEffects}
 use Rattle.pc_model.specs.Headline.{TakesPointValue, IsMade}
-use Rattle.pc_collapse.specs.Folds.{Folds}
+use Rattle.pc_merge.specs.Folds.{Folds}
 
 -- it is the file that the log gives the points of all these files
 pub record IsOfAllPoints (run : ℕ) (base : Database) (log : List Entry) (files : List File) (file : File) : Type 0 where

@@ -1,5 +1,4 @@
 pub mod Bags
-pub mod Folds
 pub mod Laws
 pub mod Merges
 pub mod Pieces

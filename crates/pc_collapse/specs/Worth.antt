@@ -5,7 +5,7 @@ use Rattle.pc_model.specs.Maps as map_of
 use Rattle.pc_model.specs.Sets as set
 use Rattle.pc_model.specs.Points.{AtPoint}
 use Rattle.pc_model.specs.Files.{File}
-use Rattle.pc_collapse.specs.Folds.{has_other_run, IsFoldCause}
+use Rattle.pc_merge.specs.Folds.{has_other_run, IsFoldCause}
 
 -- a fact of a file: it has this triple, this point, or this run
 pub data Fact : Type 0 where

@@ -2,7 +2,7 @@
 ghost use Rattle.std.specs.Prelude.{◌≡◌, ◌<◌, ◌≤◌, ◌+◌, [], ◌∷◌, ◌++◌, length, Err, IfSome, IfOk, IfErr, All, vec_len, MatchResult};
 ghost use Rattle.crossbeam_queue.specs.Passes.{view, IsPassOf, ruled_capacity};
 ghost use Rattle.pc_collapse.specs.Bags.{hand, all_parts, first_kept, IsReady, IsBagDone};
-ghost use Rattle.pc_collapse.specs.Folds.{Folds};
+ghost use Rattle.pc_merge.specs.Folds.{Folds};
 ghost use Rattle.pc_collapse.specs.Worth.{AreWorth, IsCauseFor, JoinsToOne};
 
 use crate::folding::{check_runs, fold_pieces, join_pieces, pieces_of};

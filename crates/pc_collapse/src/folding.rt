@@ -1,6 +1,6 @@
 //! The fold of many files: one merge of all of them; and the join of pieces, by halves.
 ghost use Rattle.std.specs.Prelude.{◌≡◌, ◌<◌, ◌++◌, ◌∷◌, [], length, IfOk, MatchResult, vec_len};
-ghost use Rattle.pc_collapse.specs.Folds.{Folds, has_other_run};
+ghost use Rattle.pc_merge.specs.Folds.{Folds, has_other_run};
 ghost use Rattle.pc_collapse.specs.Worth.{AreOfOneRun, JoinsToOne};
 
 use crate::merging::merge_parts;

@@ -1,7 +1,7 @@
 //! Collapsers that join neighbours in rounds.
 ghost use Rattle.std.specs.Prelude.{◌≡◌, ◌<◌, ◌≤◌, List, [], ◌++◌, length, IfOk, OnOk, vec_len};
 ghost use Rattle.pc_model.specs.Files.{File};
-ghost use Rattle.pc_collapse.specs.Folds.{Folds};
+ghost use Rattle.pc_merge.specs.Folds.{Folds};
 ghost use Rattle.pc_collapse.specs.Rounds.{AllBecome, Become, EachBecomes, dealt_files, files_of, hand_files, together};
 ghost use Rattle.pc_collapse.specs.Worth.{AreWorth, JoinsToOne};
 

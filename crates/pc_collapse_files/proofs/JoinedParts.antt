@@ -22,7 +22,7 @@ use Rattle.pc_merge.specs.Coming.{Coming}
 use Rattle.pc_merge.specs.Given.{IsMerge, IsUnder, IsUnderAt, joined_all}
 use Rattle.pc_stream_join.specs.Headers.{IsHeaderOfAll, points_of_all}
 use Rattle.pc_stream_join.specs.Joining.{file_of}
-use Rattle.pc_collapse.specs.Folds.{Folds, IsFold, folded, has_other_run}
+use Rattle.pc_merge.specs.Folds.{Folds, IsFold, folded, has_other_run}
 
 -- the files of these headers with these entries
 abbrev pub parts_of : List (ℕ × List Range) → List Coming → List File

@@ -14,7 +14,7 @@ use Rattle.pc_model.specs.Sets as set
 use Rattle.pc_model.specs.Files.{File}
 use Rattle.pc_part.specs.Reading.{part_at}
 use Rattle.pc_part.specs.Texts.{part_text}
-use Rattle.pc_collapse.specs.Folds.{Folds}
+use Rattle.pc_merge.specs.Folds.{Folds}
 use Rattle.pc_streams.specs.Coming.{part_coming, part_header}
 use Rattle.pc_stream_join.specs.Headers.{all_headers, headers_fault}
 use Rattle.pc_stream_join.specs.Joining.{IsJoinCause}

@@ -1,5 +1,6 @@
 pub mod Coming
 pub mod Drawing
+pub mod Folds
 pub mod Given
 pub mod Inputs
 pub mod Lists
