@@ -31,7 +31,8 @@ pub struct EndedCollapse<R, F> {
 ///   writer says so;
 /// - else 1, and a line on the error writer tells of the fault: by the name of the first input that can't be opened; else by
 ///   the name of the file that is to be written, where an input can't be read or is refused, the parts can't be joined, memory
-///   ran out, or the file can't be made, written or named. Of an output that fails nothing is told.
+///   ran out, or the file can't be made, written or named. Of an output that fails nothing is told. `Device` is told of the inputs
+///   exactly where a read of theirs failed, which the readers that are handed back have counted; of the maker is told what it refused.
 ///
 /// No file is made before what stands before the entries of all inputs is read. Until a file is whole, what stands under its name
 /// stays there, whatever fails. One that was made, and could not be written whole, holds what is read as `Short`.
