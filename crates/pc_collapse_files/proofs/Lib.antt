@@ -4,4 +4,5 @@ pub mod Headed
 pub mod JoinedParts
 pub mod KeyCounts
 pub mod ReadFiles
+pub mod ReadLaws
 pub mod WrittenJoins

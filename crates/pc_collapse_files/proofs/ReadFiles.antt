@@ -92,5 +92,5 @@ module _ {R : Type 0} (remaining : R → Option (List ℕ)) where
 
     -- the first one that is left can't be opened
     pub unopened : (left : List (NamedFile R)) (file : NamedFile R) (readers : List (PartReader R)) (f : CollapseFault) → AreLeft remaining files (file ∷ left) readers → (why : Refusal) × (f ≡ fault.Unopened file.name why) × (file.opened ≡ Err why)
-        → IsHeadFault remaining files f
-    unopened left file readers f are bad = subst (IsHeadFault remaining files) (sym bad.1) (file, record { before = are.0; behind = left; split = are.1; opened = are.2; unopened = bad.2 }, refl)
+        → IsHeadFault remaining files [] f
+    unopened left file readers f are bad = subst (IsHeadFault remaining files []) (sym bad.1) (file, record { before = are.0; behind = left; split = are.1; opened = are.2; unopened = bad.2 }, refl)

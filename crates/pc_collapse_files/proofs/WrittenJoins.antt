@@ -28,8 +28,9 @@ use Rattle.pc_collapse_files.specs.declared.inputs.CollapseFault.{CollapseFault}
 use Rattle.pc_collapse_files.specs.declared.inputs.CollapseFault.TheVariants as fault
 use Rattle.pc_collapse_files.specs.Collapses.{AreUnjoined, HaveHeader, HoldTexts, IsJoinOf, IsShortIn, parts_at}
 use Rattle.pc_collapse_files.specs.Inputs.{AreReadersOf, IsFaultOf, IsUnwritten}
+use Rattle.pc_collapse_files.specs.Reads.{TellsReads}
 use Rattle.pc_collapse_files.proofs.FewEntries.{part_comes}
-use Rattle.pc_collapse_files.proofs.Headed.{cons_is, read_header, some_is}
+use Rattle.pc_stream_join.proofs.AgreeLaws.{cons_is, read_header, some_is}
 use Rattle.pc_collapse_files.proofs.JoinedParts.{alone, merged_folds, parts_of}
 use Rattle.pc_collapse_files.proofs.KeyCounts.{all_few}
 use Rattle.pc_collapse_files.proofs.ReadFiles.{known_coming, known_header}
@@ -103,10 +104,10 @@ module _ {R : Type 0} (remaining : R → Option (List ℕ)) (files : List (Named
   unjoined why cause texts hold = cause (map part_coming texts) (of_texts texts hold)
 
 -- what a file that was begun is left with
-pub unwritten : {R F : Type 0} (remaining : R → Option (List ℕ)) (contents : F → Option (List ℕ)) (files : List (NamedFile R)) (file : Tally F) (why : Refusal) (f : CollapseFault) → HaveHeader remaining files → AreUnjoined remaining files why
-    → IsShortIn contents file → IsFaultOf file why f → IsUnwritten remaining contents files (Some file) f
-unwritten remaining contents files file why f have cause short is = by (nat_lt 0 (failures_of file)) refl is
+pub unwritten : {R F : Type 0} (remaining : R → Option (List ℕ)) (contents : F → Option (List ℕ)) (files : List (NamedFile R)) (inputs : List (PartReader R)) (Refuses : Refusal → Type 0) (file : Tally F) (why : Refusal) (f : CollapseFault)
+    → HaveHeader remaining files → AreUnjoined remaining files why → (nat_lt 0 (failures_of file) ≡ false → TellsReads inputs why) → IsShortIn contents file → IsFaultOf file why f → IsUnwritten remaining contents files inputs Refuses (Some file) f
+unwritten remaining contents files inputs Refuses file why f have cause tells short is = by (nat_lt 0 (failures_of file)) refl is
   where
-    by : (t : Bool) → nat_lt 0 (failures_of file) ≡ t → MatchBool t (f ≡ fault.Unwritten) (f ≡ fault.Unjoined why) → IsUnwritten remaining contents files (Some file) f
-    by true above same = subst (IsUnwritten remaining contents files (Some file)) (sym same) (have, (ltb-true 0 (failures_of file) above, short))
-    by false none same = subst (IsUnwritten remaining contents files (Some file)) (sym same) (have, cause, short)
+    by : (t : Bool) → nat_lt 0 (failures_of file) ≡ t → MatchBool t (f ≡ fault.Unwritten) (f ≡ fault.Unjoined why) → IsUnwritten remaining contents files inputs Refuses (Some file) f
+    by true above same = subst (IsUnwritten remaining contents files inputs Refuses (Some file)) (sym same) (have, (ltb-true 0 (failures_of file) above, short))
+    by false none same = subst (IsUnwritten remaining contents files inputs Refuses (Some file)) (sym same) (have, cause, tells none, short)

@@ -17,12 +17,14 @@ use Rattle.pc_part.specs.Texts.{part_text}
 use Rattle.pc_merge.specs.Folds.{Folds}
 use Rattle.pc_streams.specs.Coming.{part_coming, part_header}
 use Rattle.pc_stream_join.specs.Headers.{all_headers, headers_fault}
+use Rattle.pc_streams.specs.declared.reader.PartReader.{PartReader}
 use Rattle.pc_stream_join.specs.Joining.{IsJoinCause}
 use Rattle.pc_texts.specs.Texts.{joined_line}
 use Rattle.pc_texts.specs.declared.files.NamedFile.{NamedFile}
 use Rattle.pc_texts.specs.Files.{TellsOf, AreOpened, HoldsBytes, line_about}
 use Rattle.pc_collapse_files.specs.declared.inputs.CollapseFault.{CollapseFault}
 use Rattle.pc_collapse_files.specs.declared.inputs.CollapseFault.TheVariants as fault
+use Rattle.pc_collapse_files.specs.Reads.{TellsReads}
 
 -- one of the files has this name
 abbrev pub is_one_of : {R : Type 0} → List (NamedFile R) → List ℕ → Bool
@@ -84,14 +86,16 @@ abbrev pub AreUnjoined : {R : Type 0} → (R → Option (List ℕ)) → List (Na
 AreUnjoined remaining files why = (texts : List (List ℕ)) → HoldTexts remaining files texts → IsJoinCause (map part_coming texts) why
 
 -- Why a collapse failed: a file can't be opened; the files have no header together; or they have one, and what is to be made of it can't
--- be made, joined, written or told of.
-abbrev pub IsCollapseCause : {R : Type 0} → (R → Option (List ℕ)) → List (NamedFile R) → CollapseFault → Type 0
-IsCollapseCause {R} remaining files (fault.Unopened name why) = (file : NamedFile R) × IsFirstUnopened files file why × (name ≡ file.name)
-IsCollapseCause remaining files (fault.Refused why) = (why ≡ OutOfMemory) ⊎ HaveNoHeader remaining files why
-IsCollapseCause remaining files (fault.Unjoined why) = HaveHeader remaining files × AreUnjoined remaining files why
-IsCollapseCause remaining files (fault.Unnamed why) = AreOpened files × ((file : File) × IsJoinOf remaining files file)
-IsCollapseCause remaining files fault.Output = AreOpened files × ((file : File) × IsJoinOf remaining files file)
-IsCollapseCause remaining files other = HaveHeader remaining files
+-- be made, joined, written or told of. Device is told of the inputs exactly where a read of theirs failed, and what the maker refused is
+-- told of it.
+abbrev pub IsCollapseCause : {R : Type 0} → (R → Option (List ℕ)) → List (NamedFile R) → List (PartReader R) → (Refusal → Type 0) → CollapseFault → Type 0
+IsCollapseCause {R} remaining files inputs Refuses (fault.Unopened name why) = (file : NamedFile R) × IsFirstUnopened files file why × (name ≡ file.name)
+IsCollapseCause remaining files inputs Refuses (fault.Refused why) = ((why ≡ OutOfMemory) ⊎ HaveNoHeader remaining files why) × TellsReads inputs why
+IsCollapseCause remaining files inputs Refuses (fault.Unmade why) = HaveHeader remaining files × Refuses why
+IsCollapseCause remaining files inputs Refuses (fault.Unjoined why) = HaveHeader remaining files × AreUnjoined remaining files why × TellsReads inputs why
+IsCollapseCause remaining files inputs Refuses (fault.Unnamed why) = AreOpened files × ((file : File) × IsJoinOf remaining files file) × Refuses why
+IsCollapseCause remaining files inputs Refuses fault.Output = AreOpened files × ((file : File) × IsJoinOf remaining files file)
+IsCollapseCause remaining files inputs Refuses fault.Unwritten = HaveHeader remaining files
 
 -- of every file of this kind it is known what it holds
 abbrev pub AreKnown : {F : Type 0} → (F → Option (List ℕ)) → Type 0
@@ -163,5 +167,5 @@ IsCollapseTold contents old new name fault.Unwritten = TellsOf contents old new 
 IsCollapseTold contents old new name fault.Output = new ≡ old
 
 -- a fault has ended a collapse: it is a cause, this is left, and it was told
-abbrev pub IsCollapseFailed : {R F W : Type 0} → (R → Option (List ℕ)) → (F → Option (List ℕ)) → (W → Option (List ℕ)) → List (NamedFile R) → Option (Tally F) → (List ℕ → Type 0) → (List ℕ → Type 0) → Tally W → Tally W → (CollapseFault → Type 0) → Type 0
-IsCollapseFailed remaining contents printed files begun before after old new Told = (fault : CollapseFault) × IsCollapseCause remaining files fault × IsLeftByCollapse remaining contents printed files fault begun before after old new × Told fault
+abbrev pub IsCollapseFailed : {R F W : Type 0} → (R → Option (List ℕ)) → (F → Option (List ℕ)) → (W → Option (List ℕ)) → List (NamedFile R) → List (PartReader R) → (Refusal → Type 0) → Option (Tally F) → (List ℕ → Type 0) → (List ℕ → Type 0) → Tally W → Tally W → (CollapseFault → Type 0) → Type 0
+IsCollapseFailed remaining contents printed files inputs Refuses begun before after old new Told = (fault : CollapseFault) × IsCollapseCause remaining files inputs Refuses fault × IsLeftByCollapse remaining contents printed files fault begun before after old new × Told fault

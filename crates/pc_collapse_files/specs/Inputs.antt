@@ -19,6 +19,7 @@ use Rattle.pc_collapse_files.specs.declared.inputs.CollapseFault.{CollapseFault}
 use Rattle.pc_collapse_files.specs.declared.inputs.CollapseFault.TheVariants as fault
 use Rattle.pc_collapse_files.specs.declared.inputs.OpenedInputs.{OpenedInputs}
 use Rattle.pc_collapse_files.specs.declared.output.WrittenFile.{WrittenFile}
+use Rattle.pc_collapse_files.specs.Reads.{AreSound, TellsReads}
 use Rattle.pc_collapse_files.specs.Collapses.{AreUnjoined, HasFailed, HaveHeader, HaveNoHeader, HoldTexts, IsFirstUnopened, IsJoinOf, IsShortIn, IsWholeIn}
 
 -- a reader has the header of the file's text, and all that is to come of it, where the bytes are known
@@ -33,15 +34,16 @@ AreReadersOf remaining files readers =
     → (map (header_of remaining) readers ≡ map (λ text. Some (part_header text)) texts) × (map (coming_of remaining) readers ≡ map (λ text. Some (part_coming text)) texts)
 
 -- no file is made: one can't be opened, memory ran out, or the files have no header together
-abbrev pub IsHeadFault : {R : Type 0} → (R → Option (List ℕ)) → List (NamedFile R) → CollapseFault → Type 0
-IsHeadFault {R} remaining files (fault.Unopened name why) = (file : NamedFile R) × IsFirstUnopened files file why × (name ≡ file.name)
-IsHeadFault remaining files (fault.Refused why) = (why ≡ OutOfMemory) ⊎ HaveNoHeader remaining files why
-IsHeadFault remaining files other = ⊥
+abbrev pub IsHeadFault : {R : Type 0} → (R → Option (List ℕ)) → List (NamedFile R) → List (PartReader R) → CollapseFault → Type 0
+IsHeadFault {R} remaining files inputs (fault.Unopened name why) = (file : NamedFile R) × IsFirstUnopened files file why × (name ≡ file.name)
+IsHeadFault remaining files inputs (fault.Refused why) = ((why ≡ OutOfMemory) ⊎ HaveNoHeader remaining files why) × TellsReads inputs why
+IsHeadFault remaining files inputs other = ⊥
 
 -- The files were opened, and their headers read: this is the header of their join, and these its points.
 pub record IsOpenedAs {R : Type 0} (remaining : R → Option (List ℕ)) (files : List (NamedFile R)) (inputs : OpenedInputs R) : Type 0 where
   pub opened : AreOpened files
   pub readers : AreReadersOf remaining files inputs.readers.items
+  pub sound : AreSound inputs.readers.items
   pub headed : AreHeaded remaining inputs.header.run inputs.header.ranges.items inputs.readers.items
   pub points : inputs.points ≡ set.items (points_of inputs.header.ranges.items)
 
@@ -55,11 +57,11 @@ pub record IsWrittenOf {R F : Type 0} (remaining : R → Option (List ℕ)) (con
   pub entries : written.entries ≡ map_of.len file.triples
 
 -- the join wasn't written: no file was made, or one that is read as Short, and that has failed where its device did
-abbrev pub IsUnwritten : {R F : Type 0} → (R → Option (List ℕ)) → (F → Option (List ℕ)) → List (NamedFile R) → Option (Tally F) → CollapseFault → Type 0
-IsUnwritten remaining contents files made (fault.Unmade why) = HaveHeader remaining files × (made ≡ None)
-IsUnwritten remaining contents files made (fault.Unjoined why) = HaveHeader remaining files × AreUnjoined remaining files why × MatchOption made ⊥ (IsShortIn contents)
-IsUnwritten remaining contents files made fault.Unwritten = HaveHeader remaining files × MatchOption made ⊥ (λ f. HasFailed f × IsShortIn contents f)
-IsUnwritten remaining contents files made other = ⊥
+abbrev pub IsUnwritten : {R F : Type 0} → (R → Option (List ℕ)) → (F → Option (List ℕ)) → List (NamedFile R) → List (PartReader R) → (Refusal → Type 0) → Option (Tally F) → CollapseFault → Type 0
+IsUnwritten remaining contents files inputs Refuses made (fault.Unmade why) = HaveHeader remaining files × Refuses why × (made ≡ None)
+IsUnwritten remaining contents files inputs Refuses made (fault.Unjoined why) = HaveHeader remaining files × AreUnjoined remaining files why × TellsReads inputs why × MatchOption made ⊥ (IsShortIn contents)
+IsUnwritten remaining contents files inputs Refuses made fault.Unwritten = HaveHeader remaining files × MatchOption made ⊥ (λ f. HasFailed f × IsShortIn contents f)
+IsUnwritten remaining contents files inputs Refuses made other = ⊥
 
 -- the fault of a file that was begun and can't be joined for this reason: its device's where one of its calls failed
 abbrev pub IsFaultOf : {F : Type 0} → Tally F → Refusal → CollapseFault → Type 0

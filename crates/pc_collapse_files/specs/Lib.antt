@@ -1,2 +1,3 @@
 pub mod Collapses
 pub mod Inputs
+pub mod Reads

@@ -5,18 +5,20 @@ ghost use Rattle.pc_types.specs.declared.refusal.Refusal.{Refusal};
 ghost use Rattle.pc_types.specs.Tallies.{Puts};
 ghost use Rattle.pc_collapse_files.specs.Collapses.{IsCollapseCause, IsCollapseDone, IsCollapseFailed, IsLeftByCollapse, IsCollapseTold, TellsUsage, is_one_of, usage_text};
 
-use crate::inputs::{CollapseFault, is_input, open_inputs};
-use crate::output::{Maker, Unfinished, WrittenFile, name_file, print, write_file};
+use crate::inputs::{CollapseFault, UnopenedInputs, is_input, open_inputs};
+use crate::output::{Maker, Unfinished, WrittenFile, name_file, print, unmade, write_file};
+use pc_streams::PartReader;
 use pc_texts::{NamedFile, report, report_words};
 use pc_types::{Refusal, Tally};
 use std::alloc::Global;
 use std::io::{Read, Write};
 
-/// How a collapse ended: its exit status, and the file that was begun and could not be written whole, where there is one, with how
-/// many of its calls failed.
+/// How a collapse ended: its exit status; where what the inputs hold ended it, their readers, with how many of their reads failed; and
+/// the file that was begun and could not be written whole, where there is one, with how many of its calls failed.
 #[derive(Drop)]
-pub struct EndedCollapse<F> {
+pub struct EndedCollapse<R, F> {
     pub status: u8,
+    pub inputs: Vec<PartReader<R>>,
     pub begun: Option<Tally<F>>,
 }
 
@@ -29,7 +31,8 @@ pub struct EndedCollapse<F> {
 ///   writer says so;
 /// - else 1, and a line on the error writer tells of the fault: by the name of the first input that can't be opened; else by
 ///   the name of the file that is to be written, where an input can't be read or is refused, the parts can't be joined, memory
-///   ran out, or the file can't be made, written or named. Of an output that fails nothing is told.
+///   ran out, or the file can't be made, written or named. Of an output that fails nothing is told. `Device` is told of the inputs
+///   exactly where a read of theirs failed, which the readers that are handed back have counted; of the maker is told what it refused.
 ///
 /// No file is made before what stands before the entries of all inputs is read. Until a file is whole, what stands under its name
 /// stays there, whatever fails. One that was made, and could not be written whole, holds what is read as `Short`.
@@ -40,29 +43,46 @@ pub fn run_collapse<R: Read + Drop, F: Write + Drop, M: Maker<F>, W: Write, E: W
     maker: &mut M,
     out: &mut Tally<W>,
     errors: &mut Tally<E>,
-) -> EndedCollapse<F>
+) -> EndedCollapse<R, F>
     ensures status { (result.status ≡ 0) ⊎ (result.status ≡ 1) ⊎ (result.status ≡ 2) }
     ensures usage { MatchBool (is_one_of files.items name.now)
         ((result.status ≡ 2) × (result.begun ≡ None) × (maker.new ≡ maker.old) × (out.new ≡ out.old) × TellsUsage E.contents errors.old errors.new name.now)
         (¬ (result.status ≡ 2)) }
     ensures done { result.status ≡ 0 → IsCollapseDone R.remaining F.contents W.contents files.items (M.stands maker.new) out.old out.new × (errors.new ≡ errors.old) × (result.begun ≡ None) }
-    ensures cause { result.status ≡ 1 → IsCollapseFailed R.remaining F.contents W.contents files.items result.begun (M.stands maker.old) (M.stands maker.new) out.old out.new (IsCollapseTold E.contents errors.old errors.new name.now) }
+    ensures cause { result.status ≡ 1 → IsCollapseFailed R.remaining F.contents W.contents files.items result.inputs.items (M.refuses maker.new) result.begun (M.stands maker.old) (M.stands maker.new) out.old out.new (IsCollapseTold E.contents errors.old errors.new name.now) }
 {
     if is_input(&files, name.as_bytes()) {
         let _ = put_usage(name, errors);
-        let (status, begun) = (2, None);
-        return EndedCollapse { status, begun };
+        return ended(alloc, 2);
     }
     match collapse(alloc, files, maker, out) {
-        Ok(()) => {
-            let (status, begun) = (0, None);
-            EndedCollapse { status, begun }
-        }
-        Err(Unfinished { file, fault }) => {
+        Ok(()) => ended(alloc, 0),
+        Err(
+            Unfinished {
+                inputs,
+                file,
+                fault,
+            },
+        ) => {
             tell(name, &fault, errors);
             let (status, begun) = (1, file);
-            EndedCollapse { status, begun }
+            EndedCollapse {
+                status,
+                inputs,
+                begun,
+            }
         }
+    }
+}
+
+// The collapse ended with this status, and hands nothing back.
+fn ended<R, F>(alloc: Global, status: u8) -> EndedCollapse<R, F>
+    ensures { (result.status ≡ status) × (result.begun ≡ None) }
+{
+    EndedCollapse {
+        status,
+        inputs: Vec::new(alloc),
+        begun: None,
     }
 }
 
@@ -94,14 +114,14 @@ fn collapse<R: Read + Drop, F: Write + Drop, M: Maker<F>, W: Write>(
     files: Vec<NamedFile<R>>,
     maker: &mut M,
     out: &mut Tally<W>,
-) -> Result<(), Unfinished<F>>
+) -> Result<(), Unfinished<R, F>>
     ensures done { OnOk result (IsCollapseDone R.remaining F.contents W.contents files.items (M.stands maker.new) out.old out.new) }
-    ensures cause { IfErr result (λ unfinished. IsCollapseCause R.remaining files.items unfinished.fault) }
+    ensures cause { IfErr result (λ unfinished. IsCollapseCause R.remaining files.items unfinished.inputs.items (M.refuses maker.new) unfinished.fault) }
     ensures left { IfErr result (λ unfinished. IsLeftByCollapse R.remaining F.contents W.contents files.items unfinished.fault unfinished.file (M.stands maker.old) (M.stands maker.new) out.old out.new) }
 {
     let inputs = match open_inputs(alloc, files) {
         Ok(inputs) => inputs,
-        Err(fault) => return Err(Unfinished { file: None, fault }),
+        Err(unopened) => return Err(unstarted(unopened)),
     };
     let WrittenFile {
         file,
@@ -111,8 +131,16 @@ fn collapse<R: Read + Drop, F: Write + Drop, M: Maker<F>, W: Write>(
     match name_file(maker, file) {
         Ok(()) => match print(out, points.as_slice(), u64::from(entries)) {
             Ok(()) => Ok(()),
-            Err(fault) => Err(Unfinished { file: None, fault }),
+            Err(fault) => Err(unmade(Vec::new(alloc), fault)),
         },
-        Err(fault) => Err(Unfinished { file: None, fault }),
+        Err(fault) => Err(unmade(Vec::new(alloc), fault)),
     }
+}
+
+// No file is made of inputs that have no header together.
+fn unstarted<R, F>(unopened: UnopenedInputs<R>) -> Unfinished<R, F>
+    ensures { result ≡ record { inputs = unopened.readers; file = None; fault = unopened.fault } }
+{
+    let UnopenedInputs { readers, fault } = unopened;
+    unmade(readers, fault)
 }

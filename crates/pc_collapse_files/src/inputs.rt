@@ -3,10 +3,12 @@ ghost use Rattle.std.specs.Prelude.{◌≡◌, ◌++◌, ◌∷◌, [], IsOk, If
 ghost use Rattle.pc_types.specs.declared.refusal.Refusal.{Refusal};
 ghost use Rattle.pc_model.specs.Sets as set;
 ghost use Rattle.pc_part.specs.Parts.{points_of};
-ghost use Rattle.pc_streams.specs.Readers.{header_of};
+ghost use Rattle.pc_merge.specs.Standings.{AllStand};
+ghost use Rattle.pc_streams.specs.Readers.{header_of, standing_of};
 ghost use Rattle.pc_stream_join.specs.Headers.{AreHeaded, IsHeadersFault, StayKnown};
 ghost use Rattle.pc_texts.specs.Files.{AreOpened};
 ghost use Rattle.pc_collapse_files.specs.Collapses.{IsFirstUnopened, is_one_of};
+ghost use Rattle.pc_collapse_files.specs.Reads.{AreSound, sound};
 ghost use Rattle.pc_collapse_files.specs.Inputs.{AreReadersOf, IsHeadFault, IsOpenedAs, IsReaderOf};
 ghost use Rattle.pc_collapse_files.specs.declared.inputs.CollapseFault.{CollapseFault};
 
@@ -46,6 +48,13 @@ pub(crate) struct OpenedInputs<R> {
     pub(crate) points: Items<Point>,
 }
 
+// Part files that have no header together: the readers of those that were opened, and why.
+#[derive(Drop)]
+pub(crate) struct UnopenedInputs<R> {
+    pub(crate) readers: Vec<PartReader<R>>,
+    pub(crate) fault: CollapseFault,
+}
+
 // Whether one of the files has this name.
 pub(crate) fn is_input<R>(files: &[NamedFile<R>], name: &[u8]) -> bool
     ensures { result ≡ is_one_of files.now name.now }
@@ -57,18 +66,27 @@ pub(crate) fn is_input<R>(files: &[NamedFile<R>], name: &[u8]) -> bool
 pub(crate) fn open_inputs<R: Read + Drop>(
     alloc: Global,
     files: Vec<NamedFile<R>>,
-) -> Result<OpenedInputs<R>, CollapseFault>
+) -> Result<OpenedInputs<R>, UnopenedInputs<R>>
     ensures opened { IfOk result (IsOpenedAs R.remaining files.items) }
-    ensures cause { IfErr result (IsHeadFault R.remaining files.items) }
+    ensures cause { IfErr result (λ unopened. IsHeadFault R.remaining files.items unopened.readers.items unopened.fault) }
 {
-    let mut readers = readers_of(alloc, files)?;
+    let mut readers = match readers_of(alloc, files) {
+        Ok(readers) => readers,
+        Err(fault) => {
+            let readers = Vec::new(alloc);
+            return Err(UnopenedInputs { readers, fault });
+        }
+    };
     match join_headers(alloc, &mut readers) {
         Ok((header, points)) => Ok(OpenedInputs {
             readers,
             header,
             points,
         }),
-        Err(why) => Err(CollapseFault::Refused(why)),
+        Err(why) => {
+            let fault = CollapseFault::Refused(why);
+            Err(UnopenedInputs { readers, fault })
+        }
     }
 }
 
@@ -81,6 +99,7 @@ fn join_headers<R: Read>(
     ensures points { IfOk result (λ joined. joined.1 ≡ set.items (points_of joined.0.ranges.items)) }
     ensures stays { OnOk result (StayKnown R.remaining readers.old readers.new) }
     ensures cause { IfErr result (IsHeadersFault (map (header_of R.remaining) readers.old)) }
+    ensures stand { AllStand (map standing_of readers.old) (map standing_of readers.new) result }
 {
     let header = read_headers(alloc, readers)?;
     let points = points_in(alloc, &header.ranges)?;
@@ -94,7 +113,8 @@ fn readers_of<R: Read + Drop>(
 ) -> Result<Vec<PartReader<R>>, CollapseFault>
     ensures opened { OnOk result (AreOpened files.items) }
     ensures readers { IfOk result (λ readers. AreReadersOf R.remaining files.items readers.items) }
-    ensures cause { IfErr result (IsHeadFault R.remaining files.items) }
+    ensures sound { IfOk result (λ readers. AreSound readers.items) }
+    ensures cause { IfErr result (IsHeadFault R.remaining files.items []) }
 {
     let mut readers = Vec::new(alloc);
     for file in files {
@@ -124,6 +144,7 @@ fn reader_of<R: Read + Drop>(
 ) -> Result<PartReader<R>, CollapseFault>
     ensures opened { OnOk result (IsOk file.opened) }
     ensures reader { IfOk result (IsReaderOf R.remaining file) }
+    ensures sound { IfOk result (λ reader. standing_of reader ≡ sound) }
     ensures cause { IfErr result (λ fault. (why : Refusal) × (fault ≡ CollapseFault.Unopened file.name why) × (file.opened ≡ Err why)) }
 {
     let NamedFile { name, opened } = file;

@@ -1,5 +1,5 @@
 //! The joined file is made and written, and told of.
-ghost use Rattle.std.specs.Prelude.{◌≡◌, ◌⊎◌, ℕ, List, Some, IfOk, IfErr, OnOk, OnErr};
+ghost use Rattle.std.specs.Prelude.{◌≡◌, ◌⊎◌, ℕ, List, Some, None, IfOk, IfErr, OnOk, OnErr};
 ghost use Rattle.std.specs.Io.KnownBytes.{Appends};
 ghost use Rattle.pc_types.specs.declared.refusal.Refusal.{Refusal};
 ghost use Rattle.pc_types.specs.Counted.{HasRisen, AppendsBeginning};
@@ -13,6 +13,7 @@ ghost use Rattle.pc_collapse_files.specs.declared.inputs.CollapseFault.{Collapse
 
 use crate::inputs::{CollapseFault, OpenedInputs};
 use pc_stream_join::join_entries;
+use pc_streams::PartReader;
 use pc_texts::{end_output, put_joined};
 use pc_types::{Items, Point, Refusal, Tally};
 use std::alloc::Global;
@@ -22,22 +23,28 @@ use std::io::{Read, Write};
 /// is whole. What is written to it goes straight out: it is not flushed, and a file that isn't whole must not become so behind a
 /// fault. Contracts see which texts stand under the name; of a device of which that isn't known each text counts as standing there.
 pub trait Maker<F: Write> {
-    ghost use Rattle.std.specs.Prelude.{◌≡◌, ◌⊎◌, ℕ, List, [], Some, IfOk, IfSome, OnOk, OnErr};
+    ghost use Rattle.std.specs.Prelude.{◌≡◌, ◌⊎◌, ℕ, List, [], Some, IfErr, IfOk, IfSome, OnOk, OnErr, ⊤};
+    ghost use Rattle.pc_types.specs.declared.refusal.Refusal.{Refusal};
     ghost use Rattle.pc_collapse_files.specs.Collapses.{StaysAs};
 
     // This text stands under the file's name.
     ghost stands: { Self → List ℕ → Type 0 };
 
+    // A call that leaves the maker so is refused for this reason.
+    ghost refuses: { Self → Refusal → Type 0 } = { λ _ _. ⊤ };
+
     /// Makes the file, without bytes; what stands under its name stays. Refuses for whatever keeps it from being made.
     fn make(&mut self) -> Result<F, Refusal>
         ensures empty { IfOk result (λ file. IfSome (F.contents file) (λ bytes. bytes ≡ [])) }
-        ensures stays { StaysAs (stands self.old) (stands self.new) };
+        ensures stays { StaysAs (stands self.old) (stands self.new) }
+        ensures refused { IfErr result (refuses self.new) };
 
     /// All bytes of the file were written: it gets its name, in the place of what stood there. Refuses for whatever keeps it from
     /// that; then what stood there stays, or the file has its name.
     fn finish(&mut self, file: F) -> Result<(), Refusal>
         ensures named { OnOk result ((text : List ℕ) → F.contents file ≡ Some text → stands self.new text) }
-        ensures unnamed { OnErr result (StaysAs (stands self.old) (stands self.new) ⊎ ((text : List ℕ) → F.contents file ≡ Some text → stands self.new text)) };
+        ensures unnamed { OnErr result (StaysAs (stands self.old) (stands self.new) ⊎ ((text : List ℕ) → F.contents file ≡ Some text → stands self.new text)) }
+        ensures refused { IfErr result (refuses self.new) };
 }
 
 // A joined file that was written, and what is printed of it.
@@ -48,11 +55,25 @@ pub(crate) struct WrittenFile<F> {
     pub(crate) entries: u32,
 }
 
-// A collapse that ended by a fault, with the file where it was made.
+// A collapse that ended by a fault, with the readers of the inputs where what they hold ended it, and the file where it was begun and
+// not written whole.
 #[derive(Drop)]
-pub(crate) struct Unfinished<F> {
+pub(crate) struct Unfinished<R, F> {
+    pub(crate) inputs: Vec<PartReader<R>>,
     pub(crate) file: Option<Tally<F>>,
     pub(crate) fault: CollapseFault,
+}
+
+// No file is left by the fault.
+pub(crate) fn unmade<R, F>(inputs: Vec<PartReader<R>>, fault: CollapseFault) -> Unfinished<R, F>
+    ensures { result ≡ record { inputs = inputs; file = None; fault = fault } }
+{
+    let file = None;
+    Unfinished {
+        inputs,
+        file,
+        fault,
+    }
 }
 
 // Makes the file and writes the join of the inputs to it; what stands under its name stays.
@@ -60,17 +81,17 @@ pub(crate) fn write_file<R: Read + Drop, F: Write + Drop, M: Maker<F>>(
     alloc: Global,
     inputs: OpenedInputs<R>,
     maker: &mut M,
-) -> Result<WrittenFile<F>, Unfinished<F>>
+) -> Result<WrittenFile<F>, Unfinished<R, F>>
     requires headed { AreHeaded R.remaining inputs.header.run inputs.header.ranges.items inputs.readers.items }
     ensures written { IfOk result (λ written. (files : List (NamedFile R)) → IsOpenedAs R.remaining files inputs → IsWrittenOf R.remaining F.contents files written) }
-    ensures unwritten { IfErr result (λ unfinished. (files : List (NamedFile R)) → IsOpenedAs R.remaining files inputs → IsUnwritten R.remaining F.contents files unfinished.file unfinished.fault) }
+    ensures unwritten { IfErr result (λ unfinished. (files : List (NamedFile R)) → IsOpenedAs R.remaining files inputs → IsUnwritten R.remaining F.contents files unfinished.inputs.items (M.refuses maker.new) unfinished.file unfinished.fault) }
     ensures stays { StaysAs (M.stands maker.old) (M.stands maker.new) }
 {
     let file = match maker.make() {
         Ok(file) => file,
         Err(why) => {
-            let (file, fault) = (None, CollapseFault::Unmade(why));
-            return Err(Unfinished { file, fault });
+            let fault = CollapseFault::Unmade(why);
+            return Err(unmade(Vec::new(alloc), fault));
         }
     };
     let OpenedInputs {
@@ -87,8 +108,12 @@ pub(crate) fn write_file<R: Read + Drop, F: Write + Drop, M: Maker<F>>(
         }),
         Err(why) => {
             let fault = fault_of(&file, why);
-            let file = Some(file);
-            Err(Unfinished { file, fault })
+            let (inputs, file) = (readers, Some(file));
+            Err(Unfinished {
+                inputs,
+                file,
+                fault,
+            })
         }
     }
 }
@@ -110,7 +135,7 @@ pub(crate) fn name_file<F: Write + Drop, M: Maker<F>>(
     file: Tally<F>,
 ) -> Result<(), CollapseFault>
     ensures named { OnOk result ((text : List ℕ) → F.contents (inner_of file) ≡ Some text → M.stands maker.new text) }
-    ensures fault { IfErr result (λ fault. (why : Refusal) × (fault ≡ CollapseFault.Unnamed why)) }
+    ensures fault { IfErr result (λ fault. (why : Refusal) × (fault ≡ CollapseFault.Unnamed why) × M.refuses maker.new why) }
     ensures unnamed { OnErr result (StaysAs (M.stands maker.old) (M.stands maker.new) ⊎ ((text : List ℕ) → F.contents (inner_of file) ≡ Some text → M.stands maker.new text)) }
 {
     match maker.finish(file.into_inner()) {

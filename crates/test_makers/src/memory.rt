@@ -29,9 +29,12 @@ impl MemoryFile {
 }
 
 impl Maker<Vec<u8>> for MemoryFile {
-    ghost use Rattle.std.specs.Prelude.{◌≡◌};
+    ghost use Rattle.std.specs.Prelude.{◌≡◌, true};
+    ghost use Rattle.pc_types.specs.declared.Refusal.{Refusal};
 
     ghost stands = { λ file text. file.standing.items ≡ text };
+
+    ghost refuses = { λ file why. (file.is_unnamed ≡ true) × (why ≡ Refusal.Device) };
 
     fn make(&mut self) -> Result<Vec<u8>, Refusal> {
         Ok(Vec::new(self.alloc))

@@ -1,21 +1,29 @@
-use Rattle.std.proofs.Common.{map, subst, sym}
+use Rattle.std.proofs.Common.{◌≡◌, ℕ, Err, map, subst, sym}
+use Rattle.std.specs.List.{All}
+use Rattle.pc_merge.specs.Standings.{AllStand}
 use Rattle.pc_stream_join.specs.Headers.{AreHeaded, IsHeadersFault, StayKnown}
-use Rattle.pc_streams.specs.Readers.{header_of}
+use Rattle.pc_streams.specs.Readers.{header_of, standing_of}
 use Rattle.pc_collapse_files.specs.Inputs.{AreReadersOf}
+use Rattle.pc_collapse_files.specs.Reads.{AreSound, sound}
 use Rattle.pc_collapse_files.proofs.Headed.{head_fault, now_in, still_readers}
+use Rattle.pc_collapse_files.proofs.ReadLaws.{tells}
 use Rattle.pc_collapse_files.proofs.inputs.open_inputs.Goals as goal
 
-pub returns-in-Ok-clause-opened : goal.returns-in-Ok-clause-opened
-returns-in-Ok-clause-opened g c =
-    let stay = subst (λ was. StayKnown g.R.Read.remaining was c.join_headers.new.readers) c.deref_mut.ensures.value c.in-Ok.ensures.stays in
-    let now = now_in g.R.Read.remaining c.in_ok-readers.readers c.join_headers.new.readers stay in
+pub returns-in-Ok-join_headers-clause-opened : goal.returns-in-Ok-join_headers-clause-opened
+returns-in-Ok-join_headers-clause-opened g c =
+    let stay = subst (λ was. StayKnown g.R.Read.remaining was c.join_headers.new.readers) c.deref_mut.ensures.value c.in-Ok-join_headers.ensures.stays in
+    let now = now_in g.R.Read.remaining c.in-Ok.readers c.join_headers.new.readers stay in
     record {
-      opened = c.in_ok-readers.ensures.opened;
-      readers = subst (λ readers. AreReadersOf g.R.Read.remaining c.args.files.items readers) (sym now) (still_readers g.R.Read.remaining c.args.files.items c.in_ok-readers.readers.items c.join_headers.new.readers stay c.in_ok-readers.ensures.readers);
-      headed = subst (λ readers. AreHeaded g.R.Read.remaining c.in-Ok.header.run c.in-Ok.header.ranges.items readers) (sym now) c.in-Ok.ensures.headed;
-      points = c.in-Ok.ensures.points;
+      opened = c.in-Ok.ensures.opened;
+      readers = subst (λ readers. AreReadersOf g.R.Read.remaining c.args.files.items readers) (sym now) (still_readers g.R.Read.remaining c.args.files.items c.in-Ok.readers.items c.join_headers.new.readers stay c.in-Ok.ensures.readers);
+      sound = subst (λ readers. AreSound readers) (sym now) (subst (All (λ standing. standing ≡ sound)) (sym (subst (λ was. map standing_of c.join_headers.new.readers ≡ map standing_of was) c.deref_mut.ensures.value c.in-Ok-join_headers.ensures.stand)) c.in-Ok.ensures.sound);
+      headed = subst (λ readers. AreHeaded g.R.Read.remaining c.in-Ok-join_headers.header.run c.in-Ok-join_headers.header.ranges.items readers) (sym now) c.in-Ok-join_headers.ensures.headed;
+      points = c.in-Ok-join_headers.ensures.points;
     }
 
-pub returns-in-Err-clause-cause : goal.returns-in-Err-clause-cause
-returns-in-Err-clause-cause g c = head_fault g.R.Read.remaining c.args.files.items c.in_ok-readers.readers.items c.in_ok-readers.ensures.opened c.in_ok-readers.ensures.readers c.in-Err.why
-    (subst (λ was. IsHeadersFault (map (header_of g.R.Read.remaining) was) c.in-Err.why) c.deref_mut.ensures.value c.in-Err.ensures.cause)
+pub returns-in-Err-join_headers-clause-cause : goal.returns-in-Err-join_headers-clause-cause
+returns-in-Err-join_headers-clause-cause g c = (
+  head_fault g.R.Read.remaining c.args.files.items c.in-Ok.readers.items c.in-Ok.ensures.opened c.in-Ok.ensures.readers c.in-Err-join_headers.why
+      (subst (λ was. IsHeadersFault (map (header_of g.R.Read.remaining) was) c.in-Err-join_headers.why) c.deref_mut.ensures.value c.in-Err-join_headers.ensures.cause),
+  tells c.in-Ok.readers c.join_headers.new.readers c.in-Err-join_headers.why c.in-Ok.ensures.sound ℕ (subst (λ was. AllStand {X = ℕ} (map standing_of was) (map standing_of c.join_headers.new.readers) (Err c.in-Err-join_headers.why)) c.deref_mut.ensures.value c.in-Err-join_headers.ensures.stand),
+)

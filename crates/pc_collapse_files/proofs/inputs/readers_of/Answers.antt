@@ -3,6 +3,7 @@ use Rattle.std.specs.Vec.Iter.{into_iter_items}
 use Rattle.std.proofs.lemmas.Result.{err_from_is_err_and}
 use Rattle.std.proofs.lemmas.List.{nil_from_length}
 use Rattle.pc_collapse_files.proofs.ReadFiles.{AreLeft, all_left, all_opened, all_read, one_less, unopened}
+use Rattle.pc_collapse_files.proofs.ReadLaws.{none_sound, sound_push}
 use Rattle.pc_collapse_files.proofs.inputs.readers_of.Goals as goal
 
 pub loop-file-init : goal.loop-file-init
@@ -12,6 +13,7 @@ loop-file-init g c =
       going = (tt, tt);
       counted = c.into_iter-file-iterator.ensures.into_iter_gives.1 ∙ c.args.files.ok.0 ∙ ap length (sym items);
       left = rw c.new-readers.ensures.items (all_left g.R.Read.remaining c.args.files.items _ (sym items));
+      sound = rw c.new-readers.ensures.items (none_sound g.row.R.Denot);
     }
 
 pub returns-in_err-reader-clause-cause : goal.returns-in_err-reader-clause-cause
@@ -27,6 +29,7 @@ loop-file-preserved g c =
       going = (tt, tt);
       counted = omega (arith, c.in-Some.ensures.steps.1, c.loop-file.invariant.counted, ap length items);
       left = rw c.in_ok-push_reader.ensures.ok (one_less g.R.Read.remaining c.args.files.items (into_iter_items c.next.new.self) c.in-Some.file c.loop-file.readers.items c.in_ok-reader.reader (subst (λ xs. AreLeft g.R.Read.remaining c.args.files.items xs c.loop-file.readers.items) items c.loop-file.invariant.left) c.in_ok-reader.ensures.opened c.in_ok-reader.ensures.reader);
+      sound = rw c.in_ok-push_reader.ensures.ok (sound_push c.loop-file.readers.items c.in_ok-reader.reader c.loop-file.invariant.sound c.in_ok-reader.ensures.sound);
     }
 
 pub returns-clause-readers : goal.returns-clause-readers

@@ -1,5 +1,6 @@
 use Rattle.std.proofs.Common.{◌≡◌, length}
 use Rattle.std.specs.Vec.Iter.{into_iter_items, into_iter_len}
+use Rattle.pc_collapse_files.specs.Reads.{AreSound}
 use Rattle.pc_collapse_files.proofs.ReadFiles.{AreLeft}
 use Rattle.pc_collapse_files.proofs.inputs.readers_of.Given as goal
 
@@ -8,4 +9,5 @@ invariant-loop-file g l = record {
   going : (goal.iterator-loop-file g).can_next l.file-iterator × (goal.iterator-loop-file g).is_finite l.file-iterator;
   counted : into_iter_len l.file-iterator ≡ length (into_iter_items l.file-iterator);
   left : AreLeft g.R.Read.remaining l.fn.files.items (into_iter_items l.file-iterator) l.readers.items;
+  sound : AreSound l.readers.items;
 }
