@@ -10,17 +10,14 @@ signature, contract and body, a type, the head of an `impl`; of a file of specs/
 - the constants that they name, and the definitions that clauses, views and constants reach, through the specs/ of all crates.
 
 Comments, blank lines, tests and places don't count. A few things too many are counted, as all methods of one name; what the kit's library has is not.
-`tree_here()` has the repository as it stands, `tree_of(commit)` as it was.
+`tree_here()` has the repository as it stands; a `Tree` is made of any texts by their paths.
 """
 
 import functools
 import glob
 import hashlib
-import io
 import os
 import re
-import subprocess
-import tarfile
 from collections import namedtuple
 
 import spec_guide
@@ -367,10 +364,3 @@ def tree_here():
             with open(os.path.join(ROOT, path), encoding="utf-8") as it:
                 texts[path] = it.read()
     return Tree(texts)
-
-
-def tree_of(commit):
-    """The repository as it was at a commit."""
-    packed = subprocess.run(["git", "-C", ROOT, "archive", commit, "crates.txt", "crates"], check=True, capture_output=True).stdout
-    with tarfile.open(fileobj=io.BytesIO(packed)) as it:
-        return Tree({file.name: it.extractfile(file).read().decode() for file in it if READ.fullmatch(file.name)})

@@ -49,7 +49,7 @@ RECORD = os.path.join(ROOT, "tools", "tried")
 REFUSED, MENDED = ("clause", "refused"), ("fits", "limit")
 SAID = re.compile(r"must-fail (\w+)/([\w.-]+)\.edit: refused, as it must be(.*)")
 UNPROVED = re.compile(r"it is not proved that|no proof of the law|the law does not hold|`search` did not prove")
-FIRST = "# CRATE REASON DATE: BODY:TEXT:CHANGED:REACHED of crates/CRATE/tried, by its checksums then. Written by tools/try_bodies.py, which tells what is what.\n"
+FIRST = "# CRATE REASON DATE: BODY:TEXT:CHANGED:REACHED.. of crates/CRATE/tried, by the checksums then; tools/try_bodies.py writes it, and says more.\n"
 
 
 def path_of(name, body):

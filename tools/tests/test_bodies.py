@@ -101,7 +101,8 @@ class Bodies(InFolder):
         self.noted(ONE)
         self.assertEqual(self.printed(try_bodies.tell_known)[0], 0)
         self.change("pc_high", "result < 9", "result < 10")
-        self.assertEqual([it.partition(":")[0] for it in self.printed(try_bodies.tell_known)[1].splitlines()[:-1]], ["pc_high/one"])
+        told = self.printed(try_bodies.tell_known)[1].splitlines()
+        self.assertEqual([it.partition(":")[0] for it in told[:-1]], ["pc_high/one"])
         self.change("pc_high", "1", "7")
         self.assertEqual(self.printed(try_bodies.tell_known)[0], 1)
 
@@ -161,7 +162,8 @@ class Bodies(InFolder):
         for body in ("one", "two"):
             self.write(f"crates/pc_high/must-fail/{body}.edit", EDIT)
         refused = "must-fail pc_high/one.edit: refused, as it must be: note: src/lib.rt:2:1: it is not proved that it is one\n"
-        other, shape = "must-fail pc_high/two.edit: NOT REFUSED: x\n", "must-fail pc_high/two.edit: refused, as it must be: proofs/a/Answers.antt:1:1: error: b\n"
+        other = "must-fail pc_high/two.edit: NOT REFUSED: x\n"
+        shape = "must-fail pc_high/two.edit: refused, as it must be: proofs/a/Answers.antt:1:1: error: b\n"
         for said, wanted, begin in (
             (refused + other, {None: "", "one": "clause"}, "pc_high: 1 of 2 refused by a clause\nmust-fail pc_high/two.edit: NOT REFUSED: x\n"),
             (refused + shape, {None: "", "one": "clause", "two": "fits"}, "pc_high: 1 of 2 refused by a clause\n" + shape),

@@ -178,7 +178,7 @@ class Reach(InFolder):
 
     def test_an_edit_of_definitions(self):
         self.edit = "file: specs/Own.antt\nold: one =\nnew: one = 2 +\n"
-        self.write("crates/pc_high/specs/Own.antt", "use Rattle.pc_low.specs.Words.{IsCount}\n\nabbrev pub one : ℕ\none = 1\n\nabbrev pub two : ℕ\ntwo = 2\n")
+        self.write("crates/pc_high/specs/Own.antt", "abbrev pub one : ℕ\none = 1\n\nabbrev pub two : ℕ\ntwo = 2\n")
         self.assertEqual([*map(lambda it: it.name, reach.tree_here().changed("pc_high", self.edit)[0])], ["one"])
         self.assertEqual(self.changed_by("crates/pc_high/specs/Own.antt", "one : ℕ", "one : List ℕ"), (True, False))
         self.assertEqual(self.changed_by("crates/pc_high/specs/Own.antt", "one = 1", "one = two"), (True, True))
