@@ -48,6 +48,7 @@ ROOT = os.path.join(os.path.dirname(os.path.abspath(__file__)), "..")
 RECORD = os.path.join(ROOT, "tools", "tried")
 REFUSED, MENDED = ("clause", "refused"), ("fits", "limit")
 SAID = re.compile(r"must-fail (\w+)/([\w.-]+)\.edit: refused, as it must be(.*)")
+GAVE_UP = re.compile(r"; `(?:search|grind)` gave up")
 UNPROVED = re.compile(r"it is not proved that|no proof of the law|the law does not hold|`search` did not prove")
 FIRST = "# CRATE REASON DATE: BODY:TEXT:CHANGED:REACHED.. of crates/CRATE/tried, by the checksums then; tools/try_bodies.py writes it, and says more.\n"
 
@@ -89,7 +90,7 @@ class Today:
 
 def reason_of(said):
     """Why a body was refused, by what `rt` says behind `refused, as it must be`."""
-    if said.startswith(" (only by a limit") or "gave up at one of its limits" in said:
+    if said.startswith(" (only by a limit") or GAVE_UP.search(said):
         return "limit"
     place = re.match(r": (?:note: )?(?:\./)?(\w+)/", said)
     return "clause" if place and place[1] != "proofs" and UNPROVED.search(said) else "fits"

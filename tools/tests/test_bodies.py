@@ -120,6 +120,7 @@ class Bodies(InFolder):
             (f": note: src/lib.rt:2:1: {goal}", "clause"),
             (f": note: src/lib.rt:2:1: {goal}; the facts known there allow values at which this goal is false", "clause"),
             (f": note: src/lib.rt:2:1: {goal}; `search` gave up at one of its limits", "limit"),
+            (f": note: src/lib.rt:2:1: {goal}; `grind` gave up at one o", "limit"),
             (" (only by a limit of the prover, which gave no verdict): src/lib.rt:2:1: error: it ran out of steps", "limit"),
             (" (only because a proof file names what the edit took away): proofs/f/Answers.antt:2:1: error: `c` has no field", "fits"),
             (": ./proofs/f/Answers.antt:8:13: error: `returns`: as printed, the two types differ", "fits"),
