@@ -149,12 +149,17 @@ def sums_of(found):
 
 def crates_of():
     """The crates of crates.txt, each with those of the repository on which it stands, all the way down, lowest first."""
-    named = {}
     with open(os.path.join(ROOT, "crates.txt"), encoding="utf-8") as it:
-        for line in it:
-            name, colon, rest = line.partition("#")[0].strip().partition(":")
-            if colon:
-                named[name.split(" ")[0]] = rest.split()
+        return crates_in(it.read())
+
+
+def crates_in(text):
+    """The same by the text of crates.txt."""
+    named = {}
+    for line in text.splitlines():
+        name, colon, rest = line.partition("#")[0].strip().partition(":")
+        if colon:
+            named[name.split(" ")[0]] = rest.split()
     below = {}
 
     def find(name):

@@ -77,8 +77,7 @@ class Imports:
 class Spec:
     """A file of definitions: the text of each, by its word."""
 
-    def __init__(self, path):
-        text = text_of(path)
+    def __init__(self, text):
         self.lines = text.count("\n")
         self.imports = Imports(text)
         self.definitions = {}
@@ -139,7 +138,7 @@ def reach(functions):
             continue
         came[path, word] = source
         if path not in specs:
-            specs[path] = Spec(path)
+            specs[path] = Spec(text_of(path))
         wait += [(it, (path, word)) for it in specs[path].reached(word, path)]
     return came, specs
 

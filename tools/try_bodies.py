@@ -4,20 +4,33 @@
     try_bodies.py                   tries all of them
     try_bodies.py NAME..            those of these crates
     try_bodies.py NAME/BODY..       these alone
-    try_bodies.py --since           those that weren't tried on the text of their crate, and of those below it, as it is now
-    try_bodies.py --list            tells of each crate how many were tried on this text
+    try_bodies.py --since           those of which no note is of today's text
+    try_bodies.py --list            tells of each crate how many were refused on today's text, how many notes are void, and how many bodies were never
+                                    tried; then what is to be mended; the last line has the sums
+    try_bodies.py --known           tells which bodies were refused and not tried again since the function that they change was another one; the status
+                                    is 1 where there is one; the last line has the sums
     try_bodies.py --copy FOLDER     makes the copy alone, in which `rt ci NAME..` tries them over what the gate has proved on this machine
     try_bodies.py --read LOG        notes what such a run refused, of the text as it stands
 
 They are tried on a copy of the repository, by `rt must-fail`, as many crates side by side as --lanes N says (one where it isn't given),
-once the libraries below them are built. What was refused is noted in tools/tried: the crate, the checksum of the text that it was tried on, the
-date, and the bodies' names. That text is the code, the definitions and the proofs of the crate and of all below it, tests apart, which no wrong
-body sees, and each body's own. A body stands here, and not in must-fail/, where another one in the gate is refused by the same clause, where it is
+once the libraries below them are built. What was refused is noted in tools/tried, a line for each crate, reason and date, in which a body stands
+with three checksums: of its own text, of the items that it changes, and of what these reach (tools/reach.py). A note is void once one of them is
+another one. The reason is what `rt` says of the refusal:
+
+    clause    a clause isn't proved, or a law: this alone counts as refused
+    fits      a proof no longer fits its goal, or names what is gone: it refuses the shape of the code, and the body is to be mended
+    limit     the prover gave up, so it is to be mended too (`rt` says it in 160 characters; a limit told behind them is taken for a clause)
+    refused   noted before reasons were, and carried over where the text had not changed: it counts as refused
+    earlier   noted on an earlier text, without these checksums: it is void
+
+A body stands here, and not in must-fail/, where another one in the gate is refused by the same clause, where it is
 neither named by a promise nor the one of a public function, or where the check that it needs is dear (docs/BENCHMARKS.md, the gate's budget).
 """
 
 import argparse
+import collections
 import datetime
+import functools
 import glob
 import hashlib
 import os
@@ -28,11 +41,16 @@ import sys
 import tempfile
 from concurrent.futures import ThreadPoolExecutor
 
+import reach
 from gate_times import crates_of
 
 ROOT = os.path.join(os.path.dirname(os.path.abspath(__file__)), "..")
 RECORD = os.path.join(ROOT, "tools", "tried")
-CODE = ("src", "specs", "proofs")
+REFUSED, MENDED = ("clause", "refused"), ("fits", "limit")
+SAID = re.compile(r"must-fail (\w+)/([\w.-]+)\.edit: refused, as it must be(.*)")
+GAVE_UP = re.compile(r"; `(?:search|grind)` gave up")
+UNPROVED = re.compile(r"it is not proved that|no proof of the law|the law does not hold|`search` did not prove")
+FIRST = "# CRATE REASON DATE: BODY:TEXT:CHANGED:REACHED.. of crates/CRATE/tried, by the checksums then; tools/try_bodies.py writes it, and says more.\n"
 
 
 def path_of(name, body):
@@ -48,26 +66,38 @@ def crates():
     return {name: [name, *below] for name, below in crates_of().items() if bodies_of(name)}
 
 
-def text_sum(names):
-    """The checksum of the text of these crates, tests apart."""
-    found = hashlib.sha256()
-    for name in sorted(names):
-        for part in CODE:
-            for file in sorted(glob.glob(os.path.join(ROOT, "crates", name, part, "**", "*.*"), recursive=True)):
-                if "test" not in os.path.relpath(file, os.path.join(ROOT, "crates", name)):
-                    with open(file, "rb") as it:
-                        found.update(repr((os.path.relpath(file, ROOT), it.read())).encode())
-    return found.hexdigest()[:12]
+def edit_of(name, body):
+    with open(path_of(name, body), encoding="utf-8") as it:
+        return it.read()
 
 
 def body_sum(name, body):
     """The checksum of what it changes: the promises that it names are no part of it."""
-    with open(path_of(name, body), "rb") as it:
-        return hashlib.sha256(b"".join(line for line in it if not line.startswith(b"promise:"))).hexdigest()[:6]
+    text = "".join(line for line in edit_of(name, body).splitlines(True) if not line.startswith("promise:"))
+    return hashlib.sha256(text.encode()).hexdigest()[:6]
+
+
+class Today:
+    """The three checksums of each body, on the text as it stands."""
+
+    def __init__(self):
+        self.tree = reach.tree_here()
+        self.sums = functools.cache(self.sums)
+
+    def sums(self, name, body):
+        return body_sum(name, body), *(self.tree.sums(name, edit_of(name, body)) or ("", ""))
+
+
+def reason_of(said):
+    """Why a body was refused, by what `rt` says behind `refused, as it must be`."""
+    if said.startswith(" (only by a limit") or GAVE_UP.search(said):
+        return "limit"
+    place = re.match(r": (?:note: )?(?:\./)?(\w+)/", said)
+    return "clause" if place and place[1] != "proofs" and UNPROVED.search(said) else "fits"
 
 
 class Record:
-    """What tools/tried says: of each crate and text, when which bodies were refused on it, each with the checksum of its own text."""
+    """What tools/tried says: of each body the reason, the date and the checksums of its last note."""
 
     LINE = re.compile(r"(?m)^(\w+) (\w+) (\d{4}-\d\d-\d\d): (.+)$")
 
@@ -76,35 +106,46 @@ class Record:
         if os.path.exists(RECORD):
             with open(RECORD, encoding="utf-8") as it:
                 text = it.read()
-        self.refused = {(m[1], *word.split(":")): (m[2], m[3]) for m in self.LINE.finditer(text) for word in m[4].split()}
+        self.notes = {}
+        for m in self.LINE.finditer(text):
+            for word in m[4].split():
+                body, *sums = word.split(":")
+                self.notes[m[1], body] = m[2], m[3], tuple(sums)
 
-    def is_tried(self, name, body, text):
-        """Whether this body was refused on this text."""
-        return self.refused.get((name, body, body_sum(name, body)), ("", ""))[0] == text
+    def state(self, name, body, today):
+        """`never`, or `void`, or the reason of a refusal on today's text."""
+        reason, _, sums = self.notes.get((name, body), ("never", "", ()))
+        return reason if reason == "never" or reason != "earlier" and sums == today.sums(name, body) else "void"
 
-    def note(self, name, body, text):
-        self.refused = {key: told for key, told in self.refused.items() if key[:2] != (name, body)}
-        self.refused[name, body, body_sum(name, body)] = text, str(datetime.date.today())
+    def is_forgotten(self, name, body, today):
+        """Whether it was refused, and what it changes is another text since."""
+        reason, _, sums = self.notes.get((name, body), ("never", "", ()))
+        return reason in REFUSED and sums[1] != today.sums(name, body)[1]
+
+    def note(self, name, body, reason, sums):
+        self.notes[name, body] = reason, str(datetime.date.today()), sums
 
     def write(self):
-        """Writes a line for each crate, text and date; bodies that are no more are left out."""
+        """Writes a line for each crate, reason and date; bodies that are no more are left out."""
         lines = {}
-        for (name, body, own), (text, date) in sorted(self.refused.items()):
+        for (name, body), (reason, date, sums) in sorted(self.notes.items()):
             if os.path.exists(path_of(name, body)):
-                lines.setdefault((name, text, date), []).append(f"{body}:{own}")
+                lines.setdefault((name, reason, date), []).append(":".join([body, *sums]))
         with open(RECORD, "w", encoding="utf-8") as it:
-            it.write("# CRATE TEXT DATE: the bodies of crates/CRATE/tried that were refused on the text of this checksum. Written by tools/try_bodies.py.\n")
-            it.writelines(f"{name} {text} {date}: {' '.join(bodies)}\n" for (name, text, date), bodies in lines.items())
+            it.write(FIRST)
+            it.writelines(f"{name} {reason} {date}: {' '.join(bodies)}\n" for (name, reason, date), bodies in sorted(lines.items()))
 
 
 def try_crate(copy, name):
-    """The bodies that were refused; what `rt must-fail` says of those that weren't is printed."""
+    """The bodies that were refused, each with the reason; what `rt must-fail` says of those that no clause refused is printed."""
     ran = subprocess.run(["rt", "must-fail", name], cwd=copy, capture_output=True, text=True)
     wanted = [os.path.basename(it).removesuffix(".edit") for it in glob.glob(f"{copy}/crates/{name}/must-fail/*.edit")]
-    refused = [it for it in wanted if re.search(rf"must-fail {name}/{it}\.edit: refused, as it must be", ran.stdout)]
-    others = [line[:400] for line in ran.stdout.splitlines() if f"must-fail {name}/" in line and ": refused, as it must be" not in line]
-    print(f"{name}: {len(refused)} of {len(wanted)} refused", *others, *([] if refused else [ran.stdout[-2000:], ran.stderr[-600:]]), sep="\n", flush=True)
-    return refused if len(refused) == len(wanted) else [None, *refused]
+    told = {body: reason_of(said) for crate, body, said in SAID.findall(ran.stdout) if crate == name and body in wanted}
+    count = sum(it == "clause" for it in told.values())
+    others = [line[:400] for line in ran.stdout.splitlines() for found in [re.search(rf"must-fail {name}/([\w.-]+)\.edit: ", line)]
+              if found and told.get(found[1]) != "clause"]
+    print(f"{name}: {count} of {len(wanted)} refused by a clause", *others, *([] if told else [ran.stdout[-2000:], ran.stderr[-600:]]), sep="\n", flush=True)
+    return told if count == len(wanted) else {None: "", **told}
 
 
 def needed_by(names):
@@ -136,8 +177,9 @@ def copy_with(copy, chosen):
 
 
 def try_all(chosen, lanes):
-    """Tries the chosen bodies, by crate. The status is 1 where one was not refused."""
-    texts = {name: text_sum(crates()[name]) for name in chosen}
+    """Tries the chosen bodies, by crate. The status is 1 where no clause refused one."""
+    today = Today()
+    sums = {(name, body): today.sums(name, body) for name, bodies in chosen.items() for body in bodies}
     with tempfile.TemporaryDirectory(prefix="tried-") as room:
         copy = os.path.join(room, "copy")
         copy_with(copy, chosen)
@@ -146,9 +188,10 @@ def try_all(chosen, lanes):
         with ThreadPoolExecutor(lanes) as pool:
             done = dict(zip(chosen, pool.map(lambda name: try_crate(copy, name), chosen)))
     record = Record()
-    for name, refused in done.items():
-        for body in filter(None, refused):
-            record.note(name, body, texts[name])
+    for name, told in done.items():
+        for body, reason in told.items():
+            if body:
+                record.note(name, body, reason, sums[name, body])
     record.write()
     return 1 if any(None in it for it in done.values()) else 0
 
@@ -156,30 +199,57 @@ def try_all(chosen, lanes):
 def read_log(path):
     """Notes what a run of `rt ci` in such a copy refused."""
     with open(path, encoding="utf-8", errors="replace") as it:
-        found = re.findall(r"must-fail (\w+)/([\w.-]+)\.edit: refused, as it must be", it.read())
-    record, known, texts = Record(), crates(), {}
-    tried = [(name, body) for name, body in found if name in known and body in bodies_of(name)]
-    for name, body in tried:
-        if name not in texts:
-            texts[name] = text_sum(known[name])
-        record.note(name, body, texts[name])
+        found = SAID.findall(it.read())
+    record, today, known = Record(), Today(), crates()
+    tried = {(name, body): reason_of(said) for name, body, said in found if name in known and body in bodies_of(name)}
+    for (name, body), reason in tried.items():
+        record.note(name, body, reason, today.sums(name, body))
     record.write()
-    print(f"{len(tried)} bodies were refused")
+    print(f"{sum(it == 'clause' for it in tried.values())} of {len(tried)} bodies were refused by a clause")
     return 0
+
+
+def counted(states):
+    """So many bodies by their states, in words."""
+    count = collections.Counter(states)
+    refused = sum(count[it] for it in REFUSED)
+    mended = "".join(f", {count[it]} {words}" for it, words in zip(MENDED, ("refused by the shape of a proof", "by a limit")) if count[it])
+    return f"{refused} refused on today's text ({count['clause']} seen by a clause), {count['void']} void, {count['never']} never tried{mended}"
+
+
+def sum_line(states):
+    return f"{len(states)} wrong bodies on demand: {counted(states.values())}"
+
+
+def states_today(record, today):
+    return {(name, body): record.state(name, body, today) for name in crates() for body in bodies_of(name)}
 
 
 def tell():
-    record = Record()
-    for name, below in crates().items():
-        text = text_sum(below)
-        tried = [body for body in bodies_of(name) if record.is_tried(name, body, text)]
-        print(f"{name}: {len(tried)} of {len(bodies_of(name))} bodies were refused on this text")
+    states = states_today(Record(), Today())
+    for name in crates():
+        own = [state for (crate, _), state in states.items() if crate == name]
+        print(f"{name}: {len(own)} bodies, {counted(own)}")
+    for (name, body), state in states.items():
+        if state in MENDED:
+            print(f"to be mended ({state}): {name}/{body}")
+    print(sum_line(states))
     return 0
+
+
+def tell_known():
+    record, today = Record(), Today()
+    states = states_today(record, today)
+    forgotten = [f"{name}/{body}" for name, body in states if record.is_forgotten(name, body, today)]
+    for it in forgotten:
+        print(f"{it}: what it changes is another text than when it was refused, and it was not tried again: tools/try_bodies.py {it}")
+    print(sum_line(states))
+    return 1 if forgotten else 0
 
 
 def chosen_of(words, is_since):
     """The bodies that are to be tried, by crate."""
-    known, record = crates(), Record()
+    known = crates()
     chosen = {}
     for word in words or known:
         name, _, body = word.partition("/")
@@ -187,7 +257,8 @@ def chosen_of(words, is_since):
             sys.exit(f"no such body in tried/: {word}")
         chosen.setdefault(name, []).extend([body] if body else bodies_of(name))
     if is_since:
-        chosen = {name: [it for it in bodies if not record.is_tried(name, it, text_sum(known[name]))] for name, bodies in chosen.items()}
+        record, today = Record(), Today()
+        chosen = {name: [it for it in bodies if record.state(name, it, today) in ("void", "never")] for name, bodies in chosen.items()}
     return {name: bodies for name, bodies in chosen.items() if bodies}
 
 
@@ -196,12 +267,15 @@ def main():
     reader.add_argument("names", nargs="*")
     reader.add_argument("--since", action="store_true")
     reader.add_argument("--list", action="store_true")
+    reader.add_argument("--known", action="store_true")
     reader.add_argument("--lanes", type=int, default=1)
     reader.add_argument("--copy")
     reader.add_argument("--read")
     given = reader.parse_args()
     if given.list:
         return tell()
+    if given.known:
+        return tell_known()
     if given.read:
         return read_log(given.read)
     if given.copy:

@@ -12,7 +12,7 @@
     disk_cases.py         commands on a disk that gets full, and how often files are brought to the disk
     refused_growths.py    a run and the tests of test_memory and test_growths, each growth of memory that they ask for refused in turn
     PAGES                 what tools make of the crates stands in docs/ as they make it, and each wrong body is one, those of tools/meetings as they
-                          were seen
+                          were seen, and none that was refused waits to be tried again since the function that it changes was another one
     tests/                the tests of these tools, on what is made up
 
 What differs is shown, and what was seen of growths; the last line is 'N passed, M failed'; the status is 1 where one failed.
@@ -41,7 +41,7 @@ import run_cases
 ROOT = os.path.join(os.path.dirname(os.path.abspath(__file__)), "..")
 SECONDS = 60
 NOBODY = 65_534
-PAGES = ("check_edits.py",), ("crate_tables.py",), ("spec_guide.py", "--check"), ("try_meetings.py", "--known")
+PAGES = ("check_edits.py",), ("crate_tables.py",), ("spec_guide.py", "--check"), ("try_meetings.py", "--known"), ("try_bodies.py", "--known")
 TESTS = os.path.join(ROOT, "tools", "tests")
 
 

@@ -1,4 +1,4 @@
-"""Which bodies `try_bodies.py` and `try_meetings.py` try again: those whose text, or that of their crates, is another one than when they were tried."""
+"""Which bodies `try_bodies.py` and `try_meetings.py` try again: those whose text, or that of what refuses them, is another one than when they were tried."""
 
 import os
 import subprocess
@@ -8,10 +8,21 @@ from unittest import mock
 from support import InFolder
 
 import gate_times
+import reach
+import spec_guide
 import try_bodies
 import try_meetings
 
-EDIT = "file: src/lib.rt\nold: a\nnew: b\npromise: one\n"
+EDIT = "file: src/lib.rt\nold: 1\nnew: 2\npromise: one\n"
+SOURCE = """\
+/// What it gives.
+pub fn low() -> u64
+    ensures { result < 9 }
+{
+    1
+}
+"""
+ONE, TWO, HIGH = ("pc_low", "one"), ("pc_high", "one"), ("pc_high", "two")
 
 
 class Bodies(InFolder):
@@ -19,77 +30,113 @@ class Bodies(InFolder):
 
     def setUp(self):
         super().setUp()
-        self.move(gate_times, try_bodies)
+        self.move(gate_times, reach, spec_guide, try_bodies)
         self.write("crates.txt", "pc_low: std\npc_mid: pc_low\npc_high: pc_mid\n")
-        for name in ("pc_low", "pc_mid", "pc_high"):
-            self.write(f"crates/{name}/src/lib.rt", "a\n")
+        self.write("crates/pc_low/src/lib.rt", SOURCE)
+        self.write("crates/pc_mid/src/lib.rt", SOURCE.replace("low", "mid"))
+        self.write("crates/pc_high/src/lib.rt", SOURCE.replace("fn low", "fn high").replace("    1\n", "    low() + 1\n"))
         self.write("crates/pc_low/tried/one.edit", EDIT)
         self.write("crates/pc_high/tried/one.edit", EDIT)
-        self.write("crates/pc_high/tried/two.edit", EDIT)
+        self.write("crates/pc_high/tried/two.edit", EDIT.replace("new: 2", "new: 3"))
         os.makedirs(os.path.join(self.folder, "tools"))
 
-    def sums(self):
-        return {name: try_bodies.text_sum(below) for name, below in try_bodies.crates().items()}
-
-    def changed(self, name, text):
-        """The crates whose text's checksum is another one with this file."""
-        before = self.sums()
-        self.write(name, text)
-        after = self.sums()
-        return [name for name in before if after[name] != before[name]]
-
-    def noted(self, *bodies):
-        record = try_bodies.Record()
-        for name, body in bodies:
-            record.note(name, body, self.sums()[name])
+    def noted(self, *bodies, reason="clause"):
+        record, today = try_bodies.Record(), try_bodies.Today()
+        for it in bodies:
+            record.note(*it, reason, today.sums(*it))
         record.write()
 
-    def test_a_text_is_that_of_a_crate_and_of_all_below_it(self):
-        self.assertEqual(self.changed("crates/pc_low/src/lib.rt", "b\n"), ["pc_low", "pc_high"])
-        self.assertEqual(self.changed("crates/pc_mid/proofs/Laws.antt", "b\n"), ["pc_high"])
-        self.assertEqual(self.changed("crates/pc_high/specs/deep/Words.antt", "b\n"), ["pc_high"])
+    def states(self):
+        return try_bodies.states_today(try_bodies.Record(), try_bodies.Today())
 
-    def test_tests_and_other_bodies_are_no_part_of_it(self):
-        for name in ("src/more_tests.rt", "src/tests/all.rt", "must-fail/three.edit", "tried/three.edit", "stdout", "src/lib.rt"):
-            self.assertEqual(self.changed(f"crates/pc_low/{name}", "a\n"), [])
+    def change(self, name, old, new):
+        path = f"crates/{name}/src/lib.rt"
+        self.write(path, self.read(path).replace(old, new))
 
     def test_a_body_is_what_it_changes(self):
         before = try_bodies.body_sum("pc_low", "one")
         self.write("crates/pc_low/tried/one.edit", EDIT.replace("one", "two"))
         self.assertEqual(try_bodies.body_sum("pc_low", "one"), before)
-        self.write("crates/pc_low/tried/one.edit", EDIT.replace("new: b", "new: c"))
+        self.write("crates/pc_low/tried/one.edit", EDIT.replace("new: 2", "new: 3"))
         self.assertNotEqual(try_bodies.body_sum("pc_low", "one"), before)
 
     def test_what_was_refused_is_not_tried_again(self):
         self.assertEqual(try_bodies.chosen_of([], True), {"pc_low": ["one"], "pc_high": ["one", "two"]})
-        self.noted(("pc_low", "one"), ("pc_high", "two"))
+        self.noted(ONE, HIGH)
         self.assertEqual(try_bodies.chosen_of([], True), {"pc_high": ["one"]})
         self.assertEqual(try_bodies.chosen_of([], False), {"pc_low": ["one"], "pc_high": ["one", "two"]})
-        told = "pc_low: 1 of 1 bodies were refused on this text\npc_high: 1 of 2 bodies were refused on this text\n"
-        self.assertEqual(self.printed(try_bodies.tell), (0, told))
 
-    def test_what_was_refused_on_another_text_is_tried_again(self):
-        self.noted(("pc_low", "one"), ("pc_high", "one"), ("pc_high", "two"))
-        self.write("crates/pc_high/tried/two.edit", EDIT.replace("new: b", "new: c"))
-        self.assertEqual(try_bodies.chosen_of([], True), {"pc_high": ["two"]})
-        self.write("crates/pc_mid/src/lib.rt", "b\n")
-        self.assertEqual(try_bodies.chosen_of([], True), {"pc_high": ["one", "two"]})
+    def test_the_list_and_its_sums(self):
+        self.noted(ONE)
+        self.noted(TWO, reason="fits")
+        self.noted(HIGH, reason="refused")
+        told = ["pc_low: 1 bodies, 1 refused on today's text (1 seen by a clause), 0 void, 0 never tried"]
+        told += ["pc_high: 2 bodies, 1 refused on today's text (0 seen by a clause), 0 void, 0 never tried, 1 refused by the shape of a proof"]
+        told += ["to be mended (fits): pc_high/one"]
+        sums = "3 wrong bodies on demand: 2 refused on today's text (1 seen by a clause), 0 void, 0 never tried, 1 refused by the shape of a proof"
+        self.assertEqual(self.printed(try_bodies.tell), (0, "\n".join([*told, sums, ""])))
+
+    def test_a_change_of_what_refuses_it_makes_a_note_void(self):
+        self.noted(ONE, TWO, HIGH)
+        self.change("pc_low", "result < 9", "result < 10")
+        self.assertEqual(self.states(), {ONE: "void", TWO: "void", HIGH: "void"})
+        self.change("pc_low", "result < 10", "result < 9")
+        self.change("pc_low", "    1\n", "    1 + 0\n")
+        self.change("pc_mid", "result < 9", "result < 10")
+        self.assertEqual(self.states(), {ONE: "void", TWO: "clause", HIGH: "clause"})
+        self.write("crates/pc_high/tried/two.edit", EDIT.replace("new: 2", "new: 4"))
+        self.assertEqual(self.states()[HIGH], "void")
+
+    def test_a_note_of_an_earlier_text_is_void(self):
+        self.write("tools/tried", "# one\npc_low earlier 2026-11-28: one:123456\n")
+        self.assertEqual(self.states(), {ONE: "void", TWO: "never", HIGH: "never"})
+        self.assertEqual(self.printed(try_bodies.tell_known)[0], 0)
+
+    def test_a_function_that_changed_with_nobody_who_tried_its_body_again(self):
+        self.noted(ONE, TWO)
+        self.noted(HIGH, reason="limit")
+        self.change("pc_low", "result < 9", "result < 10")
+        status, told = self.printed(try_bodies.tell_known)
+        self.assertEqual((status, told.splitlines()[0].partition(":")[0], len(told.splitlines())), (1, "pc_low/one", 2))
+        self.noted(ONE)
+        self.assertEqual(self.printed(try_bodies.tell_known)[0], 0)
+        self.change("pc_high", "result < 9", "result < 10")
+        told = self.printed(try_bodies.tell_known)[1].splitlines()
+        self.assertEqual([it.partition(":")[0] for it in told[:-1]], ["pc_high/one"])
+        self.change("pc_high", "1", "7")
+        self.assertEqual(self.printed(try_bodies.tell_known)[0], 1)
 
     def test_what_a_run_of_the_gate_refused_is_noted(self):
         """Bodies of the gate, and those that were not refused, are no part of it."""
-        said = ("one.edit: refused, as it must be", "two.edit: NOT REFUSED: x", "three.edit: refused, as it must be")
+        clause = "refused, as it must be: note: src/lib.rt:2:1: it is not proved that what the function ensures holds"
+        said = ("one.edit: " + clause, "two.edit: NOT REFUSED: x", "three.edit: " + clause)
         log = self.write("log", "".join(f"rt: must-fail pc_high/{it}\n" for it in said))
-        self.assertEqual(self.printed(try_bodies.read_log, log), (0, "1 bodies were refused\n"))
-        self.assertEqual(try_bodies.chosen_of([], True), {"pc_low": ["one"], "pc_high": ["two"]})
+        self.assertEqual(self.printed(try_bodies.read_log, log), (0, "1 of 1 bodies were refused by a clause\n"))
+        self.assertEqual(self.states(), {ONE: "never", TWO: "clause", HIGH: "never"})
+
+    def test_why_a_body_was_refused(self):
+        goal = "it is not proved that what the function ensures holds when it returns (`returns`)"
+        for said, reason in (
+            (f": note: src/lib.rt:2:1: {goal}", "clause"),
+            (f": note: src/lib.rt:2:1: {goal}; the facts known there allow values at which this goal is false", "clause"),
+            (f": note: src/lib.rt:2:1: {goal}; `search` gave up at one of its limits", "limit"),
+            (f": note: src/lib.rt:2:1: {goal}; `grind` gave up at one o", "limit"),
+            (" (only by a limit of the prover, which gave no verdict): src/lib.rt:2:1: error: it ran out of steps", "limit"),
+            (" (only because a proof file names what the edit took away): proofs/f/Answers.antt:2:1: error: `c` has no field", "fits"),
+            (": ./proofs/f/Answers.antt:8:13: error: `returns`: as printed, the two types differ", "fits"),
+            ("", "fits"),
+        ):
+            with self.subTest(said=said):
+                self.assertEqual(try_bodies.reason_of(said), reason)
 
     def test_the_record_has_a_body_once_and_none_that_is_gone(self):
-        self.noted(("pc_low", "one"), ("pc_high", "one"))
-        self.write("crates/pc_low/src/lib.rt", "b\n")
+        self.noted(ONE, TWO)
+        self.change("pc_low", "1", "1 + 0")
         os.remove(os.path.join(self.folder, "crates/pc_high/tried/one.edit"))
-        self.noted(("pc_low", "one"))
+        self.noted(ONE)
         lines = self.read("tools/tried").splitlines()
         self.assertEqual(len(lines), 2)
-        self.assertRegex(lines[1], r"^pc_low %s \d{4}-\d\d-\d\d: one:%s$" % (self.sums()["pc_low"], try_bodies.body_sum("pc_low", "one")))
+        self.assertRegex(lines[1], r"^pc_low clause \d{4}-\d\d-\d\d: one:%s$" % ":".join(try_bodies.Today().sums(*ONE)))
 
     def test_chosen_by_name(self):
         self.assertEqual(try_bodies.chosen_of(["pc_high/two"], False), {"pc_high": ["two"]})
@@ -115,15 +162,18 @@ class Bodies(InFolder):
     def test_which_bodies_were_refused(self):
         for body in ("one", "two"):
             self.write(f"crates/pc_high/must-fail/{body}.edit", EDIT)
-        refused, other = "must-fail pc_high/one.edit: refused, as it must be\n", "must-fail pc_high/two.edit: NOT REFUSED: x\n"
+        refused = "must-fail pc_high/one.edit: refused, as it must be: note: src/lib.rt:2:1: it is not proved that it is one\n"
+        other = "must-fail pc_high/two.edit: NOT REFUSED: x\n"
+        shape = "must-fail pc_high/two.edit: refused, as it must be: proofs/a/Answers.antt:1:1: error: b\n"
         for said, wanted, begin in (
-            (refused + other, [None, "one"], "pc_high: 1 of 2 refused\nmust-fail pc_high/two.edit: NOT REFUSED: x\n"),
-            (refused + refused.replace("one", "two"), ["one", "two"], "pc_high: 2 of 2 refused\n"),
-            ("broken\n", [None], "pc_high: 0 of 2 refused\nbroken\n"),
+            (refused + other, {None: "", "one": "clause"}, "pc_high: 1 of 2 refused by a clause\nmust-fail pc_high/two.edit: NOT REFUSED: x\n"),
+            (refused + shape, {None: "", "one": "clause", "two": "fits"}, "pc_high: 1 of 2 refused by a clause\n" + shape),
+            (refused + refused.replace("one.", "two."), {"one": "clause", "two": "clause"}, "pc_high: 2 of 2 refused by a clause\n"),
+            ("broken\n", {None: ""}, "pc_high: 0 of 2 refused by a clause\nbroken\n"),
         ):
             with mock.patch.object(subprocess, "run", return_value=subprocess.CompletedProcess([], 0, said, "")):
                 found, told = self.printed(try_bodies.try_crate, self.folder, "pc_high")
-            self.assertEqual(sorted(found, key=str), sorted(wanted, key=str))
+            self.assertEqual(found, wanted)
             self.assertTrue(told.startswith(begin), told)
 
 

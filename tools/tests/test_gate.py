@@ -233,17 +233,18 @@ class Gate(InFolder):
         tell = "import sys\nsys.stdout.write(%r)\nsys.exit(%d)\n"
         self.write("tools/gate_times.py", "import sys\nopen(sys.argv[2], 'w').write(%r)\nsys.exit(%d)\n" % (checks, statuses[0]))
         self.write("tools/try_programs.py", tell % (programs, statuses[1]))
+        self.write("tools/try_bodies.py", tell % ("forgotten\n5 bodies\n", 1))
         os.chmod(self.write("bin/rt", "#!/bin/sh\n"), 0o755)
         env = {**os.environ, "PATH": os.path.join(self.folder, "bin") + os.pathsep + os.environ["PATH"]}
         ran = subprocess.run(["bash", ".ci/run"], cwd=self.folder, env=env, capture_output=True, text=True, timeout=SECONDS)
         return ran.returncode, ran.stdout.splitlines()
 
     def test_both_parts_pass(self):
-        self.assertEqual(self.run_with("a\n600 passed, 0 failed\n", "b\n7 passed, 0 failed\n"), (0, ["b", "607 passed, 0 failed"]))
+        self.assertEqual(self.run_with("a\n600 passed, 0 failed\n", "b\n7 passed, 0 failed\n"), (0, ["b", "5 bodies", "607 passed, 0 failed"]))
 
     def test_one_part_fails(self):
         self.assertEqual(self.run_with("599 passed, 1 failed\n", "7 passed, 0 failed\n", (1, 0))[1][-1], "606 passed, 1 failed")
-        self.assertEqual(self.run_with("600 passed, 0 failed\n", "b\n6 passed, 1 failed\n", (0, 1)), (1, ["600 passed, 0 failed", "b", "6 passed, 1 failed", "606 passed, 1 failed"]))
+        self.assertEqual(self.run_with("600 passed, 0 failed\n", "b\n6 passed, 1 failed\n", (0, 1)), (1, ["600 passed, 0 failed", "b", "6 passed, 1 failed", "5 bodies", "606 passed, 1 failed"]))
         self.assertEqual(self.run_with("600 passed, 0 failed\n", "6 passed, 1 failed\n")[0], 1)
 
     def test_a_part_that_fails_and_counts_none(self):
