@@ -1,5 +1,6 @@
 mod FirstClosed
 mod Gathered
+mod Noted
 mod SessionLemmas
 mod Causes
 mod ActiveSessions

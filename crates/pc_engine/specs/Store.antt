@@ -1,5 +1,5 @@
 -- What a world is seen as.
-use Rattle.std.specs.Prelude.{ℕ, ◌-◌, Bool, List, length, Option, None, slice_index_or}
+use Rattle.std.specs.Prelude.{ℕ, ◌-◌, ◌==◌, Bool, List, length, Option, None, if◌then◌else◌, slice_index_or}
 use Rattle.pc_types.specs.declared.Class.{Class}
 use Rattle.pc_types.specs.declared.Entry.{Entry}
 use Rattle.pc_types.specs.declared.Phase.{Phase}
@@ -46,3 +46,7 @@ active_in sessions s = slice_index_or sessions (s - 1) None
 -- the open transaction of the session
 abbrev pub active : Store → ℕ → Option Active
 active w s = active_in w.sessions s
+
+-- the open transaction of whoever has this number; number 0 is no session's, and has none
+abbrev pub active_of : Store → ℕ → Option Active
+active_of w s = if s == 0 then None else active w s

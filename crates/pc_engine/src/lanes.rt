@@ -1,5 +1,5 @@
 //! The lanes of sessions: each has the session's open transaction, and what it has written.
-ghost use Rattle.std.specs.Prelude.{◌≡◌, ◌<◌, ◌≤◌, [], option_map, None, Some, OnOk, is_none, true, false};
+ghost use Rattle.std.specs.Prelude.{◌≡◌, ◌<◌, ◌≤◌, [], length, option_map, None, Some, OnOk, is_none, true, false};
 ghost use Rattle.pc_types.specs.declared.Outcome.TheVariants.{Granted};
 ghost use Rattle.pc_types.specs.Changes.{CanMerge};
 ghost use Rattle.pc_model.specs.Database.{written};
@@ -29,14 +29,14 @@ pub(crate) struct Lane {
 }
 
 impl Model for Lane {
-    ghost use Rattle.std.specs.Prelude.{◌≡◌, ◌-◌, [], min, vec_len, vec_capacity, option_map, None};
+    ghost use Rattle.std.specs.Prelude.{◌≡◌, ◌≤◌, ◌-◌, [], length, min, vec_len, vec_capacity, option_map, None};
     ghost use Rattle.pc_engine.specs.Sessions.{LaneView, with_writes};
 
     ghost Value = { LaneView };
 
     ghost view = { λ s. record { own = option_map (with_writes s.writes.items) s.transaction; room = min s.writes.room (vec_capacity s.slots - vec_len s.slots) } };
 
-    ghost invariant = { λ s. s.transaction ≡ None → s.writes.items ≡ [] };
+    ghost invariant = { λ s. (s.transaction ≡ None → s.writes.items ≡ []) × (vec_len s.slots ≤ length s.writes.items) };
 }
 
 impl Lane {
@@ -76,8 +76,11 @@ impl Lane {
         &self.writes
     }
 
-    /// The numbers of the slots in which the keys of the writes were found, in the order of the writes.
-    pub(crate) fn slots(&self) -> &[u32] {
+    /// The numbers of the slots in which the keys of the writes were found, in the order of the writes: no more than there are
+    /// writes.
+    pub(crate) fn slots(&self) -> &[u32]
+        ensures { length result.now ≤ length (writes_in self.now.own) }
+    {
         self.slots.as_slice()
     }
 

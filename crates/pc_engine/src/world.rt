@@ -12,7 +12,7 @@ ghost use Rattle.pc_log.specs.Laws.{IsLog};
 ghost use Rattle.pc_kept_log.specs.Logs.{entries_of};
 ghost use Rattle.pc_records.specs.Rows.{record_of, stored};
 ghost use Rattle.pc_engine.specs.Sessions.{waits_in, writes_in};
-ghost use Rattle.pc_engine.specs.Store.{active, setting_of};
+ghost use Rattle.pc_engine.specs.Store.{active_of, setting_of};
 ghost use Rattle.pc_engine.specs.Stands.{Stands, Follows, IfRefused};
 ghost use Rattle.pc_engine.specs.Checks.{IsStoreSound};
 ghost use Rattle.pc_engine.specs.Runs.{starting, IsRun};
@@ -154,18 +154,20 @@ impl World {
         &self.log
     }
 
-    /// Whether the session's open transaction has written the key; false where it has none open.
+    /// Whether the session's open transaction has written the key; false where it has none open, and where no session has this
+    /// number, as 0.
     pub fn has_written(&self, session: SessionNo, key: &Key) -> bool
-        ensures { result ≡ is_some (written (writes_in (active self.now session)) key.now) }
+        ensures { result ≡ is_some (written (writes_in (active_of self.now session)) key.now) }
     {
-        self.sessions.has_written(session, key)
+        session.0 != 0 && self.sessions.has_written(session, key)
     }
 
-    /// Whether a request of the session's open transaction waits for a lock; false where it has none open.
+    /// Whether a request of the session's open transaction waits for a lock; false where it has none open, and where no session
+    /// has this number, as 0.
     pub fn is_waiting(&self, session: SessionNo) -> bool
-        ensures { result ≡ waits_in self.now.kept.rows (active self.now session) }
+        ensures { result ≡ waits_in self.now.kept.rows (active_of self.now session) }
     {
-        self.sessions.has_waiting(session)
+        session.0 != 0 && self.sessions.has_waiting(session)
     }
 
     /// The phase of the checkpoint's cycle.
