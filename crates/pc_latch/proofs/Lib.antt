@@ -5,3 +5,4 @@ mod Growing
 mod Passing
 mod Worths
 pub mod OwnReading
+mod WaitingLaws

@@ -1,17 +1,24 @@
 -- What a pass has handed out.
-use Rattle.std.proofs.Common.{◌≡◌, ℕ, zero, suc, ◌+◌, ◌≤◌, List, [], ◌∷◌, ◌++◌, length, length-append, take, drop, take_all, ap, sym, ◌∙◌, arith}
+use Rattle.std.proofs.Common.{◌≡◌, ℕ, zero, suc, ◌+◌, ◌≤◌, List, [], ◌∷◌, ◌++◌, length, length-append, take, drop, take_all, ap, sym, subst, ◌∙◌, arith}
 use Rattle.std.proofs.Math.Seq.{take-add}
 use Rattle.std.proofs.lemmas.List.{take-append-le, length-drop, length-take-le}
 use mathlib.Core.List.{IsPrefix}
 use Rattle.pc_types.specs.declared.Entry.{Entry}
 use Rattle.pc_model.specs.History.{History, log_of}
 use Rattle.pc_model.specs.Calls.{IsBeginning}
+use Rattle.pc_model.specs.Replies.{Setting, IsLegalHistory}
 use Rattle.pc_model.proofs.BeginningLaws.{logs_grow}
+use Rattle.pc_engine.specs.Store.{Store, setting_of}
+use Rattle.pc_engine.specs.Stands.{Stands}
 
 taken_within : {X : Type 0} (n : ℕ) (xs : List X) → length (take n xs) ≤ length xs
 taken_within zero xs = omega arith
 taken_within (suc n) [] = omega arith
 taken_within (suc n) (x ∷ xs) = let t = taken_within n xs in omega (arith, t)
+
+-- what the latch's world stands after is legal, and so is what a witness of it has seen
+pub legal_now : (st : Setting) (w : Store) (hist now : History) → Stands w hist → setting_of w ≡ st → now ≡ hist → IsLegalHistory st now
+legal_now st w hist now stands is sees = subst (IsLegalHistory st) (sym sees) (subst (λ (s : Setting). IsLegalHistory s hist) is stands.legal)
 
 -- the log has grown
 pub still_within : (n : ℕ) (seen hist : History) → IsBeginning seen hist → n ≤ length (log_of seen) → n ≤ length (log_of hist)

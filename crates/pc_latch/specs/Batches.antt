@@ -1,7 +1,9 @@
 -- The entries that are handed out at once.
-use Rattle.std.specs.Prelude.{◌≡◌, ℕ, zero, suc, ◌-◌, List, [], ◌∷◌, ◌++◌, length}
+use Rattle.std.specs.Prelude.{◌≡◌, ◌≤◌, ℕ, zero, suc, ◌-◌, List, [], ◌∷◌, ◌++◌, length}
 use Rattle.std.specs.List.{flat_map}
 use Rattle.pc_types.specs.declared.Entry.{Entry}
+use Rattle.pc_model.specs.History.{History, log_of}
+use Rattle.pc_model.specs.Replies.{Setting, IsLegalHistory}
 use Rattle.pc_log.specs.Texts.{entry_text}
 
 -- The first of the entries, as long as there is room for so many bytes of text: the last one may go beyond it.
@@ -9,6 +11,10 @@ abbrev pub batch : ℕ → List Entry → List Entry
 batch zero entries = []
 batch (suc room) [] = []
 batch (suc room) (entry ∷ entries) = entry ∷ batch (suc room - length (entry_text entry)) entries
+
+-- after some legal history the log has so many entries, or more
+abbrev pub HasEntries : Setting → ℕ → Type 0
+HasEntries st number = (history : History) × IsLegalHistory st history × (number ≤ length (log_of history))
 
 -- These are the texts of the next entries, so many, which the pass has then handed out behind those that it had: a batch of the entries
 -- for which there is room for so many bytes.

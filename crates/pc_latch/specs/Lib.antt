@@ -2,3 +2,4 @@ pub mod Cycles
 pub mod Tickets
 pub mod Batches
 pub mod OwnReads
+pub mod Waiting

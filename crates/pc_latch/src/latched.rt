@@ -1,5 +1,5 @@
 //! What lies under the latch: the world, and the keeper of its history.
-ghost use Rattle.std.specs.Prelude.{◌≡◌, ◌↔◌, ◌∷◌, ◌++◌, [], true, false, Err, Some, None, IfOk, IfErr, OnErr, length, drop};
+ghost use Rattle.std.specs.Prelude.{◌≡◌, ◌≤◌, ◌↔◌, ◌∷◌, ◌++◌, [], true, false, Err, Some, None, IfOk, IfErr, OnErr, length, drop};
 ghost use mathlib.Core.List.{IsPrefix};
 ghost use Rattle.pc_types.specs.declared.Event.TheVariants.{Take};
 ghost use Rattle.pc_model.specs.Files.{file_at, shelf};
@@ -11,11 +11,12 @@ ghost use Rattle.pc_model.specs.ReplyKinds.{IsReplyTo};
 ghost use Rattle.pc_model.specs.SessionLaws.{IsNoJoin};
 ghost use Rattle.pc_engine.specs.Asking.{AsksOfOpen};
 ghost use Rattle.pc_engine.specs.Sessions.{writes_in};
-ghost use Rattle.pc_engine.specs.Store.{active, setting_of};
+ghost use Rattle.pc_engine.specs.Store.{active_of, setting_of};
 ghost use Rattle.pc_engine.specs.Stands.{Stands, Follows};
 ghost use Rattle.pc_tie.specs.Seats.{MovesOn};
 ghost use Rattle.pc_latch.specs.OwnReads.{reads_one_of};
-ghost use Rattle.pc_latch.specs.Batches.{batch, IsNext};
+ghost use Rattle.pc_latch.specs.Batches.{batch, HasEntries, IsNext};
+ghost use Rattle.pc_latch.specs.Waiting.{waits_after};
 ghost use Rattle.pc_latch.specs.Cycles.{next_event, IsCalled, IsAdvance, IsTakeCalled};
 ghost use Rattle.pc_model.specs.Sets as set;
 ghost use Rattle.pc_latch.specs.Tickets.{HasNoFile, IsNoTicket};
@@ -78,7 +79,7 @@ fn next_event(phase: Phase) -> Event
 
 // Whether the event reads a key that the session's open transaction has written.
 fn reads_own_write(world: &World, session: SessionNo, event: &Event) -> bool
-    ensures { result ≡ reads_one_of (writes_in (active world.now session)) event.now }
+    ensures { result ≡ reads_one_of (writes_in (active_of world.now session)) event.now }
 {
     match event {
         Event::Get(_, key) => world.has_written(session, key),
@@ -127,8 +128,11 @@ impl<N: StoreName> Latched<N> {
         own_write
     }
 
-    /// Whether a request of the session waits for a lock.
-    pub fn is_waiting(&self, session: SessionNo) -> bool {
+    /// Whether a request of the session's open transaction waits for a lock; false where it has none open, and where no session
+    /// has this number.
+    pub fn is_waiting(&self, session: SessionNo) -> bool
+        ensures { result ≡ waits_after N.name.setting session self.now }
+    {
         self.world.is_waiting(session)
     }
 
@@ -213,9 +217,21 @@ impl<N: StoreName> Latched<N> {
 
     /// How many entries the log has, at most 16,777,216.
     pub fn log_len(&self) -> u32
-        ensures { result ≡ length (log_of self.now) }
+        ensures len { result ≡ length (log_of self.now) }
+        ensures legal { HasEntries N.name.setting result }
     {
         self.world.log().len() as u32
+    }
+
+    /// How many entries the log has, for the checkpointer: no fewer than it has seen.
+    pub fn log_len_since(&mut self, tie: &Tie<N>, checkpointer: &mut CheckpointerSeat<N>) -> u32
+        ensures same { (self.new ≡ self.old) × (checkpointer.new ≡ checkpointer.old) }
+        ensures len { result ≡ length (log_of self.old) }
+        ensures seen { length (log_of checkpointer.old) ≤ result }
+        ensures legal { HasEntries N.name.setting result }
+    {
+        self.keeper.compare_own(tie, checkpointer);
+        self.log_len()
     }
 
     /// The world, which stands after the history, and the keeper of the history.

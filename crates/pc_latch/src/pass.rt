@@ -4,7 +4,8 @@ ghost use Rattle.std.specs.List.{flat_map};
 ghost use Rattle.pc_model.specs.History.{log_of};
 ghost use Rattle.pc_kept_log.specs.Logs.{entries_of};
 ghost use Rattle.pc_log.specs.Texts.{entry_text};
-ghost use Rattle.pc_latch.specs.Batches.{batch};
+ghost use Rattle.pc_model.specs.Replies.{IsLegalHistory};
+ghost use Rattle.pc_latch.specs.Batches.{batch, HasEntries};
 
 use pc_kept_log::Log;
 use pc_tie::{Keeper, StoreName, Tie, Witness};
@@ -25,18 +26,20 @@ impl<N: StoreName> Model for LogPass<N> {
     ghost use Rattle.pc_types.specs.declared.Entry.{Entry};
     ghost use Rattle.pc_types.specs.declared.limits.TheConstants.{MOST_LOG_ENTRIES};
     ghost use Rattle.pc_model.specs.History.{log_of};
+    ghost use Rattle.pc_model.specs.Replies.{IsLegalHistory};
 
     ghost Value = { List Entry };
 
     ghost view = { λ p. take p.count (log_of p.witness) };
 
-    ghost invariant = { λ p. (p.count ≤ length (log_of p.witness)) × (p.count ≤ MOST_LOG_ENTRIES) × (p.run ≡ N.name.setting.run) };
+    ghost invariant = { λ p. (p.count ≤ length (log_of p.witness)) × (p.count ≤ MOST_LOG_ENTRIES) × (p.run ≡ N.name.setting.run) × IsLegalHistory N.name.setting p.witness };
 }
 
 impl<N: StoreName> LogPass<N> {
     /// The pass of a new store, of which nothing was handed out.
     pub fn new(run: u64, witness: Witness<N>) -> LogPass<N>
         requires run { run ≡ N.name.setting.run }
+        requires legal { IsLegalHistory N.name.setting witness }
         ensures { result ≡ [] }
     {
         LogPass {
@@ -56,6 +59,7 @@ impl<N: StoreName> LogPass<N> {
     /// How many entries were handed out, at most 16,777,216.
     pub fn len(&self) -> usize
         ensures len { result ≡ length self.now }
+        ensures legal { HasEntries N.name.setting result }
         ensures limit { result ≤ MOST_LOG_ENTRIES }
     {
         self.count
@@ -63,7 +67,8 @@ impl<N: StoreName> LogPass<N> {
 
     // Its witness sees the keeper's history: what was handed out are the first entries of that one's log.
     pub(crate) fn renew(&mut self, tie: &Tie<N>, keeper: &mut Keeper<N>)
-        requires { keeper.old.guests ≡ [] }
+        requires alone { keeper.old.guests ≡ [] }
+        requires legal { IsLegalHistory N.name.setting keeper.old.history }
         ensures same { self.new ≡ self.old }
         ensures keeper { keeper.new ≡ keeper.old }
         ensures first { self.old ≡ take (length self.old) (log_of keeper.old.history) }

@@ -1,4 +1,4 @@
-use Rattle.std.proofs.Common.{◌≡◌, ◌-◌, length, length-drop, drop, ap, ◌∙◌, arith}
+use Rattle.std.proofs.Common.{◌≡◌, ◌-◌, length, length-drop, drop, arith}
 use Rattle.pc_kept_log.specs.Logs.{entries_of}
 use Rattle.pc_log.specs.Texts.{entry_text}
 use Rattle.pc_latch.proofs.Batching.{batch_more, one_there, behind_first}

@@ -1,8 +1,8 @@
-use Rattle.std.proofs.Common.{◌≡◌, ◌+◌, ◌≤◌, ◌++◌, List, length, take, drop, sym, refl, ap, ◌∙◌, subst, arith}
+use Rattle.std.proofs.Common.{◌+◌, ◌≤◌, ◌++◌, List, length, take, drop, sym, refl, ap, ◌∙◌, subst, arith}
 use Rattle.pc_types.specs.declared.Entry.{Entry}
 use Rattle.pc_model.specs.History.{History, log_of}
 use Rattle.pc_kept_log.specs.Logs.{entries_of}
-use Rattle.pc_latch.proofs.Passing.{still_within, still_first, more_within, more_listed, first_length}
+use Rattle.pc_latch.proofs.Passing.{legal_now, still_within, still_first, more_listed, first_length}
 use Rattle.pc_latch.specs.Batches.{batch}
 use Rattle.pc_latch.proofs.Batching.{batch_again, batch_behind, counted, next_first}
 use Rattle.pc_latch.proofs.latched.Latched.log_next.Goals as goal
@@ -17,7 +17,7 @@ pub invariant_of-pass : goal.invariant_of-pass
 invariant_of-pass g c =
     let p = c.pass.inside in
     let w = c.renew.ensures in
-    (subst (λ (h : History). p.count ≤ length (log_of h)) (sym w.sees) (still_within p.count p.witness c.self.inside.keeper.history w.had_seen c.pass.invariant.0), c.pass.invariant.1, c.pass.invariant.2)
+    (subst (λ (h : History). p.count ≤ length (log_of h)) (sym w.sees) (still_within p.count p.witness c.self.inside.keeper.history w.had_seen c.pass.invariant.0), c.pass.invariant.1, c.pass.invariant.2, legal_now g.N.StoreName.name.setting c.self.inside.world c.self.inside.keeper.history c.renew.new.witness c.self.invariant.1 c.self.invariant.2 w.sees)
 
 pub returns-in-Err-clause-same : goal.returns-in-Err-clause-same
 returns-in-Err-clause-same g c =
@@ -31,7 +31,7 @@ invariant_of-pass-2 g c =
     let w = c.renew.ensures in
     let all = entries_of c.log.result.now in
     let grown = ap length (c.log.ensures.log ∙ c.self.invariant.1.parts.log) in
-    (subst (λ (h : History). p.count + c.in-Ok.next.count ≤ length (log_of h)) (sym w.sees) (omega (arith, c.in-Ok.ensures.within, grown)), omega (arith, c.in-Ok.ensures.within, c.log.ensures.limit), c.pass.invariant.2)
+    (subst (λ (h : History). p.count + c.in-Ok.next.count ≤ length (log_of h)) (sym w.sees) (omega (arith, c.in-Ok.ensures.within, grown)), omega (arith, c.in-Ok.ensures.within, c.log.ensures.limit), c.pass.invariant.2, legal_now g.N.StoreName.name.setting c.self.inside.world c.self.inside.keeper.history c.renew.new.witness c.self.invariant.1 c.self.invariant.2 w.sees)
 
 pub returns-clause-list : goal.returns-clause-list
 returns-clause-list g c =
