@@ -51,10 +51,7 @@ impl<'a> Lacking<'a> {
                 b" ends before the token of the recovered point: none of its ",
                 lines,
             )?;
-            lines.put_all(&[
-                buffer.format(unused).as_bytes(),
-                b" entries is used\n",
-            ])?;
+            lines.put_all(&[buffer.format(unused).as_bytes(), b" entries is used\n"])?;
         }
         Ok(())
     }
