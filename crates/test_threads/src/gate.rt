@@ -1,5 +1,5 @@
 //! The gate at which threads stand until others have come to their places.
-use crate::signs::{Sign, SignCounts, sign_of};
+use crate::signs::{Sign, SignCounts, place_behind, sign_of};
 use pc_types::{Gate, GatePlace, Refusal, SessionNo};
 use pc_workers::ClientGate;
 use std::sync::atomic::{AtomicBool, AtomicU64, Ordering};
@@ -17,6 +17,7 @@ pub type Stop = (Visit, Visit);
 pub struct Meeting {
     stops: &'static [Stop],
     alone: &'static [Visit],
+    idle: u8,
     counts: SignCounts,
     standing: AtomicU64,
     has_failed: AtomicBool,
@@ -29,11 +30,12 @@ const TURNS: u32 = 10_000_000;
 const MORE_TURNS: u32 = 1000;
 
 impl Meeting {
-    /// Nobody has come yet.
-    pub fn new(stops: &'static [Stop], alone: &'static [Visit]) -> Meeting {
+    /// Nobody has come yet; sessions are counted from behind so many.
+    pub fn new(stops: &'static [Stop], alone: &'static [Visit], idle: u8) -> Meeting {
         Meeting {
             stops,
             alone,
+            idle,
             counts: SignCounts::new(),
             standing: AtomicU64::new(0),
             has_failed: AtomicBool::new(false),
@@ -86,7 +88,7 @@ impl Meeting {
 impl Gate for Meeting {
     fn pass(&self, place: GatePlace) {
         thread::yield_now();
-        if let Some(sign) = sign_of(place) {
+        if let Some(sign) = sign_of(place_behind(self.idle, place)) {
             self.come(sign);
         }
     }

@@ -37,9 +37,12 @@ impl Work {
         }
     }
 
-    /// The jobs of each session.
-    pub fn jobs(&self, alloc: Global) -> Result<Vec<Vec<Job>>, Refusal> {
+    /// The jobs of each session, so many of which have none before the first one that has some.
+    pub fn jobs(&self, alloc: Global, idle: u8) -> Result<Vec<Vec<Job>>, Refusal> {
         let mut all = Vec::new(alloc);
+        for _ in 0..idle {
+            all.push(Vec::new(alloc))?;
+        }
         for session in 0..self.sessions() {
             all.push(self.jobs_of(alloc, session)?)?;
         }

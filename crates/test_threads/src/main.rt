@@ -85,7 +85,7 @@ fn meet_by<H: Threads + Wait + Sync>(
     seed: RandomState,
     plan: &Plan,
 ) -> Result<Left, Refusal> {
-    let opened = open(alloc, plan.work.sessions(), seed)?;
+    let opened = open(alloc, plan.sessions(), seed)?;
     meet::<Brand, _>(threads, alloc, opened, plan)
 }
 

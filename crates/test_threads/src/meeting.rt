@@ -233,8 +233,8 @@ pub fn meet<N: StoreName + Send + Sync, R: Threads + Wait + Sync>(
 ) -> Result<Left, Refusal>
     requires { opened ≡ N.name }
 {
-    let jobs = plan.work.jobs(alloc)?;
-    let gate = Meeting::new(plan.stops, plan.alone);
+    let jobs = plan.work.jobs(alloc, plan.idle)?;
+    let gate = Meeting::new(plan.stops, plan.alone, plan.idle);
     let done = Done::new();
     let mut text = TextOfLog::new(alloc);
     let (shared, mut sessions, mut seat, mut pass) = opened.named::<N>()?;

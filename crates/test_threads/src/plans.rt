@@ -14,6 +14,8 @@ pub struct Plan {
     /// taken, it waits for the end.
     pub joins: u32,
     pub work: Work,
+    /// How many sessions do nothing: the work is that of those behind them, and signs count from there.
+    pub idle: u8,
     /// How many entries a client may leave unwritten behind its commit; where none is given it never waits for the log.
     pub lag: Option<u32>,
     pub stops: &'static [Stop],
@@ -27,10 +29,18 @@ const IDLE: Plan = Plan {
     points: 0,
     joins: 0,
     work: Work::Listed(&[]),
+    idle: 0,
     lag: None,
     stops: &[],
     alone: &[],
 };
+
+impl Plan {
+    /// How many sessions there are.
+    pub fn sessions(&self) -> u8 {
+        self.work.sessions().saturating_add(self.idle)
+    }
+}
 
 // What is put while another one waits, each in a transaction of its own.
 const SIXTY: [Asks; 60] = [&[Put(b"c", 3)]; 60];
@@ -42,7 +52,7 @@ const SIXTY_ONE: [Asks; 61] = [&[Put(b"c", 3)]; 61];
 const SIXTY_ADDS: [Asks; 60] = [&[Add(b"c", 3)]; 60];
 
 /// All of them.
-pub const PLANS: [Plan; 15] = [
+pub const PLANS: [Plan; 17] = [
     // Session 2 commits c before the point is begun. Session 1 begins once the phase is resolve, and stands with a locked until
     // session 2, which begins again only then, has committed b, and a key of the point was taken.
     Plan {
@@ -188,6 +198,35 @@ pub const PLANS: [Plan; 15] = [
             ((SecondStarts, 2), (FirstCommits, 1)),
             ((ThirdStarts, 61), (FirstCommits, 1)),
         ],
+        ..IDLE
+    },
+    // The same of the last three sessions that there may be: the last one is the one that waits.
+    Plan {
+        name: "an abort wakes the last one",
+        work: Work::Listed(&[
+            &SIXTY_ONE,
+            &[&[Put(b"k", 2), Put(b"a", 2)]],
+            &[&[Put(b"a", 1), Put(b"k", 1)]],
+        ]),
+        idle: 61,
+        stops: &[
+            ((SecondStarts, 1), (ThirdSteps, 1)),
+            ((ThirdSteps, 1), (SecondSteps, 1)),
+            ((FirstStarts, 1), (SecondSteps, 1)),
+            ((SecondSteps, 1), (FirstCommits, 60)),
+            ((SecondStarts, 2), (ThirdCommits, 1)),
+            ((FirstStarts, 61), (ThirdCommits, 1)),
+        ],
+        ..IDLE
+    },
+    // Session 1 commits twice and may leave no entry unwritten. The logger stands before it writes until session 1 waits for it;
+    // session 1 goes on from its first commit only once the logger has gone on.
+    Plan {
+        name: "the log holds each commit",
+        work: Work::Listed(&[&[&[Put(b"a", 1)], &[Put(b"a", 2)]]]),
+        lag: Some(0),
+        stops: &[((LoggerIsToWrite, 1), (FirstIsBehind, 1))],
+        alone: &[(FirstCommits, 1)],
         ..IDLE
     },
     // Session 1 commits three times and may leave one entry unwritten. The logger stands before it writes until session 1 waits for

@@ -3,8 +3,8 @@ use pc_types::{GatePlace, Phase, SessionNo};
 use std::array;
 use std::sync::atomic::{AtomicU64, Ordering};
 
-/// A place that is counted: of sessions 1 and 2 the beginnings of transactions, their first operations and their commits; of
-/// session 3 the beginnings and the commits; that session 1 waits for the log, and that the logger is to write; of the checkpointer
+/// A place that is counted: of sessions 1 to 3 the beginnings of transactions, their first operations and their commits; that
+/// session 1 waits for the log, and that the logger is to write; of the checkpointer
 /// some of its phases, that some are due, and its keys; how often the first collapser holds two files, and that it has ended; and
 /// that the end is marked.
 #[derive(Clone, Copy, Debug, PartialEq, Eq)]
@@ -14,6 +14,7 @@ pub enum Sign {
     ThirdStarts,
     FirstSteps,
     SecondSteps,
+    ThirdSteps,
     FirstCommits,
     SecondCommits,
     ThirdCommits,
@@ -30,6 +31,22 @@ pub enum Sign {
     EndIsMarked,
 }
 
+// The number of a session, counted from behind so many others; 0 or more than there are where it is one of these.
+fn behind(idle: u8, session: SessionNo) -> SessionNo {
+    SessionNo(session.0.wrapping_sub(u32::from(idle)))
+}
+
+/// The place, where sessions are counted from behind so many.
+pub fn place_behind(idle: u8, place: GatePlace) -> GatePlace {
+    match place {
+        GatePlace::Start(session) => GatePlace::Start(behind(idle, session)),
+        GatePlace::Step(session, number) => GatePlace::Step(behind(idle, session), number),
+        GatePlace::Committed(session) => GatePlace::Committed(behind(idle, session)),
+        GatePlace::Behind(session) => GatePlace::Behind(behind(idle, session)),
+        other => other,
+    }
+}
+
 /// The sign of the place, where it is counted.
 pub fn sign_of(place: GatePlace) -> Option<Sign> {
     Some(match place {
@@ -38,6 +55,7 @@ pub fn sign_of(place: GatePlace) -> Option<Sign> {
         GatePlace::Start(SessionNo(3)) => Sign::ThirdStarts,
         GatePlace::Step(SessionNo(1), 1) => Sign::FirstSteps,
         GatePlace::Step(SessionNo(2), 1) => Sign::SecondSteps,
+        GatePlace::Step(SessionNo(3), 1) => Sign::ThirdSteps,
         GatePlace::Committed(SessionNo(1)) => Sign::FirstCommits,
         GatePlace::Committed(SessionNo(2)) => Sign::SecondCommits,
         GatePlace::Committed(SessionNo(3)) => Sign::ThirdCommits,
@@ -57,7 +75,7 @@ pub fn sign_of(place: GatePlace) -> Option<Sign> {
 /// How often each was passed.
 #[derive(Drop)]
 pub struct SignCounts {
-    counts: [AtomicU64; 19],
+    counts: [AtomicU64; 20],
 }
 
 impl SignCounts {
