@@ -2,3 +2,4 @@ mod Calling
 mod Keeping
 mod Lending
 mod Settling
+mod SleepingLaws

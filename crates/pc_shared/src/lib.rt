@@ -8,6 +8,7 @@ mod logged;
 mod session;
 mod store;
 mod waits;
+mod written;
 
 pub use closing::Closed;
 pub use ending::{EndMark, Marked};

@@ -1,12 +1,15 @@
 //! How far a store's log is written, and who waits for that.
-ghost use Rattle.std.specs.Prelude.{◌≤◌, IfSome};
+ghost use Rattle.std.specs.Prelude.{◌≡◌, ◌≤◌, true, IfSome};
 ghost use Rattle.pc_log.specs.Texts.{log_text};
+ghost use Rattle.pc_latch.specs.Batches.{HasEntries};
 ghost use Rattle.pc_shared.specs.Written.{HasGoneOut};
 
 use crate::store::{Shared, pause};
+use crate::written::Written;
 use pc_latch::LogPass;
 use pc_tie::StoreName;
 use pc_types::{Lsn, Tally};
+use std::alloc::{AllocError, Global};
 use std::io;
 use std::sync::atomic::{AtomicBool, AtomicU64, Ordering};
 use std::sync::{Condvar, Mutex, Wait};
@@ -18,8 +21,8 @@ const PAUSE: u32 = 8;
 
 /// How many entries of the log are written, whether that stays, and who waits for more.
 #[derive(Drop)]
-pub(crate) struct Logged {
-    entries: AtomicU64,
+pub(crate) struct Logged<N: StoreName> {
+    written: Written<N>,
     has_ended: AtomicBool,
     waiting: AtomicU64,
     asleep: Mutex<Asleep>,
@@ -30,20 +33,17 @@ pub(crate) struct Logged {
 #[derive(Drop)]
 struct Asleep;
 
-impl Logged {
+impl<N: StoreName> Logged<N> {
     /// Nothing is written, and nobody waits.
-    pub(crate) fn new() -> Logged {
-        Logged {
-            entries: AtomicU64::new(0),
+    pub(crate) fn new(alloc: Global) -> Result<Logged<N>, AllocError> {
+        let written = Written::new(alloc)?;
+        Ok(Logged {
+            written,
             has_ended: AtomicBool::new(false),
             waiting: AtomicU64::new(0),
             asleep: Mutex::new(Asleep),
             told: Condvar::new(),
-        }
-    }
-
-    fn entries(&self) -> u64 {
-        self.entries.load(Ordering::SeqCst)
+        })
     }
 
     fn has_ended(&self) -> bool {
@@ -54,10 +54,12 @@ impl Logged {
         self.waiting.load(Ordering::SeqCst) > 0
     }
 
-    // So many are written.
-    fn mark<R: Wait>(&self, rt: &R, entries: u64) {
+    // What the pass has handed out is written.
+    fn mark<R: Wait, W: io::Write>(&self, rt: &R, pass: &LogPass<N>, out: &Tally<W>)
+        requires { HasGoneOut W.contents out.now (log_text N.name.setting.run pass.now) }
+    {
         let asleep = self.asleep.lock(rt);
-        self.entries.store(entries, Ordering::SeqCst);
+        self.written.mark(pass, out);
         drop(asleep);
         self.wake();
     }
@@ -78,7 +80,7 @@ impl Logged {
 
     // Waits until so many are written, and gives how many are.
     fn until<R: Wait>(&self, rt: &R, entries: u64) -> Option<u64>
-        ensures { IfSome result (λ written. entries ≤ written) }
+        ensures { IfSome result (λ written. (entries ≤ written) × HasEntries N.name.setting written) }
     {
         self.waiting.fetch_add(1, Ordering::SeqCst);
         self.look(entries);
@@ -90,7 +92,7 @@ impl Logged {
     // Looks for so many, a few times.
     fn look(&self, entries: u64) {
         for _ in 0..LOOKS {
-            if entries <= self.entries() || self.has_ended() {
+            if entries <= self.written.get() || self.has_ended() {
                 return;
             }
             pause(PAUSE);
@@ -99,11 +101,11 @@ impl Logged {
 
     // Sleeps until so many are written.
     fn sleep<R: Wait>(&self, rt: &R, entries: u64) -> Option<u64>
-        ensures { IfSome result (λ written. entries ≤ written) }
+        ensures { IfSome result (λ written. (entries ≤ written) × HasEntries N.name.setting written) }
     {
         let mut asleep = self.asleep.lock(rt);
         for _ in rt.forever() {
-            let written = self.entries();
+            let written = self.written.get();
             if entries <= written {
                 return Some(written);
             }
@@ -122,8 +124,7 @@ impl<N: StoreName> Shared<N> {
     pub fn mark_logged<R: Wait, W: io::Write>(&self, rt: &R, pass: &LogPass<N>, out: &Tally<W>)
         requires { HasGoneOut W.contents out.now (log_text N.name.setting.run pass.now) }
     {
-        let _ = out.failures();
-        self.logged.mark(rt, pass.len() as u64);
+        self.logged.mark(rt, pass, out);
     }
 
     /// Marks that no more entries will be written. Who waits for one goes on.
@@ -137,8 +138,10 @@ impl<N: StoreName> Shared<N> {
     }
 
     /// Whether the entry of this number was marked as written.
-    pub fn is_logged(&self, number: Lsn) -> bool {
-        u64::from(number.0) <= self.logged.entries()
+    pub fn is_logged(&self, number: Lsn) -> bool
+        ensures { result ≡ true → HasEntries N.name.setting number }
+    {
+        u64::from(number.0) <= self.logged.written.get()
     }
 
     /// Whether somebody waits for an entry to be written.
@@ -149,7 +152,7 @@ impl<N: StoreName> Shared<N> {
     /// Waits until the entry of this number was marked as written, and gives how many then are; nothing where it wasn't, and no
     /// more will be.
     pub fn until_logged<R: Wait>(&self, rt: &R, number: Lsn) -> Option<u64>
-        ensures { IfSome result (λ written. number ≤ written) }
+        ensures { IfSome result (λ written. (number ≤ written) × HasEntries N.name.setting written) }
     {
         self.logged.until(rt, u64::from(number.0))
     }

@@ -1,5 +1,5 @@
 //! The store that threads share.
-ghost use Rattle.std.specs.Prelude.{◌≡◌, ◌≢◌, ◌≤◌, ◌<◌, ◌⊎◌, ◌++◌, [], true, false, Some, Err, length, IfOk, IfErr, IfSome, OnErr, All, MatchBool};
+ghost use Rattle.std.specs.Prelude.{◌≡◌, ◌≢◌, ◌≤◌, ◌<◌, ◌⊎◌, ◌↔◌, ◌++◌, [], true, false, Some, Err, length, IfOk, IfErr, IfSome, OnErr, All, MatchBool};
 ghost use Rattle.pc_model.specs.FewWrites.{HasFewWrites};
 ghost use Rattle.pc_model.specs.Files.{file_at, shelf};
 ghost use Rattle.pc_model.specs.Maps.{len};
@@ -12,15 +12,17 @@ ghost use Rattle.pc_engine.specs.Runs.{starting};
 ghost use Rattle.pc_engine.specs.Stands.{Stands};
 ghost use Rattle.pc_engine.specs.Store.{setting_of};
 ghost use Rattle.pc_tie.specs.Seats.{MovesOn};
-ghost use Rattle.pc_latch.specs.Batches.{IsNext};
+ghost use Rattle.pc_latch.specs.Batches.{HasEntries, IsNext};
 ghost use Rattle.pc_latch.specs.Cycles.{IsAdvance, IsTakeCalled};
-ghost use Rattle.pc_model.specs.History.{History, is_open};
+ghost use Rattle.pc_model.specs.History.{History, is_open, log_of};
 ghost use Rattle.pc_model.specs.Receipts.{own_of};
 ghost use Rattle.pc_latch.specs.OwnReads.{reads_one_of};
 ghost use Rattle.pc_model.specs.Sets as set;
 ghost use Rattle.pc_latch.specs.Tickets.{HasNoFile, IsNoTicket};
 ghost use Rattle.pc_shared.specs.Asked.{is_wait};
+ghost use Rattle.pc_shared.specs.Granted.{HasGranted};
 ghost use Rattle.pc_shared.specs.Sitters.{new_sitters, IsLeftByStore, AreSittersApart, HasAll, LacksOne};
+ghost use Rattle.pc_shared.specs.Waking.{woken_by, noted};
 
 use crate::closing::{Closed, close};
 use crate::logged::Logged;
@@ -82,6 +84,7 @@ impl Opened {
         requires sessions { (1 ≤ sessions) × (sessions ≤ MOST_SESSIONS) }
         requires capacity { (1 ≤ capacity) × (capacity ≤ MOST_KEYS) }
         ensures setting { IfOk result (λ o. o.setting ≡ starting base sessions capacity) }
+        ensures full { capacity < len base.pairs → result ≡ Err Refusal.Full }
         ensures refusals { IfErr result (λ e. ((e ≡ Refusal.Full) × (capacity < len base.pairs)) ⊎ (e ≡ Refusal.OutOfMemory)) }
     {
         let world = World::new(alloc, base, sessions, capacity, seed)?;
@@ -111,6 +114,7 @@ impl Opened {
             world,
             count,
         } = self;
+        let logged = Logged::new(alloc)?;
         let (tie, checkpointer, mut dealer) = tie.named::<N>();
         let mut sessions = Vec::new(alloc);
         for _ in 0..count {
@@ -132,7 +136,7 @@ impl Opened {
             committed: Condvar::new(),
             repeating: Mutex::new(Turn),
             found_taken: AtomicU64::new(0),
-            logged: Logged::new(),
+            logged,
             end: OnceLock::new(),
             count,
         };
@@ -154,7 +158,7 @@ pub struct Shared<N: StoreName> {
     repeating: Mutex<Turn>,
     // How often somebody has found the latch taken.
     found_taken: AtomicU64,
-    pub(crate) logged: Logged,
+    pub(crate) logged: Logged<N>,
     // The end, once it is marked.
     pub(crate) end: OnceLock<Milestone<N>>,
     pub(crate) count: u8,
@@ -185,16 +189,23 @@ impl<N: StoreName> UnderLatch<N> {
     }
 
     // Notes the reply, and says who is to be woken: those who wait for locks only where a request of one of them was granted.
-    fn note(&mut self, reply: &Reply) -> Woken {
+    fn note(&mut self, reply: &Reply) -> Woken
+        ensures latched { self.new.latched ≡ self.old.latched }
+        ensures noted { self.new.waits ≡ noted self.old.waits reply.now }
+        ensures woken { result ≡ record (woken_by self.old.waits reply.now) { for_locks = result.for_locks } }
+        ensures locks { (result.for_locks ≡ true) ↔ (((woken_by self.old.waits reply.now).for_locks ≡ true) × HasGranted N.name.setting self.old.latched self.old.waits.for_locks) }
+    {
         let mut woken = self.waits.note(reply);
         woken.for_locks = woken.for_locks && self.has_granted();
         woken
     }
 
     // Whether the request of a session whose call sleeps waits no more.
-    fn has_granted(&self) -> bool {
-        for number in 1..=MOST_SESSIONS {
-            let session = SessionNo(u32::from(number));
+    fn has_granted(&self) -> bool
+        ensures { (result ≡ true) ↔ HasGranted N.name.setting self.now.latched self.now.waits.for_locks }
+    {
+        for place in 0..MOST_SESSIONS {
+            let session = SessionNo(u32::from(place) + 1);
             if self.waits.for_locks.has(session) && !self.latched.is_waiting(session) {
                 return true;
             }
@@ -470,14 +481,27 @@ impl<N: StoreName> Shared<N> {
     }
 
     /// The number of the log's last entry, 0 where it has none.
-    pub fn last_entry<R: Wait>(&self, rt: &R) -> Lsn {
+    pub fn last_entry<R: Wait>(&self, rt: &R) -> Lsn
+        ensures { HasEntries N.name.setting result }
+    {
         Lsn(self.get_latch(rt).latched.log_len())
+    }
+
+    /// The number of the log's last entry, 0 where it has none, for the checkpointer: no less than that of the last entry that it
+    /// has seen.
+    pub fn last_entry_since<R: Wait>(&self, rt: &R, checkpointer: &mut CheckpointerSeat<N>) -> Lsn
+        ensures same { checkpointer.new ≡ checkpointer.old }
+        ensures seen { length (log_of checkpointer.old) ≤ result }
+        ensures legal { HasEntries N.name.setting result }
+    {
+        let mut held = self.get_latch(rt);
+        Lsn(held.latched.log_len_since(&self.tie, checkpointer))
     }
 
     /// Waits until the log has the entry of this number, and gives the number of its last one; nothing where it hasn't, and the
     /// last commit or the end was marked.
     pub fn until_committed<R: Wait>(&self, rt: &R, number: Lsn) -> Option<Lsn>
-        ensures { IfSome result (λ last. number ≤ last) }
+        ensures { IfSome result (λ last. (number ≤ last) × HasEntries N.name.setting last) }
     {
         let mut held = self.get_latch(rt);
         for _ in rt.forever() {

@@ -1,8 +1,11 @@
 //! Who waits at a store's latch, and how often the store has changed.
-ghost use Rattle.std.specs.Prelude.{◌≡◌};
+ghost use Rattle.std.specs.Prelude.{◌≡◌, ◌↔◌, ◌==◌, ◌||◌, ◌&&◌, ◌+◌, ◌-◌, ◌^◌, not, nat_lt, min, if◌then◌else◌, ℕ, true, false};
 ghost use Rattle.pc_shared.specs.Asked.{is_wait};
+ghost use Rattle.pc_shared.specs.Sleeping.{is_number, bit_of, is_asleep};
+ghost use Rattle.pc_shared.specs.Waking.{come, is_awaited, one_more, one_less, of_news, with_news, none_due, woken_by, noted, woken_by_end};
 
 use pc_types::{Lsn, MOST_SESSIONS, Refusal, Reply, SessionNo};
+use std::marker::Model;
 
 /// What a thread may wait for, beside locks.
 #[derive(Clone, Copy, Debug, PartialEq, Eq)]
@@ -15,14 +18,16 @@ pub(crate) enum News {
 
 /// How often something has come, and how many calls wait for it.
 #[derive(Drop)]
-struct Awaited {
+pub(crate) struct Awaited {
     count: u64,
     waiting: u64,
 }
 
 impl Awaited {
     // It has not come yet, and nobody waits for it.
-    fn new() -> Awaited {
+    fn new() -> Awaited
+        ensures { (result.count ≡ 0) × (result.waiting ≡ 0) }
+    {
         Awaited {
             count: 0,
             waiting: 0,
@@ -30,40 +35,85 @@ impl Awaited {
     }
 
     // It comes once more: whether somebody waits for it.
-    fn come(&mut self) -> bool {
+    fn come(&mut self) -> bool
+        ensures come { self.new ≡ come self.old }
+        ensures awaited { result ≡ is_awaited self.old }
+    {
         self.count = self.count.wrapping_add(1);
         self.waiting > 0
+    }
+
+    // One more call waits for it.
+    fn begin_waiting(&mut self)
+        ensures { self.new ≡ one_more self.old }
+    {
+        self.waiting = self.waiting.saturating_add(1);
+    }
+
+    // One call less waits for it.
+    fn end_waiting(&mut self)
+        ensures { self.new ≡ one_less self.old }
+    {
+        self.waiting = self.waiting.saturating_sub(1);
     }
 }
 
 /// The sessions whose calls sleep until their request is granted: a bit for each number, the lowest for session 1.
 #[derive(Drop)]
-pub(crate) struct Sleepers(u64);
+pub(crate) struct Sleepers {
+    bits: u64,
+}
+
+impl Model for Sleepers {
+    ghost use Rattle.std.specs.Prelude.{ℕ};
+
+    ghost Value = { ℕ };
+
+    ghost view = { λ s. s.bits };
+}
 
 impl Sleepers {
+    // No call sleeps.
+    fn new() -> Sleepers
+        ensures { result ≡ 0 }
+    {
+        Sleepers { bits: 0 }
+    }
+
     // Its call sleeps.
-    pub(crate) fn add(&mut self, session: SessionNo) {
-        self.0 |= bit_of(session);
+    pub(crate) fn add(&mut self, session: SessionNo)
+        ensures { (s : ℕ) → is_asleep self.new s ≡ (is_asleep self.old s || (is_number session && (s == session))) }
+    {
+        self.bits |= bit_of(session);
     }
 
     // Its call sleeps no more.
-    pub(crate) fn remove(&mut self, session: SessionNo) {
-        self.0 &= !bit_of(session);
+    pub(crate) fn remove(&mut self, session: SessionNo)
+        ensures { (s : ℕ) → is_asleep self.new s ≡ (is_asleep self.old s && not (s == session)) }
+    {
+        self.bits &= !bit_of(session);
     }
 
     // Whether its call sleeps.
-    pub(crate) fn has(&self, session: SessionNo) -> bool {
-        self.0 & bit_of(session) != 0
+    pub(crate) fn has(&self, session: SessionNo) -> bool
+        ensures { result ≡ is_asleep self.now session }
+    {
+        self.bits & bit_of(session) != 0
     }
 
     // Whether no call sleeps.
-    pub(crate) fn is_empty(&self) -> bool {
-        self.0 == 0
+    pub(crate) fn is_empty(&self) -> bool
+        ensures bits { result ≡ (self.now == 0) }
+        ensures nobody { (result ≡ true) ↔ ((s : ℕ) → is_asleep self.now s ≡ false) }
+    {
+        self.bits == 0
     }
 }
 
 // The bit of the session; none where no session has this number.
-fn bit_of(session: SessionNo) -> u64 {
+fn bit_of(session: SessionNo) -> u64
+    ensures { result ≡ bit_of session }
+{
     let place = session.0.wrapping_sub(1);
     if place < u32::from(MOST_SESSIONS) {
         1 << place
@@ -116,7 +166,7 @@ impl Waits {
     // Nobody waits, and nothing has changed.
     pub(crate) fn new() -> Waits {
         Waits {
-            for_locks: Sleepers(0),
+            for_locks: Sleepers::new(),
             changes: Awaited::new(),
             phases: Awaited::new(),
             due: NONE_DUE,
@@ -124,15 +174,10 @@ impl Waits {
         }
     }
 
-    fn awaited(&mut self, news: News) -> &mut Awaited {
-        match news {
-            News::Change => &mut self.changes,
-            News::Phase => &mut self.phases,
-        }
-    }
-
     // How often it has come.
-    pub(crate) fn count(&self, news: News) -> u64 {
+    pub(crate) fn count(&self, news: News) -> u64
+        ensures { result ≡ (of_news self.now news).count }
+    {
         match news {
             News::Change => self.changes.count,
             News::Phase => self.phases.count,
@@ -140,20 +185,31 @@ impl Waits {
     }
 
     // One more call waits for it.
-    pub(crate) fn begin_waiting(&mut self, news: News) {
-        let awaited = self.awaited(news);
-        awaited.waiting = awaited.waiting.saturating_add(1);
+    pub(crate) fn begin_waiting(&mut self, news: News)
+        ensures { self.new ≡ with_news self.old news (one_more (of_news self.old news)) }
+    {
+        match news {
+            News::Change => self.changes.begin_waiting(),
+            News::Phase => self.phases.begin_waiting(),
+        }
     }
 
     // One call less waits for it.
-    pub(crate) fn end_waiting(&mut self, news: News) {
-        let awaited = self.awaited(news);
-        awaited.waiting = awaited.waiting.saturating_sub(1);
+    pub(crate) fn end_waiting(&mut self, news: News)
+        ensures { self.new ≡ with_news self.old news (one_less (of_news self.old news)) }
+    {
+        match news {
+            News::Change => self.changes.end_waiting(),
+            News::Phase => self.phases.end_waiting(),
+        }
     }
 
     // Notes the reply, and says who is to be woken: those who wait for what it tells, and, where it ends a transaction and so lets
     // locks go, those who wait for locks.
-    pub(crate) fn note(&mut self, reply: &Reply) -> Woken {
+    pub(crate) fn note(&mut self, reply: &Reply) -> Woken
+        ensures woken { result ≡ woken_by self.old reply.now }
+        ensures noted { self.new ≡ noted self.old reply.now }
+    {
         match reply {
             Reply::Wait | Reply::Refused(_) | Reply::NotYet(_) | Reply::NoneLeft => Woken::NOBODY,
             Reply::Committed(number) => Woken {
@@ -180,7 +236,10 @@ impl Waits {
     }
 
     // The end was marked, which counts as a change of the store and of its phase.
-    pub(crate) fn end(&mut self) -> Woken {
+    pub(crate) fn end(&mut self) -> Woken
+        ensures woken { result ≡ woken_by_end self.old }
+        ensures noted { self.new ≡ record self.old { changes = come self.old.changes; phases = come self.old.phases } }
+    {
         Woken {
             for_locks: false,
             for_change: self.changes.come(),
@@ -190,22 +249,31 @@ impl Waits {
     }
 
     // Marks the last commit.
-    pub(crate) fn mark_last(&mut self) {
+    pub(crate) fn mark_last(&mut self)
+        ensures { self.new ≡ record self.old { has_last = true } }
+    {
         self.has_last = true;
     }
 
     // Whether the last commit was marked.
-    pub(crate) fn is_last(&self) -> bool {
+    pub(crate) fn is_last(&self) -> bool
+        ensures { result ≡ self.now.has_last }
+    {
         self.has_last
     }
 
     // The entry of this number is waited for too.
-    pub(crate) fn await_commit(&mut self, number: u32) {
+    pub(crate) fn await_commit(&mut self, number: u32)
+        ensures { self.new ≡ record self.old { due = min self.old.due number } }
+    {
         self.due = self.due.min(number);
     }
 
     // Whether somebody waits for the commit of this number; then nobody waits any more, until it is said again.
-    fn is_due(&mut self, number: Lsn) -> bool {
+    fn is_due(&mut self, number: Lsn) -> bool
+        ensures due { result ≡ not (nat_lt number self.old.due) }
+        ensures noted { self.new ≡ record self.old { due = if nat_lt number self.old.due then self.old.due else none_due } }
+    {
         if number.0 < self.due {
             return false;
         }

@@ -1,0 +1,68 @@
+//! How many entries of a store's log are written.
+ghost use Rattle.std.specs.Prelude.{◌≡◌};
+ghost use Rattle.pc_log.specs.Texts.{log_text};
+ghost use Rattle.pc_latch.specs.Batches.{HasEntries};
+ghost use Rattle.pc_shared.specs.Written.{HasGoneOut};
+
+use atomic_table::{Play, Table, TableRule};
+use pc_latch::LogPass;
+use pc_tie::StoreName;
+use pc_types::Tally;
+use std::alloc::{AllocError, Global};
+use std::io;
+use std::marker::PhantomData;
+
+/// The rule of the number: the log has so many entries. Whoever looks at it learns that.
+pub struct CountsEntries<N: StoreName> {
+    name: PhantomData<N>,
+}
+
+impl<S, N: StoreName> TableRule<S, (), ()> for CountsEntries<N> {
+    ghost use Rattle.std.specs.Prelude.{slice_index};
+    ghost use Rattle.pc_latch.specs.Batches.{HasEntries};
+
+    ghost holds = { λ key state. HasEntries N.name.setting (slice_index state.words 0) };
+
+    ghost first = { λ key. tt };
+}
+
+impl<S, N: StoreName> Play<S, ()> for CountsEntries<N> {
+    ghost use Rattle.pc_latch.specs.Batches.{HasEntries};
+
+    ghost then = { λ step before found after. HasEntries N.name.setting found };
+}
+
+/// How many entries of a store's log are written. Only a pass whose text has gone out changes the number.
+#[derive(Drop)]
+pub(crate) struct Written<N: StoreName> {
+    table: Table<(), (), (), CountsEntries<N>, Global>,
+    ghost words: { table.shared.table_id.words ≡ 1 },
+}
+
+impl<N: StoreName> Written<N> {
+    /// None is.
+    pub(crate) fn new(alloc: Global) -> Result<Written<N>, AllocError> {
+        let (table, _seat) = Table::of_words(alloc, &[0], &())?;
+        Ok(Written { table })
+    }
+
+    /// How many are: the log has as many.
+    pub(crate) fn get(&self) -> u64
+        ensures { HasEntries N.name.setting result }
+    {
+        let (entries, _seat) = self.table.shared.load_new_seat::<CountsEntries<N>>(0);
+        entries
+    }
+
+    /// Those are that the pass has handed out, whose text has gone out to the writer.
+    pub(crate) fn mark<W: io::Write>(&self, pass: &LogPass<N>, out: &Tally<W>)
+        requires { HasGoneOut W.contents out.now (log_text N.name.setting.run pass.now) }
+    {
+        let _ = out.failures();
+        let entries = pass.len() as u64;
+        let (_before, _seat) = self
+            .table
+            .shared
+            .swap_new_seat::<CountsEntries<N>>(0, entries);
+    }
+}
