@@ -20,14 +20,14 @@ use Rattle.pc_model.specs.Maps.{get, len}
 use Rattle.pc_model.specs.Points.{AtPoint, Triples}
 use Rattle.pc_model.specs.Sets as set
 use Rattle.pc_model.specs.Sets.{Set, number_order}
-use Rattle.pc_model.specs.TripleLists.{entry_of, entries_of}
+use Rattle.pc_model.specs.TripleLists.{entry_of, entries_of, triples_of}
 use Rattle.pc_model.proofs.ContentLaws.{contains-union}
 use Rattle.pc_model.proofs.JoinLaws.{get-joined, one_key}
 use Rattle.pc_model.proofs.MapLaws.{get-empty, get-entries, get-from_list}
 use Rattle.pc_model.proofs.PairMapLaws.{tested}
 use Rattle.pc_model.proofs.PairMapLaws as pair_maps
 use Rattle.pc_model.proofs.RisingLaws.{and_of, both, lesser_below, none_below}
-use Rattle.pc_part.specs.Parts.{AreCovered, triples_of}
+use Rattle.pc_part.specs.Parts.{AreCovered}
 use Rattle.pc_merge.specs.Coming.{Coming}
 use Rattle.pc_merge.specs.Given.{HasGiven, HasTooMany, IsCauseOfAll, IsMerge, IsUnder, IsUnderAt, joined_all}
 use Rattle.pc_merge.specs.Inputs.{all_known}

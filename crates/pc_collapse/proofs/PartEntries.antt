@@ -14,10 +14,10 @@ use Rattle.pc_model.specs.Files.{File}
 use Rattle.pc_model.specs.Points.{AtPoint}
 use Rattle.pc_model.specs.Sets as set
 use Rattle.pc_model.specs.Sets.{Set, number_order}
-use Rattle.pc_model.specs.TripleLists.{entries_of}
+use Rattle.pc_model.specs.TripleLists.{entries_of, triples_of}
 use Rattle.pc_model.proofs.MapLaws.{get-entries, get-from_list, same_map}
 use Rattle.pc_model.proofs.PairMapLaws.{tested}
-use Rattle.pc_part.specs.Parts.{AreCovered, triples_of}
+use Rattle.pc_part.specs.Parts.{AreCovered}
 use Rattle.pc_merge.specs.Coming.{IsWithin}
 use Rattle.pc_merge.specs.Inputs.{all_known, known_with}
 use Rattle.pc_merge.specs.Standings.{HasFailed, standing_at}

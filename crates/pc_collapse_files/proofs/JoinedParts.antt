@@ -17,7 +17,8 @@ use Rattle.pc_model.proofs.ContentLaws.{contains-union}
 use Rattle.pc_model.proofs.MapLaws.{get-empty}
 use Rattle.pc_model.proofs.SetLaws.{same_set}
 use Rattle.pc_part.specs.declared.ranges.Range.{Range}
-use Rattle.pc_part.specs.Parts.{points_of, triples_of}
+use Rattle.pc_part.specs.Parts.{points_of}
+use Rattle.pc_model.specs.TripleLists.{triples_of}
 use Rattle.pc_merge.specs.Coming.{Coming}
 use Rattle.pc_merge.specs.Given.{IsMerge, IsUnder, IsUnderAt, joined_all}
 use Rattle.pc_stream_join.specs.Headers.{IsHeaderOfAll, points_of_all}

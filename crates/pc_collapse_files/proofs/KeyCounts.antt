@@ -13,14 +13,13 @@ use Rattle.pc_model.specs.Sets as set
 use Rattle.pc_model.specs.Sets.{Set}
 use Rattle.pc_model.specs.Database.{KeysRise, key_cmp, key_order}
 use Rattle.pc_model.specs.Points.{AtPoint, Triples, newer, later, joined, joined_entries}
-use Rattle.pc_model.specs.TripleLists.{entry_of, entries_of}
+use Rattle.pc_model.specs.TripleLists.{entry_of, entries_of, triples_of}
 use Rattle.pc_model.proofs.MapLaws.{get-entries}
 use Rattle.pc_model.proofs.SetLaws.{contains-from_list}
 use Rattle.pc_model.proofs.PairMapLaws.{tested}
 use Rattle.pc_model.proofs.PairMapLaws as pair_maps
 use Rattle.pc_model.proofs.CountLaws.{length_of_set}
 use Rattle.pc_model.proofs.JoinLaws.{get-joined}
-use Rattle.pc_part.specs.Parts.{triples_of}
 use Rattle.pc_merge.specs.Coming.{Coming}
 use Rattle.pc_merge.specs.Given.{IsUnder, IsUnderAt}
 

@@ -13,7 +13,7 @@ use Rattle.pc_types.specs.declared.Triple.{Triple}
 use Rattle.pc_model.specs.Files.{File}
 use Rattle.pc_part.specs.declared.ranges.Range.{Range}
 use Rattle.pc_part.specs.Lawful.{IsPartFile}
-use Rattle.pc_part.specs.Parts.{triples_of}
+use Rattle.pc_model.specs.TripleLists.{triples_of}
 use Rattle.pc_part.specs.Reading.{part_at}
 use Rattle.pc_merge.specs.Coming.{Coming}
 use Rattle.pc_merge.specs.Given.{IsMerge}

@@ -11,11 +11,10 @@ use Rattle.pc_types.specs.declared.Triple.{Triple}
 use Rattle.pc_model.specs.Maps as map_of
 use Rattle.pc_model.specs.Database.{key_cmp, key_order, same_bytes, KeysRise}
 use Rattle.pc_model.specs.Points.{AtPoint, Triples, later}
-use Rattle.pc_model.specs.TripleLists.{entry_of, entries_of}
+use Rattle.pc_model.specs.TripleLists.{entry_of, entries_of, triples_of}
 use Rattle.pc_model.proofs.JoinLaws.{get-joined, one_key}
 use Rattle.pc_model.proofs.MapLaws.{get-empty, get-from_list, same_map}
 use Rattle.pc_model.proofs.RisingLaws.{and_of, both, lesser_below, none_below}
-use Rattle.pc_part.specs.Parts.{triples_of}
 use Rattle.pc_merge.specs.Coming.{Coming, ended}
 use Rattle.pc_merge.specs.Drawing.{AreRests, IsRest, input_at}
 use Rattle.pc_merge.specs.Given.{HasGiven, joined_all, IsUnderAt, IsUnder, EndsAreMerges, GivenGrows, CausesStand}

@@ -8,8 +8,7 @@ use Rattle.pc_types.specs.declared.Triple.{Triple}
 use Rattle.pc_model.specs.Database.{KeysRise}
 use Rattle.pc_model.specs.Maps as map_of
 use Rattle.pc_model.specs.Points.{AtPoint, Triples, joined}
-use Rattle.pc_model.specs.TripleLists.{entries_of}
-use Rattle.pc_part.specs.Parts.{triples_of}
+use Rattle.pc_model.specs.TripleLists.{entries_of, triples_of}
 use Rattle.pc_merge.specs.Coming.{Coming}
 use Rattle.pc_merge.specs.Merging.{GivesFirst, AreEnded, IsCause, all_behind}
 

@@ -1,7 +1,8 @@
 -- Triples in a list.
 use Rattle.std.specs.Prelude.{ℕ, List, Option, map}
 use Rattle.pc_types.specs.declared.Triple.{Triple}
-use Rattle.pc_model.specs.Points.{AtPoint}
+use Rattle.pc_model.specs.Maps as map_of
+use Rattle.pc_model.specs.Points.{AtPoint, Triples}
 
 -- a triple as its key and the rest
 abbrev pub entry_of : Triple → List ℕ × AtPoint
@@ -10,6 +11,10 @@ entry_of triple = (triple.key, record { point = triple.point; content = triple.c
 -- the triples as entries of a map
 abbrev pub entries_of : List Triple → List (List ℕ × AtPoint)
 entries_of triples = map entry_of triples
+
+-- the triples of a list, by key
+abbrev pub triples_of : List Triple → Triples
+triples_of triples = map_of.from_list (entries_of triples)
 
 -- a key, and what it had at the point, as a triple of the point
 abbrev pub triple_at : ℕ → List ℕ × Option (List ℕ) → Triple

@@ -19,12 +19,12 @@ use Rattle.pc_model.specs.Sets.{Set, number_order}
 use Rattle.pc_model.specs.Database.{key_cmp, key_order, same_bytes, KeysRise}
 use Rattle.pc_model.specs.Points.{AtPoint, newer, later, joined}
 use Rattle.pc_model.specs.Files.{differs, conflict}
-use Rattle.pc_model.specs.TripleLists.{entries_of}
+use Rattle.pc_model.specs.TripleLists.{entries_of, triples_of}
 use Rattle.pc_model.specs.Replies.{is_empty}
 use Rattle.pc_model.proofs.MapLaws.{get-from_list, same_map}
 use Rattle.pc_model.proofs.PairMapLaws as pair_maps
 use Rattle.pc_model.proofs.JoinLaws.{get-joined, one_key}
-use Rattle.pc_part.specs.Parts.{AreCovered, triples_of}
+use Rattle.pc_part.specs.Parts.{AreCovered}
 use Rattle.itertools.specs.List.{by_ordering}
 use Rattle.itertools.specs.declared.either_or_both.EitherOrBoth.TheVariants.{Both, Left, Right}
 use Rattle.pc_model.specs.Merges.{gathered}

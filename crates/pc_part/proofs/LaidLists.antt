@@ -7,7 +7,7 @@ use Rattle.pc_types.specs.declared.Triple.{Triple}
 use Rattle.pc_model.specs.Maps as map_of
 use Rattle.pc_model.specs.Database.{database_of, key_cmp, key_order, KeysRise}
 use Rattle.pc_model.specs.Points.{AtPoint, laid_at, laid}
-use Rattle.pc_model.specs.TripleLists.{entries_of}
+use Rattle.pc_model.specs.TripleLists.{entries_of, triples_of}
 use Rattle.pc_model.proofs.MapLaws.{get-from_list}
 use Rattle.pc_model.proofs.PairMapLaws as pair_maps
 use Rattle.pc_model.proofs.JoinLaws.{get-laid}
@@ -15,7 +15,6 @@ use Rattle.pc_part.specs.Joins.{first_cause}
 use Rattle.itertools.specs.declared.either_or_both.EitherOrBoth.{EitherOrBoth}
 use Rattle.pc_part.specs.Layings.{laid_there, limit_causes}
 use Rattle.pc_model.specs.Merges.{gathered, merged, with_content}
-use Rattle.pc_part.specs.Parts.{triples_of}
 use Rattle.pc_model.proofs.MergeLaws.{Merges, merges, none_left, gathered_all}
 use Rattle.pc_model.proofs.MergeItemLaws.{items}
 

@@ -14,14 +14,14 @@ use Rattle.pc_model.specs.Maps as map_of
 use Rattle.pc_model.specs.Sets as set
 use Rattle.pc_model.specs.Database.{KeysRise}
 use Rattle.pc_model.specs.Files.{File}
-use Rattle.pc_model.specs.TripleLists.{entry_of, entries_of}
+use Rattle.pc_model.specs.TripleLists.{entry_of, entries_of, triples_of}
 use Rattle.pc_model.specs.Points.{AtPoint}
 use Rattle.pc_model.specs.Ranges.{ranges_of}
 use Rattle.pc_types.specs.declared.Triple.{Triple}
 use Rattle.pc_model.proofs.PairMapLaws as pairs_of
 use Rattle.pc_part.specs.declared.ranges.Range.{Range}
 use Rattle.pc_part.specs.Lawful.{HasLimits, IsPartEntry, IsPartFile, HasPart, IsPartText}
-use Rattle.pc_part.specs.Parts.{AreCovered, points_of, triples_of}
+use Rattle.pc_part.specs.Parts.{AreCovered, points_of}
 use Rattle.pc_part.specs.Reading.{PartFields, part_fields_at, part_of_fields, part_at}
 use Rattle.pc_part.specs.Texts.{part_text_in}
 use Rattle.pc_part.proofs.LawfulParts.{part_lawful}

@@ -12,13 +12,13 @@ use Rattle.pc_model.specs.Sets as set
 use Rattle.pc_model.specs.Sets.{Set, number_order}
 use Rattle.pc_model.specs.Database.{key_cmp, KeysRise}
 use Rattle.pc_model.specs.Files.{triples_taken}
-use Rattle.pc_model.specs.TripleLists.{entries_of, triple_at}
+use Rattle.pc_model.specs.TripleLists.{entries_of, triple_at, triples_of}
 use Rattle.pc_model.specs.Points.{Triples}
 use Rattle.pc_types.specs.declared.Triple.{Triple}
 use Rattle.pc_model.proofs.PairMapLaws as pairs
 use Rattle.pc_part.specs.declared.ranges.Range.{Range}
 use Rattle.pc_part.specs.Bases.{IsWithinLimit}
-use Rattle.pc_part.specs.Parts.{points_of, triples_of, AreCovered}
+use Rattle.pc_part.specs.Parts.{points_of, AreCovered}
 use Rattle.pc_part.proofs.RangePointLaws.{contains-points_of}
 
 abbrev Taken : Type 0

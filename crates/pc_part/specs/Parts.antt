@@ -9,7 +9,6 @@ use Rattle.pc_model.specs.Sets as set
 use Rattle.pc_model.specs.Sets.{Set, number_order}
 use Rattle.pc_model.specs.Points.{AtPoint, Triples}
 use Rattle.pc_model.specs.Files.{File, numbers_to}
-use Rattle.pc_model.specs.TripleLists.{entries_of}
 use Rattle.pc_types.specs.declared.Triple.{Triple}
 use Rattle.pc_types.specs.declared.limits.TheConstants.{MOST_POINTS}
 use Rattle.pc_part.specs.declared.ranges.Range.{Range}
@@ -61,10 +60,6 @@ last_covered ranges = None
 -- each triple is of one of the points
 abbrev pub AreCovered : Set number_order → List Triple → Type 0
 AreCovered points triples = All (λ triple. IsTrue (set.contains points triple.point)) triples
-
--- the triples of a list, by key
-abbrev pub triples_of : List Triple → Triples
-triples_of triples = map_of.from_list (entries_of triples)
 
 -- what a key has at a point is stored as the point and the content
 abbrev pub at_point_code : Coded AtPoint

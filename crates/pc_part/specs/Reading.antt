@@ -14,7 +14,8 @@ use Rattle.pc_model.specs.Files.{File, BaseFile}
 use Rattle.pc_types.specs.declared.Triple.{Triple}
 use Rattle.pc_types.specs.declared.limits.TheConstants.{MOST_POINTS}
 use Rattle.pc_part.specs.declared.ranges.Range.{Range}
-use Rattle.pc_part.specs.Parts.{covers, points_of, triples_of}
+use Rattle.pc_part.specs.Parts.{covers, points_of}
+use Rattle.pc_model.specs.TripleLists.{triples_of}
 use Rattle.pc_part.specs.Texts.{part_magic, base_magic}
 
 -- so many items, one after the other, each read with what the one before it leaves

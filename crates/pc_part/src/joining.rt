@@ -1,12 +1,12 @@
 //! The join of two files: of each key the triple of the greatest point.
 ghost use Rattle.std.specs.Prelude.{◌≡◌, ◌≤◌, length, IfOk, Some, Ok, Err, if◌then◌else◌};
 ghost use Rattle.pc_model.specs.Files.{joined_file};
-ghost use Rattle.pc_model.specs.TripleLists.{entries_of};
+ghost use Rattle.pc_model.specs.TripleLists.{entries_of, triples_of};
 ghost use Rattle.pc_model.specs.Database.{KeysRise};
 ghost use Rattle.pc_model.specs.Points.{later, joined};
 ghost use Rattle.pc_model.specs.Sets.{Set, number_order};
 ghost use Rattle.pc_part.specs.Bases.{IsWithinLimit};
-ghost use Rattle.pc_part.specs.Parts.{AreCovered, triples_of};
+ghost use Rattle.pc_part.specs.Parts.{AreCovered};
 ghost use Rattle.pc_model.specs.Replies.{is_empty, join_causes};
 ghost use Rattle.pc_part.specs.Joins.{clash_at, first_cause, triples_causes, IsRefusedBy};
 ghost use Rattle.pc_model.specs.Merges.{merged};

@@ -3,13 +3,13 @@ ghost use Rattle.std.specs.Prelude.{◌≡◌, ◌+◌, ◌≤◌, ◌++◌, [],
 ghost use Rattle.itertools.specs.EitherOrBoth.{map_any};
 ghost use Rattle.pc_model.specs.Database.{KeysRise, database_of};
 ghost use Rattle.pc_model.specs.LaidFiles.{gap_above, greatest, laid_file};
-ghost use Rattle.pc_model.specs.TripleLists.{entry_of, entries_of};
+ghost use Rattle.pc_model.specs.TripleLists.{entry_of, entries_of, triples_of};
 ghost use Rattle.pc_model.specs.Points.{laid, laid_at};
 ghost use Rattle.pc_part.specs.Bases.{IsWithinLimit};
 ghost use Rattle.pc_part.specs.Joins.{first_cause, IsRefusedBy};
 ghost use Rattle.pc_part.specs.Layings.{laid_there, lay_causes, limit_causes};
 ghost use Rattle.pc_model.specs.Merges.{merged, with_content, with_item};
-ghost use Rattle.pc_part.specs.Parts.{AreRanges, points_of, triples_of};
+ghost use Rattle.pc_part.specs.Parts.{AreRanges, points_of};
 
 use crate::base::Base;
 use crate::part::Part;

@@ -2,12 +2,12 @@
 ghost use Rattle.std.specs.Prelude.{◌≡◌, ◌≤◌, ℕ, map, IfOk, IfErr, IsTrue, MatchOption};
 ghost use Rattle.pc_model.specs.Database.{KeysRise};
 ghost use Rattle.pc_model.specs.Files.{triples_taken};
-ghost use Rattle.pc_model.specs.TripleLists.{entries_of, triple_at};
+ghost use Rattle.pc_model.specs.TripleLists.{entries_of, triple_at, triples_of};
 ghost use Rattle.pc_model.specs.Ranges.{ranges_of};
 ghost use Rattle.pc_model.specs.Maps as map_of;
 ghost use Rattle.pc_model.specs.Sets as set;
 ghost use Rattle.pc_part.specs.Bases.{IsWithinLimit};
-ghost use Rattle.pc_part.specs.Parts.{AreCovered, AreRanges, CoversTo, bounds_of, points_of, triples_of};
+ghost use Rattle.pc_part.specs.Parts.{AreCovered, AreRanges, CoversTo, bounds_of, points_of};
 
 use crate::ranges::{Range, last_covered, points_in};
 use pc_taken::{Entries, Pass, Taken};
@@ -28,9 +28,9 @@ pub struct Part {
 impl Model for Part {
     ghost use Rattle.pc_model.specs.Database.{KeysRise};
     ghost use Rattle.pc_model.specs.Files.{File};
-    ghost use Rattle.pc_model.specs.TripleLists.{entries_of};
+    ghost use Rattle.pc_model.specs.TripleLists.{entries_of, triples_of};
     ghost use Rattle.pc_part.specs.Bases.{IsWithinLimit};
-    ghost use Rattle.pc_part.specs.Parts.{AreCovered, AreRanges, file_code, points_of, triples_of};
+    ghost use Rattle.pc_part.specs.Parts.{AreCovered, AreRanges, file_code, points_of};
 
     ghost Value = { File };
 
