@@ -1,5 +1,5 @@
 //! The chain itself: its two ends.
-ghost use Rattle.std.specs.Prelude.{◌≡◌, ◌≢◌, ◌++◌, List, Some, None, IfSome};
+ghost use Rattle.std.specs.Prelude.{◌≡◌, ◌≢◌, ◌↔◌, ◌<◌, ◌^◌, ◌++◌, IsTrue, List, length, false, Some, None, IfSome};
 ghost use Rattle.pc_chain.specs.Chains.{first_of, last_of, rest_of, Avoids, IsChain, IsEmpty, SetsLink, AddsLast, TakesBehind};
 
 use crate::links::Links;
@@ -112,6 +112,28 @@ impl<I: Copy> Chain<I> {
             self.last = Some(previous);
         }
         Some(id)
+    }
+}
+
+impl<I: Copy + PartialEq> Chain<I> {
+    /// Whether the id is in the list, by going along the list up to it; the list has fewer than 2^64 ids, which `==` tells from
+    /// each other.
+    pub fn contains<K, L: Links<K, Id = I>>(&self, links: &L, id: I) -> bool
+        requires told { (x y : I) → IsTrue (I.eq x y) ↔ (x ≡ y) }
+        requires stands { (xs : List I) × IsChain (L.has links.now) (L.next_of links.now) self.now xs × (length xs < 2 ^ 64) }
+        ensures { (xs : List I) → IsChain (L.has links.now) (L.next_of links.now) self.now xs → (result ≡ false) ↔ Avoids id xs }
+    {
+        let mut place = self.first;
+        for _ in 0..u64::MAX {
+            let Some(here) = place else {
+                return false;
+            };
+            if here == id {
+                return true;
+            }
+            place = links.next(here);
+        }
+        false
     }
 }
 

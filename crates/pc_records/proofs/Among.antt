@@ -7,9 +7,9 @@ use Rattle.pc_locks.specs.States.{Queues}
 use Rattle.pc_model.specs.Points.{is_among}
 use Rattle.pc_model.proofs.JoinLaws.{one_key}
 use Rattle.pc_chain.specs.Chains.{AllHave, first_of}
-use Rattle.pc_chain.specs.declared.side.Side.{Side}
-use Rattle.pc_chain.specs.declared.dirty.Dirty.{Dirty}
-use Rattle.pc_chain.specs.Sets.{other_side}
+use Rattle.pc_dirty.specs.declared.side.Side.{Side}
+use Rattle.pc_dirty.specs.declared.dirty.Dirty.{Dirty}
+use Rattle.pc_dirty.specs.Sets.{other_side}
 use Rattle.pc_table.specs.Rows.{TableRow, in_slot}
 use Rattle.pc_table.proofs.RowLaws.{no_row, same_some, slot_found, found_has}
 use Rattle.pc_slots.specs.declared.cells.Cell.{Cell}

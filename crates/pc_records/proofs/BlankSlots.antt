@@ -1,7 +1,7 @@
 -- A slot of a key that has a value alone, or nothing.
 use Rattle.std.proofs.Common.{◌≡◌, ℕ, List, Option, None, false, refl, ◌∷◌, map, Some, ap}
-use Rattle.pc_chain.specs.declared.side.Side.{Side}
-use Rattle.pc_chain.specs.declared.side.Side.TheVariants.{First, Second}
+use Rattle.pc_dirty.specs.declared.side.Side.{Side}
+use Rattle.pc_dirty.specs.declared.side.Side.TheVariants.{First, Second}
 use Rattle.pc_slots.specs.declared.versions.Stable.TheVariants.{Empty}
 use Rattle.pc_slots.specs.Slots.{Slot, slot_with, base_cell}
 use Rattle.pc_table.specs.Rows.{TableRow}

@@ -22,8 +22,8 @@ use Rattle.pc_records.specs.Slots.{no_queues, slots_in, rows_of, with_entry, con
 use Rattle.pc_records.proofs.Lookups.{of_slot, record_in, slot_of, find_entry, find_row, sorted_entries}
 use Rattle.pc_records.proofs.SlotRising.{contents_rise}
 use Rattle.pc_records.proofs.TableSlots.{slots_rise, find_slots, cell_of}
-use Rattle.pc_chain.specs.declared.side.Side.{Side}
-use Rattle.pc_chain.specs.declared.side.Side.TheVariants.{First}
+use Rattle.pc_dirty.specs.declared.side.Side.{Side}
+use Rattle.pc_dirty.specs.declared.side.Side.TheVariants.{First}
 
 -- the pairs of contents that are values
 abbrev pub pairs_in : List (List ℕ × Option (List ℕ)) → List (List ℕ × List ℕ)

@@ -17,7 +17,7 @@ use Rattle.pc_slots.specs.Slots.{base_cell}
 use Rattle.pc_records.specs.Slots.{slots_in, cells_in, base_row, AreSlotsKept}
 use Rattle.pc_records.proofs.Lookups.{same_turned}
 use Rattle.pc_records.proofs.TableSlots.{slots_rise, once_in}
-use Rattle.pc_chain.specs.declared.side.Side.{Side}
+use Rattle.pc_dirty.specs.declared.side.Side.{Side}
 
 cells_put : (key : List ℕ) (n : ℕ) (x : Cell) (rows : List (TableRow Cell)) → cells_in (put key_cmp key (n, x) rows) ≡ put key_cmp key x (cells_in rows)
 cells_put key n x [] = refl

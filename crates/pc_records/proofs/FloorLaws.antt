@@ -12,9 +12,9 @@ use Rattle.pc_model.specs.Database.{key_cmp, same_bytes}
 use Rattle.pc_model.specs.Locks.{Queue, is_ungranted, outcome, queue_after, queue_without, request_in}
 use Rattle.pc_model.specs.Queues.{stands_in}
 use Rattle.pc_locks.specs.States.{Queues, queue_at, slots_of, first_of, SetsAt}
-use Rattle.pc_chain.specs.declared.side.Side.{Side}
-use Rattle.pc_chain.specs.declared.dirty.Dirty.{Dirty}
-use Rattle.pc_chain.specs.Sets.{other_side, AreSets}
+use Rattle.pc_dirty.specs.declared.side.Side.{Side}
+use Rattle.pc_dirty.specs.declared.dirty.Dirty.{Dirty}
+use Rattle.pc_dirty.specs.Sets.{other_side, AreSets}
 use Rattle.pc_table.specs.Rows.{TableRow, Contents, in_slot, HasRow, slot_of as table_slot}
 use Rattle.pc_slots.specs.declared.cells.Cell.{Cell}
 use Rattle.pc_slots.specs.declared.versions.Stable.TheVariants.{Held}

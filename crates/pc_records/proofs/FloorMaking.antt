@@ -14,8 +14,8 @@ use Rattle.pc_model.specs.Database.{key_cmp, same_bytes}
 use Rattle.pc_records.specs.Rows.{record_of, stored}
 use Rattle.pc_chain.specs.declared.chain.Chain.{Chain}
 use Rattle.pc_locks.specs.States.{Queues, queue_at}
-use Rattle.pc_chain.specs.declared.side.Side.{Side}
-use Rattle.pc_chain.specs.declared.dirty.Dirty.{Dirty}
+use Rattle.pc_dirty.specs.declared.side.Side.{Side}
+use Rattle.pc_dirty.specs.declared.dirty.Dirty.{Dirty}
 use Rattle.pc_table.specs.Rows.{TableRow, Contents, HasRow, AreInSlots, IsNewSlot, in_slot, with_row, slot_of as table_slot}
 use Rattle.pc_table.proofs.RowLaws.{no_row, same_some}
 use Rattle.pc_slots.specs.declared.cells.Cell.{Cell}

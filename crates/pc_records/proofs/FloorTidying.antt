@@ -4,8 +4,8 @@ use Rattle.std.proofs.lemmas.Bool.Decides.{nat_tests}
 use Rattle.pc_model.specs.Locks.{Queue}
 use Rattle.pc_locks.specs.States.{Queues, queue_at}
 use Rattle.pc_locks.specs.Keepers as keepers
-use Rattle.pc_chain.specs.declared.side.Side.{Side}
-use Rattle.pc_chain.specs.declared.dirty.Dirty.{Dirty}
+use Rattle.pc_dirty.specs.declared.side.Side.{Side}
+use Rattle.pc_dirty.specs.declared.dirty.Dirty.{Dirty}
 use Rattle.pc_table.specs.Rows.{TableRow, Contents, AreInSlots, in_slot, without_slot}
 use Rattle.pc_table.proofs.RowLaws.{no_row, same_some}
 use Rattle.pc_slots.specs.declared.cells.Cell.{Cell}

@@ -4,9 +4,9 @@ use Rattle.std.proofs.lemmas.Bool.{eqb-true, ne_eqb, eqb-false}
 use Rattle.std.specs.FinMap.{find}
 use Rattle.pc_model.specs.Database.{key_cmp}
 use Rattle.pc_chain.specs.Chains.{first_of, rest_of, Avoids, AllHave}
-use Rattle.pc_chain.specs.declared.dirty.Dirty.{Dirty}
-use Rattle.pc_chain.specs.Sets.{other_side, AreSets, HasNoRepeats}
-use Rattle.pc_chain.proofs.SetLaws.{closed_once, closed_have}
+use Rattle.pc_dirty.specs.declared.dirty.Dirty.{Dirty}
+use Rattle.pc_dirty.specs.Sets.{other_side, AreSets, HasNoRepeats}
+use Rattle.pc_dirty.proofs.SetLaws.{closed_once, closed_have}
 use Rattle.pc_table.specs.Rows.{TableRow, Contents, in_slot, slot_of as table_slot, HasRow, AreInSlots}
 use Rattle.pc_slots.specs.declared.cells.Cell.{Cell}
 use Rattle.pc_records.specs.SetLists.{HasPlace, next_in, marked_in, key_in, keys_at, is_listed, AreSetLists, open_slots, closed_slots, IsListed, open_keys, closed_keys, KeepSets, IsUnmarked}

@@ -7,10 +7,10 @@ use Rattle.pc_types.specs.declared.Class.{Class}
 use Rattle.pc_types.specs.declared.Class.TheVariants.{Before, During, After}
 use Rattle.pc_chain.specs.Chains.{Avoids, AllHave}
 use Rattle.pc_chain.proofs.ChainLaws.{avoided}
-use Rattle.pc_chain.specs.declared.side.Side.{Side}
-use Rattle.pc_chain.specs.declared.dirty.Dirty.{Dirty}
-use Rattle.pc_chain.specs.Sets.{other_side, place_of, AreSets, HasNoRepeats}
-use Rattle.pc_chain.proofs.SetLaws.{opened_once, opened_have}
+use Rattle.pc_dirty.specs.declared.side.Side.{Side}
+use Rattle.pc_dirty.specs.declared.dirty.Dirty.{Dirty}
+use Rattle.pc_dirty.specs.Sets.{other_side, place_of, AreSets, HasNoRepeats}
+use Rattle.pc_dirty.proofs.SetLaws.{opened_once, opened_have}
 use Rattle.pc_table.specs.Rows.{TableRow, Contents, in_slot, with_record_in, HasRow, AreInSlots}
 use Rattle.pc_slots.specs.declared.cells.Cell.{Cell}
 use Rattle.pc_slots.specs.declared.versions.Stable.TheVariants.{Empty}

@@ -3,11 +3,11 @@ use Rattle.std.proofs.Common.{◌≡◌, ℕ, suc, List, [], ◌∷◌, map, Opt
 use Rattle.std.specs.Prelude.{All}
 use Rattle.pc_locks.specs.States.{Queues}
 use Rattle.pc_model.specs.Points.{is_among}
-use Rattle.pc_chain.specs.declared.side.Side.{Side}
-use Rattle.pc_chain.specs.declared.side.Side.TheVariants.{First, Second}
-use Rattle.pc_chain.specs.declared.dirty.Dirty.{Dirty}
-use Rattle.pc_chain.specs.Sets.{other_side, AreSets, AreEmpty}
-use Rattle.pc_chain.proofs.SetLaws.{empty_sets}
+use Rattle.pc_dirty.specs.declared.side.Side.{Side}
+use Rattle.pc_dirty.specs.declared.side.Side.TheVariants.{First, Second}
+use Rattle.pc_dirty.specs.declared.dirty.Dirty.{Dirty}
+use Rattle.pc_dirty.specs.Sets.{other_side, AreSets, AreEmpty}
+use Rattle.pc_dirty.proofs.SetLaws.{empty_sets}
 use Rattle.pc_table.specs.Rows.{TableRow, in_slot}
 use Rattle.pc_slots.specs.declared.cells.Cell.{Cell}
 use Rattle.pc_slots.specs.Words.{is_marked}

@@ -10,7 +10,7 @@ use Rattle.pc_locks.specs.States.{Queues, queue_at}
 use Rattle.pc_model.specs.Points.{is_among}
 use Rattle.pc_slots.specs.declared.versions.Writer.{Writer}
 use Rattle.pc_slots.specs.Slots.{Slot, Pending, write_of, closed_slot, committed, is_prepared}
-use Rattle.pc_chain.specs.declared.dirty.Dirty.{Dirty}
+use Rattle.pc_dirty.specs.declared.dirty.Dirty.{Dirty}
 use Rattle.pc_locks.specs.Keepers as keepers
 use Rattle.pc_table.specs.Rows.{Contents}
 use Rattle.pc_slots.specs.declared.cells.Cell.{Cell}

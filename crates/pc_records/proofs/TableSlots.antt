@@ -15,7 +15,7 @@ use Rattle.pc_slots.specs.declared.cells.Cell.{Cell}
 use Rattle.pc_slots.specs.Slots.{Slot, slot_with, base_cell, new_slot}
 use Rattle.pc_records.specs.Slots.{no_queues, slot_in, slots_in, rows_of, numbers_of, times, at_number}
 use Rattle.pc_records.proofs.Lookups.{slot_of, same_self}
-use Rattle.pc_chain.specs.declared.side.Side.{Side}
+use Rattle.pc_dirty.specs.declared.side.Side.{Side}
 use Rattle.pc_records.proofs.BlankSlots.{blank_slot}
 use Rattle.pc_records.proofs.SlotKeeping.{numbers_map}
 

@@ -4,7 +4,7 @@ use Rattle.pc_chain.specs.declared.chain.Chain.{Chain}
 use Rattle.pc_locks.specs.Lines.{no_chain}
 use Rattle.pc_locks.specs.States.{Queues}
 use Rattle.pc_locks.specs.Keepers as keepers
-use Rattle.pc_chain.specs.declared.side.Side.{Side}
+use Rattle.pc_dirty.specs.declared.side.Side.{Side}
 use Rattle.pc_table.specs.Rows.{TableRow, Contents, in_slot}
 use Rattle.pc_slots.specs.declared.cells.Cell.{Cell}
 use Rattle.pc_records.specs.Slots.{slots_in}

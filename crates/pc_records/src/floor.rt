@@ -8,7 +8,7 @@ ghost use Rattle.pc_records.specs.Tables.{content_behind};
 ghost use Rattle.pc_records.specs.Floor.{with_spot, changed, let_go, asked, queue_of, has_spot, stands_at, stands_anywhere, waits_anywhere, newly_opened, number_of, entered, new_spot, tidied, TakesFirstSpot, first_of_closed, of_spot, copy_kept, committed_at, IsFirst, IsFloorWhole};
 
 use crate::slots;
-use pc_chain::Dirty;
+use pc_dirty::Dirty;
 use pc_locks::Locks;
 use pc_slots::{Aside, Cell, Spares, Stage, Writing};
 use pc_table::Table;

@@ -1,6 +1,7 @@
 //! The slots of a table as the keeper of the two sets' links.
 
-use pc_chain::{Links, SideSlot};
+use pc_chain::Links;
+use pc_dirty::SideSlot;
 use pc_slots::Cell;
 use pc_table::Table;
 
@@ -10,7 +11,7 @@ pub(crate) struct BySets;
 impl Links<BySets> for Table<Cell> {
     ghost use Rattle.std.specs.Prelude.{◌≡◌, ◌≢◌, refl};
     ghost use Rattle.std.proofs.Common.{◌∙◌};
-    ghost use Rattle.pc_chain.specs.declared.side.SideSlot.{SideSlot};
+    ghost use Rattle.pc_dirty.specs.declared.side.SideSlot.{SideSlot};
     ghost use Rattle.pc_records.specs.SetLists.{next_in, HasPlace, KeepRecords};
 
     type Id = SideSlot;

@@ -5,15 +5,15 @@ ghost use Rattle.pc_model.specs.Maps.{get};
 ghost use Rattle.pc_model.specs.Database.{KeysRise, database_of};
 ghost use Rattle.pc_locks.specs.States.{Queues};
 ghost use Rattle.pc_table.specs.Rows.{slot_of, in_slot, why_refused, HasRow, IsNewSlot, AreInSlots, with_row, with_record};
-ghost use Rattle.pc_chain.specs.declared.side.Side.{Side};
-ghost use Rattle.pc_chain.specs.declared.side.Side.TheVariants.{First};
+ghost use Rattle.pc_dirty.specs.declared.side.Side.{Side};
+ghost use Rattle.pc_dirty.specs.declared.side.Side.TheVariants.{First};
 ghost use Rattle.pc_records.specs.Rows.{record_of, stored};
 ghost use Rattle.pc_records.specs.Ends.{ends_in};
 ghost use Rattle.pc_records.specs.SetLists.{KeepSets, IsUnmarked, IsListed, open_keys, closed_keys, entering};
 ghost use Rattle.pc_slots.specs.Slots.{nothing_aside, base_cell, put_slot, settled, undone, taken_slot};
 ghost use Rattle.pc_records.specs.Slots.{slots_in, with_entry, content_in, cells_in, base_row, contents_of, rows_of, at_number};
 
-use pc_chain::{Dirty, Side};
+use pc_dirty::{Dirty, Side};
 use pc_replay::first_of_each;
 use pc_slots::{Cell, Spares, Stage, Writing, cell_with};
 use pc_table::Table;

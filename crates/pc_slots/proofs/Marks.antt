@@ -1,7 +1,7 @@
 -- A slot whose mark is set.
 use Rattle.std.proofs.Common.{◌≡◌, ℕ, List, true, refl}
-use Rattle.pc_chain.specs.declared.side.Side.{Side}
-use Rattle.pc_chain.specs.declared.side.Side.TheVariants.{First, Second}
+use Rattle.pc_dirty.specs.declared.side.Side.{Side}
+use Rattle.pc_dirty.specs.declared.side.Side.TheVariants.{First, Second}
 use Rattle.pc_slots.specs.declared.cells.Cell.{Cell}
 use Rattle.pc_slots.specs.Words.{with_mark}
 use Rattle.pc_slots.specs.Slots.{slot_with}

@@ -8,8 +8,8 @@ use Rattle.pc_types.specs.declared.Outcome.{Outcome}
 use Rattle.pc_types.specs.declared.Outcome.TheVariants.{Granted, Queued, Died}
 use Rattle.pc_types.specs.Phases.{same_class}
 use Rattle.pc_model.specs.Locks.{Queue, is_exclusive}
-use Rattle.pc_chain.specs.declared.side.Side.{Side}
-use Rattle.pc_chain.specs.Sets.{other_side}
+use Rattle.pc_dirty.specs.declared.side.Side.{Side}
+use Rattle.pc_dirty.specs.Sets.{other_side}
 use Rattle.pc_slots.specs.declared.cells.Cell.{Cell}
 use Rattle.pc_slots.specs.declared.versions.Aside.{Aside}
 use Rattle.pc_slots.specs.declared.versions.Stable.{Stable}

@@ -1,9 +1,9 @@
 -- The words of a slot, one on each side of the two sets, and the ends of the queue of its requests.
 use Rattle.std.specs.Prelude.{◌≡◌, ℕ, Bool, true, false, Option, Some, None}
 use Rattle.pc_chain.specs.declared.chain.Chain.{Chain}
-use Rattle.pc_chain.specs.declared.side.SideSlot.{SideSlot}
-use Rattle.pc_chain.specs.declared.side.Side.{Side}
-use Rattle.pc_chain.specs.declared.side.Side.TheVariants.{First, Second}
+use Rattle.pc_dirty.specs.declared.side.SideSlot.{SideSlot}
+use Rattle.pc_dirty.specs.declared.side.Side.{Side}
+use Rattle.pc_dirty.specs.declared.side.Side.TheVariants.{First, Second}
 use Rattle.pc_slots.specs.declared.cells.Cell.{Cell}
 use Rattle.pc_slots.specs.declared.words.Mark.{Mark}
 

@@ -4,8 +4,8 @@ ghost use Rattle.pc_slots.specs.Slots.{base_cell};
 
 use crate::versions::Aside;
 use crate::words::Mark;
-use pc_chain::Side;
-use pc_table::Blank;
+use pc_chain::Blank;
+use pc_dirty::Side;
 use pc_types::{SlotId, Value};
 
 /// What is kept of a key, but its requests.

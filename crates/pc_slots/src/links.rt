@@ -3,7 +3,7 @@ ghost use Rattle.std.specs.Prelude.{◌≡◌};
 ghost use Rattle.pc_slots.specs.Words.{place_at, slot_of, side_of};
 
 use crate::cells::Cell;
-use pc_chain::{Side, SideSlot};
+use pc_dirty::{Side, SideSlot};
 use pc_types::SlotId;
 
 // The slot on the side that a link leads to.

@@ -3,8 +3,8 @@
 use crate::cells::Cell;
 use crate::spares::Spares;
 use crate::versions::{self, Author, Stage, Writing};
-use pc_chain::Side;
-use pc_table::Blank;
+use pc_chain::Blank;
+use pc_dirty::Side;
 use pc_types::{Class, Point, Refusal, TxnNo, Value};
 use std::alloc::Global;
 use std::test::Fail;

@@ -4,14 +4,14 @@ ghost use Rattle.std.specs.Prelude.{◌≡◌, ◌==◌, ◌&&◌, ◌||◌, not
 ghost use Rattle.pc_types.specs.declared.Class.TheVariants as class_of;
 ghost use Rattle.pc_types.specs.Phases.{same_class};
 ghost use Rattle.pc_model.specs.Locks.{Queue};
-ghost use Rattle.pc_chain.specs.declared.side.Side.TheVariants.{First};
+ghost use Rattle.pc_dirty.specs.declared.side.Side.TheVariants.{First};
 ghost use Rattle.pc_slots.specs.Words.{is_marked, words_of, chain_in, HaveLinks};
 ghost use Rattle.pc_slots.specs.Spares.{with_spare, is_freed};
 ghost use Rattle.pc_slots.specs.Slots.{Slot, slot_with, nothing_aside, is_blank, aside_in, writer_in, with_aside, committed, version_or, pinned, is_held, is_kept_slot, keeps_copy, saved, put_slot, settled, undone, taken_slot};
 
 use crate::cells::Cell;
 use crate::spares::Spares;
-use pc_chain::Side;
+use pc_dirty::Side;
 use pc_types::{Class, Point, TxnNo, Value, copy_content};
 use std::alloc::{AllocError, Global};
 use std::mem;

@@ -2,7 +2,7 @@
 ghost use Rattle.std.specs.Prelude.{◌≡◌, ◌≢◌, ℕ};
 ghost use Rattle.pc_slots.specs.Words.{blank_mark};
 
-use pc_chain::Side;
+use pc_dirty::Side;
 
 /// What a slot has on one side beside the slot that its link leads to.
 #[derive(Clone, Copy)]

@@ -1,5 +1,5 @@
 //! Entries: what stands in a slot.
-use crate::blank::Blank;
+use pc_chain::Blank;
 use crate::keyed::Keyed;
 use pc_types::Key;
 use std::alloc::{AllocError, Global};

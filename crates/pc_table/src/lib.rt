@@ -3,7 +3,6 @@
 #![tactic(auto)]
 
 mod arena;
-mod blank;
 mod cells;
 mod entry;
 mod hashing;
@@ -12,7 +11,6 @@ mod keyed;
 mod table;
 
 pub use arena::Arena;
-pub use blank::Blank;
 pub use index::Index;
 pub use keyed::Keyed;
 pub use table::Table;

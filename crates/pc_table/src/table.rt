@@ -5,7 +5,7 @@ ghost use Rattle.pc_table.specs.Rows.{slot_of, in_slot, without_slot, pair_behin
 ghost use Rattle.pc_table.specs.Lending.{LendsRow};
 
 use crate::arena::Arena;
-use crate::blank::Blank;
+use pc_chain::Blank;
 use crate::entry::TableEntry;
 use crate::index::Index;
 use pc_types::{Key, MOST_KEYS, Refusal, SlotId};

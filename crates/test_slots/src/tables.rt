@@ -2,7 +2,8 @@
 ghost use Rattle.std.specs.Prelude.{◌≡◌, ℕ, IfOk, OnErr};
 ghost use Rattle.pc_table.specs.Rows.{with_record, with_row, HasRow};
 
-use pc_table::{Blank, Table};
+use pc_chain::Blank;
+use pc_table::Table;
 use pc_types::{Key, Refusal, SlotId};
 use std::alloc::Global;
 use std::hash::RandomState;

@@ -1,10 +1,10 @@
 -- Two rows of links, one for each side.
 use Rattle.std.specs.Prelude.{ℕ, ◌<◌, List, length, Option, None, slice_index_or}
-use Rattle.pc_chain.specs.declared.side.SideSlot.{SideSlot}
-use Rattle.pc_chain.specs.declared.side.Side.{Side}
-use Rattle.pc_chain.specs.declared.side.Side.TheVariants.{First, Second}
-use Rattle.pc_chain.specs.declared.dirty.Dirty.{Dirty}
-use Rattle.pc_chain.specs.Sets.{place_of, AreSets}
+use Rattle.pc_dirty.specs.declared.side.SideSlot.{SideSlot}
+use Rattle.pc_dirty.specs.declared.side.Side.{Side}
+use Rattle.pc_dirty.specs.declared.side.Side.TheVariants.{First, Second}
+use Rattle.pc_dirty.specs.declared.dirty.Dirty.{Dirty}
+use Rattle.pc_dirty.specs.Sets.{place_of, AreSets}
 
 -- of two links that on the side
 abbrev pub on_side : Side → Option SideSlot → Option SideSlot → Option SideSlot

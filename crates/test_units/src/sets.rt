@@ -1,10 +1,11 @@
 //! Tests of the two sets: worked rows, and a walk beside plain lists, over a row of links.
 ghost use Rattle.std.specs.Prelude.{◌≡◌, ◌≢◌, ◌<◌, ◌≤◌, IfOk, OnOk, IsTrue, length};
 ghost use Rattle.pc_chain.specs.Chains.{Avoids};
-ghost use Rattle.pc_chain.specs.declared.side.SideSlot.{SideSlot};
+ghost use Rattle.pc_dirty.specs.declared.side.SideSlot.{SideSlot};
 ghost use Rattle.test_units.specs.Rows.{link_at, has_links, AreKept};
 
-use pc_chain::{Dirty, Links, Side, SideSlot};
+use pc_chain::Links;
+use pc_dirty::{Dirty, Side, SideSlot};
 use pc_types::SlotId;
 use std::alloc::{AllocError, Global};
 use std::test::Fail;
@@ -22,7 +23,7 @@ struct BySide;
 
 impl Links<BySide> for RowOfPlaces {
     ghost use Rattle.std.specs.Prelude.{◌≡◌, ◌≢◌, ⊤};
-    ghost use Rattle.pc_chain.specs.declared.side.SideSlot.{SideSlot};
+    ghost use Rattle.pc_dirty.specs.declared.side.SideSlot.{SideSlot};
     ghost use Rattle.test_units.specs.Rows.{link_at, has_links};
 
     type Id = SideSlot;

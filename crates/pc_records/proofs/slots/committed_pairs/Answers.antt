@@ -1,7 +1,7 @@
 use Rattle.std.proofs.Common.{◌≡◌, [], ◌++◌, length, sym, ap, ◌∙◌}
 use Rattle.std.specs.Vec.Iter.{into_iter_items}
 use Rattle.std.proofs.lemmas.List.{nil_from_length}
-use Rattle.pc_chain.specs.declared.side.Side.TheVariants.{First}
+use Rattle.pc_dirty.specs.declared.side.Side.TheVariants.{First}
 use Rattle.pc_records.specs.Slots.{slots_in}
 use Rattle.pc_records.proofs.CommittedPairs.{pairs_in, pairs_of, pairs_rise, pairs_hold, committed_any}
 use Rattle.pc_records.proofs.slots.committed_pairs.Goals as goal

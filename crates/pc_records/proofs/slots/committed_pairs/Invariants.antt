@@ -1,6 +1,6 @@
 use Rattle.std.proofs.Common.{◌≡◌, ◌++◌, length}
 use Rattle.std.specs.Vec.Iter.{into_iter_items, into_iter_len}
-use Rattle.pc_chain.specs.declared.side.Side.TheVariants.{First}
+use Rattle.pc_dirty.specs.declared.side.Side.TheVariants.{First}
 use Rattle.pc_records.specs.Slots.{slots_in, committed_pairs}
 use Rattle.pc_records.proofs.CommittedPairs.{pairs_in}
 use Rattle.pc_records.proofs.slots.committed_pairs.Given as goal

@@ -1,4 +1,4 @@
-use Rattle.pc_chain.specs.declared.side.Side.TheVariants.{First}
+use Rattle.pc_dirty.specs.declared.side.Side.TheVariants.{First}
 use Rattle.std.proofs.Common.{◌≤◌, subst, ap, ◌∙◌}
 use Rattle.std.specs.FinMap.{find}
 use Rattle.pc_model.specs.Database.{key_cmp}

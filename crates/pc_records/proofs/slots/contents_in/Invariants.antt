@@ -1,4 +1,4 @@
-use Rattle.pc_chain.specs.declared.side.Side.TheVariants.{First}
+use Rattle.pc_dirty.specs.declared.side.Side.TheVariants.{First}
 use Rattle.pc_records.proofs.slots.contents_in.Given as goal
 use Rattle.pc_records.proofs.CommittedPairs.{AreContents}
 

@@ -1,5 +1,5 @@
 use Rattle.std.proofs.Common.{ℕ, List, Option, sym, ap, ◌∙◌}
-use Rattle.pc_chain.specs.declared.side.Side.{Side}
+use Rattle.pc_dirty.specs.declared.side.Side.{Side}
 use Rattle.pc_slots.specs.declared.versions.Aside.{Aside}
 use Rattle.pc_slots.specs.Words.{is_marked}
 use Rattle.pc_slots.specs.Slots.{slot_with, with_aside, aside_in, put_slot}

@@ -1,5 +1,5 @@
 use Rattle.std.proofs.Common.{◌||◌, Bool, true, sym, ap, ◌∙◌}
-use Rattle.pc_chain.specs.declared.side.Side.{Side}
+use Rattle.pc_dirty.specs.declared.side.Side.{Side}
 use Rattle.pc_slots.specs.declared.cells.Cell.{Cell}
 use Rattle.pc_slots.specs.declared.versions.Aside.{Aside}
 use Rattle.pc_slots.specs.Words.{is_marked}

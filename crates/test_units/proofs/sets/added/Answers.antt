@@ -1,6 +1,6 @@
 use Rattle.std.proofs.Common.{refl, sym, subst}
-use Rattle.pc_chain.specs.declared.side.Side.TheVariants.{First}
-use Rattle.pc_chain.specs.Sets.{place_of, AreSets}
+use Rattle.pc_dirty.specs.declared.side.Side.TheVariants.{First}
+use Rattle.pc_dirty.specs.Sets.{place_of, AreSets}
 use Rattle.test_units.specs.Rows.{link_at, has_links}
 use Rattle.test_units.proofs.sets.added.Goals as goal
 

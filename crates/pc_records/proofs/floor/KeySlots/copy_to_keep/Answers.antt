@@ -1,6 +1,6 @@
 use Rattle.std.proofs.Common.{◌≡◌, ◌∙◌, ap, subst}
 use Rattle.std.specs.Prelude.{[], IfOk}
-use Rattle.pc_chain.specs.declared.side.Side.{Side}
+use Rattle.pc_dirty.specs.declared.side.Side.{Side}
 use Rattle.pc_slots.specs.Slots.{slot_with}
 use Rattle.pc_records.specs.Ends.{queues_in}
 use Rattle.pc_records.specs.Floor.{Floor, has_spot, copy_kept}

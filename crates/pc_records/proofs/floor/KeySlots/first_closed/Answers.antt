@@ -1,5 +1,5 @@
 use Rattle.std.proofs.Common.{ℕ, List, [], Option, Some, refl, ap, ◌∙◌}
-use Rattle.pc_chain.specs.declared.side.Side.{Side}
+use Rattle.pc_dirty.specs.declared.side.Side.{Side}
 use Rattle.pc_records.specs.Ends.{queues_in}
 use Rattle.pc_slots.specs.Slots.{slot_with, pinned}
 use Rattle.pc_records.specs.Slots.{slots_in, rows_of}

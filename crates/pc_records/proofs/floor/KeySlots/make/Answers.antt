@@ -3,7 +3,7 @@ use Rattle.std.specs.Prelude.{OnErr, Ok, Err, Result, ℕ}
 use Rattle.pc_table.specs.Rows.{Contents}
 use Rattle.pc_slots.specs.declared.cells.Cell.{Cell}
 use Rattle.pc_types.specs.declared.Refusal.{Refusal}
-use Rattle.pc_chain.specs.declared.dirty.Dirty.{Dirty}
+use Rattle.pc_dirty.specs.declared.dirty.Dirty.{Dirty}
 use Rattle.pc_locks.specs.Keepers.{KeptRequests}
 use Rattle.pc_records.specs.Ends.{queues_in}
 use Rattle.pc_records.specs.Slots.{slots_in}

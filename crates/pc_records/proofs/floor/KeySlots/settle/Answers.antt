@@ -1,6 +1,6 @@
 use Rattle.std.proofs.Common.{◌∙◌, ℕ, ap, subst, sym}
 use Rattle.pc_chain.specs.declared.chain.Chain.{Chain}
-use Rattle.pc_chain.specs.declared.side.Side.{Side}
+use Rattle.pc_dirty.specs.declared.side.Side.{Side}
 use Rattle.pc_locks.specs.Keepers.{AreEnds}
 use Rattle.pc_slots.specs.Slots.{settled}
 use Rattle.pc_records.specs.Ends.{queues_in}

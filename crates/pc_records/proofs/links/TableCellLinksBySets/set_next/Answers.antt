@@ -1,5 +1,5 @@
 use Rattle.std.proofs.Common.{◌≡◌, ◌≢◌, map, sym, subst}
-use Rattle.pc_chain.specs.declared.side.SideSlot.{SideSlot}
+use Rattle.pc_dirty.specs.declared.side.SideSlot.{SideSlot}
 use Rattle.pc_table.specs.Rows.{with_record_in, with_record}
 use Rattle.pc_slots.specs.declared.cells.Cell.{Cell}
 use Rattle.pc_records.specs.SetLists.{next_in, HasPlace, KeepRecords}

@@ -1,6 +1,6 @@
 //! The two sides, and the places of slots on them.
 ghost use Rattle.std.specs.Prelude.{◌≡◌};
-ghost use Rattle.pc_chain.specs.Sets.{other_side};
+ghost use Rattle.pc_dirty.specs.Sets.{other_side};
 
 use pc_types::SlotId;
 

@@ -3,10 +3,10 @@ use Rattle.std.proofs.Common.{◌≡◌, ℕ, zero, suc, List, [], ◌∷◌, le
 use Rattle.pc_chain.specs.declared.chain.Chain.{Chain}
 use Rattle.pc_chain.specs.Chains.{first_of, Avoids, AllHave, Leads, IsChain}
 use Rattle.pc_chain.proofs.ChainLaws.{empty_chain}
-use Rattle.pc_chain.specs.declared.side.SideSlot.{SideSlot}
-use Rattle.pc_chain.specs.declared.side.Side.{Side}
-use Rattle.pc_chain.specs.declared.dirty.Dirty.{Dirty}
-use Rattle.pc_chain.specs.Sets.{other_side, place_of, places_of, AreSets, AreEmpty, HasNoRepeats, follow, opened_of, closed_of}
+use Rattle.pc_dirty.specs.declared.side.SideSlot.{SideSlot}
+use Rattle.pc_dirty.specs.declared.side.Side.{Side}
+use Rattle.pc_dirty.specs.declared.dirty.Dirty.{Dirty}
+use Rattle.pc_dirty.specs.Sets.{other_side, place_of, places_of, AreSets, AreEmpty, HasNoRepeats, follow, opened_of, closed_of}
 
 -- two empty sets, over any links
 pub empty_sets : (has : SideSlot → Type 0) (next : SideSlot → Option SideSlot) (dirty : Dirty) → AreEmpty dirty → AreSets has next dirty [] []

@@ -1,10 +1,10 @@
 -- Two sets of slots, each a list in the order of first addition, over the links that someone keeps.
 use Rattle.std.specs.Prelude.{◌≡◌, ⊤, ℕ, zero, suc, List, [], ◌∷◌, length, map, Option, Some, None}
 use Rattle.pc_chain.specs.Chains.{Avoids, IsChain, IsEmpty}
-use Rattle.pc_chain.specs.declared.side.SideSlot.{SideSlot}
-use Rattle.pc_chain.specs.declared.side.Side.{Side}
-use Rattle.pc_chain.specs.declared.side.Side.TheVariants.{First, Second}
-use Rattle.pc_chain.specs.declared.dirty.Dirty.{Dirty}
+use Rattle.pc_dirty.specs.declared.side.SideSlot.{SideSlot}
+use Rattle.pc_dirty.specs.declared.side.Side.{Side}
+use Rattle.pc_dirty.specs.declared.side.Side.TheVariants.{First, Second}
+use Rattle.pc_dirty.specs.declared.dirty.Dirty.{Dirty}
 
 -- the other side
 abbrev pub other_side : Side → Side

@@ -3,11 +3,11 @@ use Rattle.std.proofs.Common.{◌≡◌, ◌≢◌, ℕ, ◌+◌, ◌-◌, List,
 use Rattle.pc_chain.specs.declared.chain.Chain.{Chain}
 use Rattle.pc_chain.specs.Chains.{first_of, rest_of, Avoids, AreDisjoint, IsChain, IsEmpty}
 use Rattle.pc_chain.proofs.ChainLaws.{empty_chain}
-use Rattle.pc_chain.specs.declared.side.SideSlot.{SideSlot}
-use Rattle.pc_chain.specs.declared.side.Side.{Side}
-use Rattle.pc_chain.specs.declared.side.Side.TheVariants.{First, Second}
-use Rattle.pc_chain.specs.declared.dirty.Dirty.{Dirty}
-use Rattle.pc_chain.specs.Sets.{other_side, place_of, places_of, AreSets}
+use Rattle.pc_dirty.specs.declared.side.SideSlot.{SideSlot}
+use Rattle.pc_dirty.specs.declared.side.Side.{Side}
+use Rattle.pc_dirty.specs.declared.side.Side.TheVariants.{First, Second}
+use Rattle.pc_dirty.specs.declared.dirty.Dirty.{Dirty}
+use Rattle.pc_dirty.specs.Sets.{other_side, place_of, places_of, AreSets}
 
 sides_differ : (side : Side) → side ≢ other_side side
 sides_differ First e = cc

@@ -1,11 +1,10 @@
 //! The two sets.
 ghost use Rattle.std.specs.Prelude.{◌≡◌, ◌<◌, ◌+◌, ◌^◌, ◌∷◌, ◌++◌, ◌↔◌, [], ℕ, List, length, IsTrue};
 ghost use Rattle.pc_chain.specs.Chains.{first_of, rest_of, Avoids};
-ghost use Rattle.pc_chain.specs.Sets.{other_side, place_of, AreSets, AreEmpty};
+ghost use Rattle.pc_dirty.specs.Sets.{other_side, place_of, AreSets, AreEmpty};
 
-use crate::chain::Chain;
-use crate::links::Links;
 use crate::side::{Side, SideSlot};
+use pc_chain::{Chain, Links};
 use pc_types::SlotId;
 
 /// Two sets of slots, the open one and the closed one; a slot can be in both. Each is a list without repeats, in the order of
