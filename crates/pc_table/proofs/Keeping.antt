@@ -6,11 +6,11 @@ use Rattle.pc_types.specs.declared.refusal.Refusal.{Refusal}
 use Rattle.pc_types.specs.declared.limits.TheConstants.{MOST_KEYS}
 use Rattle.pc_model.specs.Database.{key_cmp, same_bytes}
 use Rattle.pc_model.proofs.JoinLaws.{one_key}
-use Rattle.pc_table.specs.Slots.{Slots, at, is_full, with_item, IsTaken, AllFree}
-use Rattle.pc_table.proofs.SlotLaws.{at_here, taken_below}
-use Rattle.pc_table.specs.Indexes.{IndexView, IsIndex}
-use Rattle.pc_table.specs.Keys.{key_at, IsAbsent, IsSlotOf, IsRecordMade}
-use Rattle.pc_table.proofs.IndexLaws.{index_kept, keys_set}
+use Rattle.pc_arena.specs.Slots.{Slots, at, is_full, with_item, IsTaken, AllFree}
+use Rattle.pc_arena.proofs.SlotLaws.{at_here, taken_below}
+use Rattle.pc_index.specs.Indexes.{IndexView, IsIndex}
+use Rattle.pc_index.specs.Keys.{key_at, IsAbsent, IsSlotOf, IsRecordMade}
+use Rattle.pc_index.proofs.IndexLaws.{index_kept, keys_set}
 use Rattle.pc_table.specs.declared.entry.TableEntry.{TableEntry}
 use Rattle.pc_table.specs.Rows.{Contents, slot_of, in_slot, with_record, with_row, without_slot, HasRow, IsNewSlot, AreInSlots}
 use Rattle.pc_table.specs.Entries.{key_in, entry_of, rows_from, contents_of, AreEntriesKept}

@@ -1,9 +1,3 @@
-pub mod Cells
-pub mod SlotLending
-pub mod Slots
-pub mod Hashes
-pub mod Indexes
-pub mod Keys
 pub mod Entries
 pub mod Lending
 pub mod Passing

@@ -1,6 +1,6 @@
 //! Entries: what stands in a slot.
 use pc_chain::Blank;
-use crate::keyed::Keyed;
+use pc_index::Keyed;
 use pc_types::Key;
 use std::alloc::{AllocError, Global};
 

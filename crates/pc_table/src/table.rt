@@ -4,10 +4,10 @@ ghost use Rattle.std.specs.Borrow.{sem};
 ghost use Rattle.pc_table.specs.Rows.{slot_of, in_slot, without_slot, pair_behind, with_record, with_row, why_refused, HasRow, IsNewSlot, IsTableFull, AreInSlots};
 ghost use Rattle.pc_table.specs.Lending.{LendsRow};
 
-use crate::arena::Arena;
-use pc_chain::Blank;
 use crate::entry::TableEntry;
-use crate::index::Index;
+use pc_arena::Arena;
+use pc_chain::Blank;
+use pc_index::Index;
 use pc_types::{Key, MOST_KEYS, Refusal, SlotId};
 use std::alloc::{AllocError, Global};
 use std::hash::RandomState;

@@ -1,5 +1,5 @@
 //! Slots that are taken, changed and freed.
-use pc_table::Arena;
+use pc_arena::Arena;
 use pc_types::{Refusal, SlotId};
 use std::test::Fail;
 

@@ -1,9 +1,10 @@
 //! Keys that get slots, are found, and lose them.
 ghost use Rattle.std.specs.Prelude.{IfOk};
-ghost use Rattle.pc_table.specs.Slots.{IsTaken};
-ghost use Rattle.pc_table.specs.Indexes.{IsIndex};
+ghost use Rattle.pc_arena.specs.Slots.{IsTaken};
+ghost use Rattle.pc_index.specs.Indexes.{IsIndex};
 
-use pc_table::{Arena, Index, Keyed};
+use pc_arena::Arena;
+use pc_index::{Index, Keyed};
 use pc_types::{Key, Refusal, SlotId};
 use std::alloc::{AllocError, Global};
 use std::hash::RandomState;

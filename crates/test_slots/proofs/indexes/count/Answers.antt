@@ -1,6 +1,6 @@
 use Rattle.std.proofs.Common.{refl}
 use Rattle.test_slots.specs.declared.indexes.CountRow.{CountRow}
-use Rattle.pc_table.proofs.IndexLaws.{index_kept, keys_set}
+use Rattle.pc_index.proofs.IndexLaws.{index_kept, keys_set}
 use Rattle.test_slots.proofs.indexes.count.Goals as goal
 
 pub returns : goal.returns

@@ -1,4 +1,4 @@
-use Rattle.pc_table.specs.Indexes.{IsIndex}
+use Rattle.pc_index.specs.Indexes.{IsIndex}
 use Rattle.test_slots.specs.declared.indexes.CountRow.{CountRow}
 use Rattle.test_slots.proofs.indexes.right.Given as goal
 

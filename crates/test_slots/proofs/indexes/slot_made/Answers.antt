@@ -2,9 +2,9 @@ use Rattle.std.proofs.Common.{◌≡◌, ℕ, List, Option, Some, None, option_m
 use Rattle.std.specs.Prelude.{Result, Ok, Err, IfOk}
 use Rattle.std.proofs.lemmas.Option.{none-some}
 use Rattle.pc_types.specs.declared.refusal.Refusal.{Refusal}
-use Rattle.pc_table.specs.Slots.{at, IsTaken}
-use Rattle.pc_table.specs.Keys.{IsRecordMade}
-use Rattle.pc_table.proofs.SlotLaws.{at_here}
+use Rattle.pc_arena.specs.Slots.{at, IsTaken}
+use Rattle.pc_index.specs.Keys.{IsRecordMade}
+use Rattle.pc_arena.proofs.SlotLaws.{at_here}
 use Rattle.test_slots.specs.declared.indexes.CountRow.{CountRow}
 use Rattle.test_slots.proofs.indexes.slot_made.Goals as goal
 

@@ -1,0 +1,5 @@
+mod Columns
+mod FreeLists
+mod CellKeeping
+mod Padding
+pub mod SlotLaws

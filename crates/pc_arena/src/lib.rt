@@ -1,0 +1,8 @@
+//! An arena: records in slots, which are taken and freed, each with a word of links beside its record.
+#![tactic(auto)]
+
+mod arena;
+mod cells;
+
+pub use arena::Arena;
+pub use cells::ByLink;

@@ -1,0 +1,51 @@
+-- Looking for a key along the chain of its place.
+use Rattle.std.proofs.Common.{◌≡◌, ℕ, ◌<◌, ◌≤◌, List, [], ◌∷◌, length, Option, Some, None, option_map, Bool, true, false, sym, ◌∙◌, ap}
+use Rattle.std.proofs.lemmas.Bool.{or_parts}
+use Rattle.std.proofs.lemmas.Option.{none-some}
+use Rattle.std.specs.List.{list_any}
+use Rattle.pc_chain.specs.Chains.{Avoids}
+use Rattle.pc_chain.proofs.StackLaws.{stack_fits}
+use Rattle.pc_arena.specs.Slots.{Slots, at, IsTaken}
+use Rattle.pc_arena.proofs.SlotLaws.{taken_below}
+use Rattle.pc_index.specs.Indexes.{IndexView, place_of, chain_at, IsIndex}
+use Rattle.pc_index.specs.Keys.{key_at, IsAbsent, IsSlotOf}
+use Rattle.pc_index.proofs.Texts.{same_text, one_text, own_text}
+
+-- an id that passes isn't in a list of which none does
+avoids_where_none : (test : ℕ → Bool) (xs : List ℕ) (id : ℕ) → list_any test xs ≡ false → test id ≡ true → Avoids id xs
+avoids_where_none test [] id n y = tt
+avoids_where_none test (x ∷ xs) id n y =
+    let h = or_parts (test x) (list_any test xs) n in
+    ((λ (e : x ≡ id). let f : test x ≡ true = ap test e ∙ y in let g : test x ≡ false = h.0 in cc), avoids_where_none test xs id h.1 y)
+
+module _ {T : Type 0} (key_of : T → List ℕ) where
+  -- the record, if there is one, has the key
+  abbrev pub is_key : List ℕ → Option T → Bool
+  is_key key None = false
+  is_key key (Some x) = same_text (key_of x) key
+
+  is_key_at : (key : List ℕ) (o : Option T) → option_map key_of o ≡ Some key → is_key key o ≡ true
+  is_key_at key None e = absurd cc
+  is_key_at key (Some x) e = let f : key_of x ≡ key = cc in rw f (own_text key)
+
+  pub is_key_of : (key : List ℕ) (o : Option T) (x : T) → o ≡ Some x → is_key key o ≡ same_text (key_of x) key
+  is_key_of key o x e = ap (is_key key) e
+
+  -- the slot that is found
+  pub slot_found : (slots : Slots T) (table : IndexView) (key : List ℕ) (id : ℕ) (x : T) → IsIndex key_of slots table → at slots.items id ≡ Some x → true ≡ same_text (key_of x) key → IsSlotOf key_of slots.items key (Some id)
+  slot_found slots table key id x i e t = λ other.
+      let this : key_at key_of slots.items id ≡ Some key = ap (option_map key_of) e ∙ ap Some (one_text (key_of x) key (sym t)) in
+      ((λ s. ap (key_at key_of slots.items) (let f : other ≡ id = cc in f) ∙ this), (λ h. ap Some (i.distinct id other key this h)))
+
+  -- where none of the chain has the key, no record has it
+  pub slot_missing : (slots : Slots T) (table : IndexView) (key : List ℕ) (i : IsIndex key_of slots table) → false ≡ list_any (λ id. is_key key (at slots.items id)) (i.ids (place_of table key)) → IsSlotOf key_of slots.items key None
+  slot_missing slots table key i n = λ id.
+      let absent : IsAbsent key_of slots.items key = λ y e. i.all y key e (avoids_where_none (λ z. is_key key (at slots.items z)) (i.ids (place_of table key)) y (sym n) (is_key_at key (at slots.items y) e)) in
+      ((λ s. absurd (none-some id s)), (λ h. absurd (absent id h)))
+
+  -- no record has the key where its slot is none, and no other where it is one
+  pub none_absent : (items : List (Option T)) (key : List ℕ) (found : Option ℕ) → IsSlotOf key_of items key found → found ≡ None → IsAbsent key_of items key
+  none_absent items key found s e id h = none-some id (sym e ∙ (s id).1 h)
+
+  pub chain_short : (slots : Slots T) (table : IndexView) (i : IsIndex key_of slots table) (b : ℕ) → b < length table.chains → length (i.ids b) ≤ length slots.items
+  chain_short slots table i b w = stack_fits (IsTaken slots.items) (at slots.links) (chain_at table b) (i.ids b) (length slots.items) (taken_below slots.items) (i.chains b w)
