@@ -1,5 +1,5 @@
 -- A slot that goes in, sides that are turned, and a slot that goes out.
-use Rattle.std.proofs.Common.{◌≡◌, ◌≢◌, ℕ, ◌+◌, ◌-◌, List, [], ◌∷◌, ◌++◌, length, Option, Some, None, refl, sym, ◌∙◌, ap, subst, arith}
+use Rattle.std.proofs.Common.{◌≡◌, ◌≢◌, ◌↔◌, Bool, false, ℕ, ◌+◌, ◌-◌, List, [], ◌∷◌, ◌++◌, length, Option, Some, None, refl, sym, ◌∙◌, ap, subst, arith}
 use Rattle.pc_chain.specs.declared.chain.Chain.{Chain}
 use Rattle.pc_chain.specs.Chains.{first_of, rest_of, Avoids, AreDisjoint, IsChain, IsEmpty}
 use Rattle.pc_chain.proofs.ChainLaws.{empty_chain}
@@ -20,6 +20,23 @@ turned_twice Second = refl
 pub avoids_places : (side : Side) (slot : ℕ) (slots : List ℕ) → Avoids slot slots → Avoids (place_of side slot) (places_of side slots)
 avoids_places side slot [] a = tt
 avoids_places side slot (x ∷ xs) a = ((λ e. a.0 (ap (λ (p : SideSlot). p.slot) e)), avoids_places side slot xs a.1)
+
+pub avoids_slots : (side : Side) (slot : ℕ) (slots : List ℕ) → Avoids (place_of side slot) (places_of side slots) → Avoids slot slots
+avoids_slots side slot [] a = tt
+avoids_slots side slot (x ∷ xs) a = ((λ e. a.0 (ap (place_of side) e)), avoids_slots side slot xs a.1)
+
+pub places_count : (side : Side) (slots : List ℕ) → length (places_of side slots) ≡ length slots
+places_count side [] = refl
+places_count side (x ∷ xs) = let h = places_count side xs in omega (arith, h)
+
+-- a place is told to be in a list, as its slot is
+pub place_told : (side : Side) (slot : ℕ) (slots : List ℕ) (answer : Bool) → (answer ≡ false) ↔ Avoids (place_of side slot) (places_of side slots) → (answer ≡ false) ↔ Avoids slot slots
+place_told side slot slots answer h = ((λ e. avoids_slots side slot slots (h.0 e)), (λ a. h.1 (avoids_places side slot slots a)))
+
+-- nothing is in a list of no slots
+pub none_told : (slot : ℕ) (slots : List ℕ) (count : ℕ) → count ≡ length slots → count ≡ 0 → (false ≡ false) ↔ Avoids slot slots
+none_told slot [] count e z = ((λ f. tt), (λ a. refl))
+none_told slot (x ∷ xs) count e z = absurd (omega (arith, e, z))
 
 -- no place is on both sides
 pub avoids_other : (side : Side) (slot : ℕ) (slots : List ℕ) → Avoids (place_of side slot) (places_of (other_side side) slots)

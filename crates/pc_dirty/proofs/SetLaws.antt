@@ -3,6 +3,7 @@ use Rattle.std.proofs.Common.{◌≡◌, ℕ, zero, suc, List, [], ◌∷◌, le
 use Rattle.pc_chain.specs.declared.chain.Chain.{Chain}
 use Rattle.pc_chain.specs.Chains.{first_of, Avoids, AllHave, Leads, IsChain}
 use Rattle.pc_chain.proofs.ChainLaws.{empty_chain}
+use Rattle.pc_dirty.proofs.Changing.{avoids_slots}
 use Rattle.pc_dirty.specs.declared.side.SideSlot.{SideSlot}
 use Rattle.pc_dirty.specs.declared.side.Side.{Side}
 use Rattle.pc_dirty.specs.declared.dirty.Dirty.{Dirty}
@@ -48,13 +49,9 @@ sets_stay has has' next next' dirty opened closed h s k t d = record {
   closed_count = d.closed_count;
 }
 
-apart : (side : Side) (slot : ℕ) (slots : List ℕ) → Avoids (place_of side slot) (places_of side slots) → Avoids slot slots
-apart side slot [] a = tt
-apart side slot (x ∷ xs) a = ((λ e. a.0 (ap (place_of side) e)), apart side slot xs a.1)
-
 once : (next : SideSlot → Option SideSlot) (side : Side) (slots : List ℕ) → Leads next (places_of side slots) → HasNoRepeats slots
 once next side [] l = tt
-once next side (x ∷ xs) l = (apart side x xs l.1, once next side xs l.2)
+once next side (x ∷ xs) l = (avoids_slots side x xs l.1, once next side xs l.2)
 
 follow_is : (next : SideSlot → Option SideSlot) (side : Side) (n : ℕ) (slots : List ℕ) → Leads next (places_of side slots) → n ≡ length slots → follow next n (first_of (places_of side slots)) ≡ slots
 follow_is next side n [] l h = refl

@@ -1,5 +1,5 @@
 //! The two sets.
-ghost use Rattle.std.specs.Prelude.{◌≡◌, ◌<◌, ◌+◌, ◌^◌, ◌∷◌, ◌++◌, ◌↔◌, [], ℕ, List, length, IsTrue};
+ghost use Rattle.std.specs.Prelude.{◌≡◌, ◌<◌, ◌+◌, ◌^◌, ◌∷◌, ◌++◌, ◌↔◌, [], false, ℕ, List, length, IsTrue};
 ghost use Rattle.pc_chain.specs.Chains.{first_of, rest_of, Avoids};
 ghost use Rattle.pc_dirty.specs.Sets.{other_side, place_of, AreSets, AreEmpty};
 
@@ -9,8 +9,8 @@ use pc_types::SlotId;
 
 /// Two sets of slots, the open one and the closed one; a slot can be in both. Each is a list without repeats, in the order of
 /// first addition. The sets have their ends alone: each slot's links, one on either side, are kept by whoever is given at each
-/// call, in the words that the call's marker `K` names, and so is whether a slot is in a set. No call takes memory, none goes
-/// over the slots, and each succeeds.
+/// call, in the words that the call's marker `K` names. No call takes memory, none but `in_open`, `in_closed` and `add` goes over the
+/// slots, and each succeeds.
 #[derive(Clone, Copy)]
 pub struct Dirty {
     opened: Chain<SideSlot>,
@@ -42,8 +42,50 @@ impl Dirty {
         side
     }
 
-    /// Adds a slot, which isn't in the open set, at its end.
+    /// Whether a slot is in the open set. It goes along the set, up to all of its slots: whoever keeps the links may know it at
+    /// once.
+    pub fn in_open<K, L: Links<K, Id = SideSlot>>(&self, links: &L, slot: SlotId) -> bool
+        requires { (opened closed : List ℕ) × AreSets (L.has links.now) (L.next_of links.now) self.now opened closed }
+        ensures { (opened closed : List ℕ) → AreSets (L.has links.now) (L.next_of links.now) self.now opened closed → (result ≡ false) ↔ Avoids slot opened }
+    {
+        if self.open_len(links) == 0 {
+            return false;
+        }
+        let side = self.side;
+        self.opened.contains(links, SideSlot { slot, side })
+    }
+
+    /// Whether a slot is in the closed set. It goes along the set, up to all of its slots: whoever keeps the links may know it at
+    /// once.
+    pub fn in_closed<K, L: Links<K, Id = SideSlot>>(&self, links: &L, slot: SlotId) -> bool
+        requires { (opened closed : List ℕ) × AreSets (L.has links.now) (L.next_of links.now) self.now opened closed }
+        ensures { (opened closed : List ℕ) → AreSets (L.has links.now) (L.next_of links.now) self.now opened closed → (result ≡ false) ↔ Avoids slot closed }
+    {
+        if self.closed_len(links) == 0 {
+            return false;
+        }
+        let side = self.side.other();
+        self.closed.contains(links, SideSlot { slot, side })
+    }
+
+    /// Adds a slot at the end of the open set; where the set has it, all stays as it is. It looks for the slot along the set
+    /// (`in_open`); `add_new` doesn't.
     pub fn add<K, L: Links<K, Id = SideSlot>>(&mut self, links: &mut L, slot: SlotId)
+        requires has { L.has links.old (place_of self.old.side slot) }
+        requires stands { (opened closed : List ℕ) × AreSets (L.has links.old) (L.next_of links.old) self.old opened closed × (length opened + 1 < 2 ^ 32) }
+        ensures added { (opened closed : List ℕ) → AreSets (L.has links.old) (L.next_of links.old) self.old opened closed → Avoids slot opened → AreSets (L.has links.new) (L.next_of links.new) self.new (opened ++ slot ∷ []) closed }
+        ensures kept { (opened closed : List ℕ) → AreSets (L.has links.old) (L.next_of links.old) self.old opened closed → ¬ Avoids slot opened → (self.new ≡ self.old) × (links.new ≡ links.old) }
+        ensures side { self.new.side ≡ self.old.side }
+        ensures has { (other : SideSlot) → L.has links.old other → L.has links.new other }
+        ensures beside { L.beside links.old links.new }
+    {
+        if !self.in_open(&*links, slot) {
+            self.add_new(links, slot);
+        }
+    }
+
+    /// Adds a slot, which isn't in the open set, at its end. No slot of the set is looked at.
+    pub fn add_new<K, L: Links<K, Id = SideSlot>>(&mut self, links: &mut L, slot: SlotId)
         requires has { L.has links.old (place_of self.old.side slot) }
         requires stands { (opened closed : List ℕ) × AreSets (L.has links.old) (L.next_of links.old) self.old opened closed × Avoids slot opened × (length opened + 1 < 2 ^ 32) }
         ensures sets { (opened closed : List ℕ) → AreSets (L.has links.old) (L.next_of links.old) self.old opened closed → Avoids slot opened → AreSets (L.has links.new) (L.next_of links.new) self.new (opened ++ slot ∷ []) closed }

@@ -5,7 +5,7 @@ ghost use Rattle.pc_dirty.specs.Sets.{other_side};
 use pc_types::SlotId;
 
 /// One of the two words of links that each slot has. The open set is linked by one of them, and the closed set by the other.
-#[derive(Clone, Copy)]
+#[derive(Clone, Copy, PartialEq)]
 pub enum Side {
     First,
     Second,
@@ -24,7 +24,7 @@ impl Side {
 }
 
 /// What names a link: a slot, and a side.
-#[derive(Clone, Copy)]
+#[derive(Clone, Copy, PartialEq)]
 pub struct SideSlot {
     pub slot: SlotId,
     pub side: Side,

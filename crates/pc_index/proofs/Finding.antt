@@ -1,5 +1,5 @@
 -- Looking for a key along the chain of its place.
-use Rattle.std.proofs.Common.{◌≡◌, ℕ, ◌<◌, ◌≤◌, List, [], ◌∷◌, length, Option, Some, None, option_map, Bool, true, false, sym, ◌∙◌, ap}
+use Rattle.std.proofs.Common.{◌≡◌, ℕ, ◌<◌, ◌≤◌, List, [], ◌∷◌, length, Option, Some, None, option_map, Bool, true, false, refl, sym, ◌∙◌, ap}
 use Rattle.std.proofs.lemmas.Bool.{or_parts}
 use Rattle.std.proofs.lemmas.Option.{none-some}
 use Rattle.std.specs.List.{list_any}
@@ -46,6 +46,16 @@ module _ {T : Type 0} (key_of : T → List ℕ) where
   -- no record has the key where its slot is none, and no other where it is one
   pub none_absent : (items : List (Option T)) (key : List ℕ) (found : Option ℕ) → IsSlotOf key_of items key found → found ≡ None → IsAbsent key_of items key
   none_absent items key found s e id h = none-some id (sym e ∙ (s id).1 h)
+
+  -- a key has one slot or none
+  pub one_slot : (items : List (Option T)) (key : List ℕ) (id other : ℕ) → IsSlotOf key_of items key (Some id) → IsSlotOf key_of items key (Some other) → id ≡ other
+  one_slot items key id other s t = let e : Some id ≡ Some other = (s other).1 ((t other).0 refl) in cc
+
+  pub no_slot : (items : List (Option T)) (key : List ℕ) (id : ℕ) → IsSlotOf key_of items key None → IsSlotOf key_of items key (Some id) → ⊥
+  no_slot items key id s t = none-some id ((s id).1 ((t id).0 refl))
+
+  pub not_absent : (items : List (Option T)) (key : List ℕ) (id : ℕ) → IsSlotOf key_of items key (Some id) → IsAbsent key_of items key → ⊥
+  not_absent items key id s a = a id ((s id).0 refl)
 
   pub chain_short : (slots : Slots T) (table : IndexView) (i : IsIndex key_of slots table) (b : ℕ) → b < length table.chains → length (i.ids b) ≤ length slots.items
   chain_short slots table i b w = stack_fits (IsTaken slots.items) (at slots.links) (chain_at table b) (i.ids b) (length slots.items) (taken_below slots.items) (i.chains b w)

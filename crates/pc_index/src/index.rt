@@ -1,5 +1,5 @@
 //! The index itself.
-ghost use Rattle.std.specs.Prelude.{◌≡◌, ◌<◌, true, length, IfOk, IfErr, OnErr, Err, Some, None, if◌then◌else◌, slice_set};
+ghost use Rattle.std.specs.Prelude.{◌≡◌, ◌<◌, true, length, ℕ, IfOk, IfErr, OnErr, Ok, Err, Some, None, if◌then◌else◌, slice_set};
 ghost use Rattle.std.specs.Int.{IsNextPowerOfTwo};
 ghost use Rattle.pc_arena.specs.Slots.{at, is_full, IsTaken, AllFree};
 ghost use Rattle.pc_index.specs.Indexes.{place_of, IsIndex};
@@ -81,6 +81,31 @@ impl Index {
             at = <Arena<T> as Links<ByLink>>::next(arena, id);
         }
         None
+    }
+
+    /// The slot of the record that has the key; where none has it, a blank one is made in a free slot. Each other key keeps its
+    /// slot. Refuses with `Full` exactly where no record has the key and no slot is free, and else only with `OutOfMemory`, where
+    /// no record has it and the blank one can't be made; arena and index are then as they were.
+    pub fn find_or_make<T: Keyed>(
+        &mut self,
+        arena: &mut Arena<T>,
+        alloc: Global,
+        key: &Key,
+    ) -> Result<SlotId, Refusal>
+        requires { IsIndex T.key_of arena.old self.old }
+        ensures slot { IfOk result (λ id. IsSlotOf T.key_of arena.new.items key.now (Some id)) }
+        ensures found { (id : ℕ) → IsSlotOf T.key_of arena.old.items key.now (Some id) → (result ≡ Ok id) × (arena.new ≡ arena.old) × (self.new ≡ self.old) }
+        ensures made { IsAbsent T.key_of arena.old.items key.now → IfOk result (λ id. IsRecordMade (T.blank_of key.now) arena.old.items arena.new.items id) }
+        ensures others { KeepsOtherSlots T.key_of key.now arena.old.items arena.new.items }
+        ensures index { IsIndex T.key_of arena.new self.new }
+        ensures full { IsAbsent T.key_of arena.old.items key.now → is_full arena.old.items ≡ true → result ≡ Err Refusal.Full }
+        ensures refusal { IfErr result (λ e. IsAbsent T.key_of arena.old.items key.now × (e ≡ (if is_full arena.old.items then Refusal.Full else Refusal.OutOfMemory))) }
+        ensures err { OnErr result ((arena.new ≡ arena.old) × (self.new ≡ self.old)) }
+    {
+        match self.find(&*arena, key) {
+            Some(id) => Ok(id),
+            None => self.make(arena, alloc, key),
+        }
     }
 
     /// The slot of the blank record of a key that no record has, which goes into a free slot; each other key keeps its slot.

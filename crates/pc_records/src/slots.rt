@@ -189,7 +189,7 @@ pub(crate) fn settle_slot(
     let stage = Stage { side, point };
     let is_new = pc_slots::settle(table.get_mut(id), stage, spares);
     if is_new {
-        sets.add(table, id);
+        sets.add_new(table, id);
     }
 }
 

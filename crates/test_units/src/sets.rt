@@ -95,6 +95,7 @@ enum Ask {
     Pop,
     First,
     Counts,
+    Has(u32),
 }
 
 #[derive(Clone, Copy, Debug, PartialEq)]
@@ -106,10 +107,12 @@ enum Told {
     Nothing,
     // How many are open, and how many closed.
     Counted(u32, u32),
+    // Whether the slot is in the open, and whether in the closed set.
+    Held(bool, bool),
 }
 
-use Ask::{Add, Close, Counts, First, Pop};
-use Told::{Counted, Done, Nothing, Refused, Slot};
+use Ask::{Add, Close, Counts, First, Has, Pop};
+use Told::{Counted, Done, Held, Nothing, Refused, Slot};
 
 fn slot_of(found: Option<SlotId>) -> Told {
     match found {
@@ -130,11 +133,22 @@ fn added(kept: &mut KeptSets, slot: u32) -> Result<Told, AllocError>
     ensures { OnOk result (AreKept kept.new.row.first.items kept.new.row.second.items kept.new.sets kept.new.opened.items) }
 {
     if !is_new(kept.opened.as_slice(), slot) {
+        add_again(kept, slot);
         return Ok(Refused);
     }
     kept.opened.push(slot)?;
-    kept.sets.add(&mut kept.row, SlotId(slot));
+    kept.sets.add_new(&mut kept.row, SlotId(slot));
     Ok(Done)
+}
+
+// Adds a slot that the open set has, so that all stays as it is.
+fn add_again(kept: &mut KeptSets, slot: u32)
+    requires { AreKept kept.old.row.first.items kept.old.row.second.items kept.old.sets kept.old.opened.items }
+    ensures { AreKept kept.new.row.first.items kept.new.row.second.items kept.new.sets kept.new.opened.items }
+{
+    if slot < 12 && kept.opened.len() <= 12 && kept.sets.in_open(&kept.row, SlotId(slot)) {
+        kept.sets.add(&mut kept.row, SlotId(slot));
+    }
 }
 
 fn closed(kept: &mut KeptSets) -> Told
@@ -169,6 +183,10 @@ fn answer(kept: &mut KeptSets, ask: Ask) -> Result<Told, AllocError>
             kept.sets.open_len(&kept.row),
             kept.sets.closed_len(&kept.row),
         )),
+        Has(slot) => Ok(Held(
+            kept.sets.in_open(&kept.row, SlotId(slot)),
+            kept.sets.in_closed(&kept.row, SlotId(slot)),
+        )),
     }
 }
 
@@ -184,9 +202,10 @@ fn first_wrong(kept: &mut KeptSets, rows: &[(Ask, Told)]) -> Result<Option<usize
     Ok(None)
 }
 
-const ROWS: [(Ask, Told); 43] = [
+const ROWS: [(Ask, Told); 53] = [
     // Empty, also once they are closed.
     (Counts, Counted(0, 0)),
+    (Has(2), Held(false, false)),
     (Pop, Nothing),
     (First, Nothing),
     (Close, Done),
@@ -196,6 +215,9 @@ const ROWS: [(Ask, Told); 43] = [
     (Add(2), Done),
     (Add(11), Done),
     (Add(2), Refused),
+    (Has(2), Held(true, false)),
+    (Has(11), Held(true, false)),
+    (Has(3), Held(false, false)),
     (Counts, Counted(2, 0)),
     (First, Nothing),
     (Pop, Nothing),
@@ -203,11 +225,15 @@ const ROWS: [(Ask, Told); 43] = [
     (Close, Done),
     (Counts, Counted(0, 2)),
     (First, Slot(2)),
+    (Has(11), Held(false, true)),
     // A slot that is added while it is closed is in both.
     (Add(11), Done),
     (Add(3), Done),
     (Add(2), Done),
     (Counts, Counted(3, 2)),
+    (Has(2), Held(true, true)),
+    (Has(3), Held(true, false)),
+    (Has(12), Held(false, false)),
     (Close, Refused),
     // Taken in the order of first addition, while others go in.
     (First, Slot(2)),
@@ -217,6 +243,8 @@ const ROWS: [(Ask, Told); 43] = [
     (First, Slot(11)),
     (Close, Refused),
     (Counts, Counted(4, 1)),
+    (Has(2), Held(true, false)),
+    (Has(11), Held(true, true)),
     (Pop, Slot(11)),
     (Pop, Nothing),
     (Add(5), Done),
@@ -248,12 +276,13 @@ const STEPS: u32 = 5000;
 
 // A request by chance: most add or take, and a close is asked for about as often as the closed set is empty.
 fn drawn_ask(seed: u64) -> Ask {
-    match drawn(seed, 33, 16) {
+    match drawn(seed, 33, 18) {
         0..=6 => Add(drawn(seed, 37, 13)),
         7..=11 => Pop,
         12..=13 => Close,
         14 => First,
-        _ => Counts,
+        15 => Counts,
+        _ => Has(drawn(seed, 37, 13)),
     }
 }
 
@@ -312,12 +341,16 @@ impl PlainSets {
             Pop => Ok(self.pop()),
             First => Ok(self.first()),
             Counts => Ok(Counted(count_of(&self.opened), count_of(&self.closed))),
+            Has(slot) => Ok(Held(
+                self.opened.contains(&slot),
+                self.closed.contains(&slot),
+            )),
         }
     }
 }
 
-// How many requests of each kind were answered so: done, refused, with a slot, with nothing, and with counts.
-type AnswerCounts = [u32; 5];
+// How many requests of each kind were answered so: done, refused, with a slot, with nothing, with counts, and with sets.
+type AnswerCounts = [u32; 6];
 
 fn note(tally: &mut AnswerCounts, told: Told) {
     let place = match told {
@@ -326,6 +359,7 @@ fn note(tally: &mut AnswerCounts, told: Told) {
         Slot(_) => 2,
         Nothing => 3,
         Counted(_, _) => 4,
+        Held(_, _) => 5,
     };
     tally[place] = tally[place].saturating_add(1);
 }
@@ -335,7 +369,7 @@ fn first_other(kept: &mut KeptSets, lists: &mut PlainSets) -> Result<Option<u32>
     requires { AreKept kept.old.row.first.items kept.old.row.second.items kept.old.sets kept.old.opened.items }
 {
     let mut seed = 1u64;
-    let mut tally: AnswerCounts = [0; 5];
+    let mut tally: AnswerCounts = [0; 6];
     for step in 0..STEPS {
         seed = following(seed);
         let ask = drawn_ask(seed);

@@ -5,15 +5,15 @@ use Rattle.pc_table.specs.Rows.{with_record}
 use Rattle.pc_records.proofs.Unlinked.{ends_keep}
 use Rattle.pc_records.proofs.EndsKept.{ends_changed}
 use Rattle.pc_records.proofs.slots.settle_slot.Goals as goal
-use Rattle.pc_records.proofs.slots.settle_slot.Goals.{After-add, Else-is_new}
+use Rattle.pc_records.proofs.slots.settle_slot.Goals.{After-add_new, Else-is_new}
 
-pub add-requires-clause-has : goal.add-requires-clause-has
-add-requires-clause-has c =
+pub add_new-requires-clause-has : goal.add_new-requires-clause-has
+add_new-requires-clause-has c =
     has_after c.args.table.now c.get_mut.ensures.slots c.args.sets.now c.requires.listed c.args.id c.get_mut.result.now c.settle-is_new.new.slot c.get_mut.ensures.record_of c.args.point
     c.open_side-side.result c.open_side-side.ensures c.settle-is_new.ensures.slot c.settle-is_new.ensures.links (sym c.if-is_new.true ∙ c.settle-is_new.ensures.fresh) c.requires.row
 
-pub add-requires-clause-stands : goal.add-requires-clause-stands
-add-requires-clause-stands c = (
+pub add_new-requires-clause-stands : goal.add_new-requires-clause-stands
+add_new-requires-clause-stands c = (
   open_slots c.args.table.now.rows c.args.sets.now,
   closed_slots c.args.table.now.rows c.args.sets.now,
   linked_after c.args.table.now c.get_mut.ensures.slots c.args.sets.now c.requires.listed c.args.id c.get_mut.result.now c.settle-is_new.new.slot c.get_mut.ensures.record_of c.args.point
@@ -25,11 +25,11 @@ add-requires-clause-stands c = (
 )
 
 -- the slot goes in, or it doesn't
-goes : (c : After-add) → Settles c.args.table.now c.add.new.links c.args.sets.now c.add.new.self c.args.point c.args.id
+goes : (c : After-add_new) → Settles c.args.table.now c.add_new.new.links c.args.sets.now c.add_new.new.self c.args.point c.args.id
 goes c =
     goes_in c.args.table.now c.get_mut.ensures.slots c.args.sets.now c.requires.listed c.args.id c.get_mut.result.now c.settle-is_new.new.slot c.get_mut.ensures.record_of c.args.point
     c.open_side-side.result c.open_side-side.ensures c.settle-is_new.ensures.slot c.settle-is_new.ensures.links (sym c.if-is_new.true ∙ c.settle-is_new.ensures.fresh)
-    c.add.new.links c.add.new.self c.add.ensures.side c.add.ensures.beside (c.add.ensures.sets (open_slots c.args.table.now.rows c.args.sets.now) (closed_slots c.args.table.now.rows c.args.sets.now)
+    c.add_new.new.links c.add_new.new.self c.add_new.ensures.side c.add_new.ensures.beside (c.add_new.ensures.sets (open_slots c.args.table.now.rows c.args.sets.now) (closed_slots c.args.table.now.rows c.args.sets.now)
     (linked_after c.args.table.now c.get_mut.ensures.slots c.args.sets.now c.requires.listed c.args.id c.get_mut.result.now c.settle-is_new.new.slot c.get_mut.ensures.record_of c.args.point
     c.open_side-side.result c.open_side-side.ensures c.settle-is_new.ensures.slot c.settle-is_new.ensures.links (sym c.if-is_new.true ∙ c.settle-is_new.ensures.fresh))
     (avoids c.args.table.now c.get_mut.ensures.slots c.args.sets.now c.requires.listed c.args.id c.get_mut.result.now c.settle-is_new.new.slot c.get_mut.ensures.record_of c.args.point
@@ -66,7 +66,7 @@ returns-else-is_new-clause-closed c = (stays c).closed
 
 pub returns-then-is_new-clause-ends : goal.returns-then-is_new-clause-ends
 returns-then-is_new-clause-ends c =
-    ends_keep (with_record c.args.table.now c.args.id c.settle-is_new.new.slot) c.add.new.links c.add.ensures.beside
+    ends_keep (with_record c.args.table.now c.args.id c.settle-is_new.new.slot) c.add_new.new.links c.add_new.ensures.beside
     ∙ ends_changed c.args.table.now.rows c.args.id c.get_mut.result.now c.settle-is_new.new.slot c.get_mut.ensures.record_of c.settle-is_new.ensures.ends
 
 pub returns-else-is_new-clause-ends : goal.returns-else-is_new-clause-ends

@@ -1,6 +1,6 @@
 use Rattle.pc_dirty.specs.Sets.{other_side, places_of}
 use Rattle.pc_dirty.proofs.Changing.{avoids_places, avoids_other, sides_apart, set_added}
-use Rattle.pc_dirty.proofs.dirty.Dirty.add.Goals as goal
+use Rattle.pc_dirty.proofs.dirty.Dirty.add_new.Goals as goal
 
 pub push_back-requires-clause-stands : goal.push_back-requires-clause-stands
 push_back-requires-clause-stands g c =
