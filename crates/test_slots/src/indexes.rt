@@ -1,5 +1,4 @@
 //! Keys that get slots, are found, and lose them.
-ghost use Rattle.std.specs.Prelude.{IfOk};
 ghost use Rattle.pc_arena.specs.Slots.{IsTaken};
 ghost use Rattle.pc_index.specs.Indexes.{IsIndex};
 
@@ -43,23 +42,6 @@ enum Ask {
     Remove,
 }
 
-// The slot of the key, which gets a record where it has none.
-fn slot_made(
-    alloc: Global,
-    arena: &mut Arena<CountRow>,
-    index: &mut Index,
-    key: &Key,
-) -> Result<SlotId, Refusal>
-    requires { IsIndex (λ row. row.key) arena.old index.old }
-    ensures index { IsIndex (λ row. row.key) arena.new index.new }
-    ensures taken { IfOk result (IsTaken arena.new.items) }
-{
-    match index.find(&*arena, key) {
-        Some(id) => Ok(id),
-        None => index.make(arena, alloc, key),
-    }
-}
-
 // Counts once more, and leaves the index as it is.
 fn count(arena: &mut Arena<CountRow>, _index: &Index, id: SlotId) -> u64
     requires taken { IsTaken arena.old.items id }
@@ -84,7 +66,7 @@ fn answer(
 {
     match (ask, index.find(&*arena, key)) {
         (Ask::Make, _) => {
-            let id = slot_made(alloc, arena, index, key)?;
+            let id = index.find_or_make(arena, alloc, key)?;
             Ok(count(arena, &*index, id))
         }
         (Ask::Find, Some(id)) => Ok(arena.get(id).count),

@@ -341,10 +341,7 @@ impl PlainSets {
             Pop => Ok(self.pop()),
             First => Ok(self.first()),
             Counts => Ok(Counted(count_of(&self.opened), count_of(&self.closed))),
-            Has(slot) => Ok(Held(
-                self.opened.contains(&slot),
-                self.closed.contains(&slot),
-            )),
+            Has(slot) => Ok(Held(self.opened.contains(&slot), self.closed.contains(&slot))),
         }
     }
 }
