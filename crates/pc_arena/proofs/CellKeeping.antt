@@ -6,9 +6,9 @@ use Rattle.pc_chain.specs.declared.chain.Chain.{Chain}
 use Rattle.pc_chain.specs.Chains.{first_of, rest_of, Avoids, IsChain, IsEmpty}
 use Rattle.pc_chain.proofs.ChainLaws.{empty_chain}
 use Rattle.pc_arena.specs.declared.cells.ArenaCell.{ArenaCell}
-use Rattle.pc_arena.specs.Slots.{Slots, at, is_full, with_item, IsTaken, IsFree, AllFree}
+use Rattle.pc_chain.specs.Slots.{Slots, at, is_full, with_item, IsTaken, IsFree, AllFree}
 use Rattle.pc_arena.specs.Cells.{IsFreeList, AreCellsKept, item_of, link_of, items_of, links_of, slots_of, padded, unwritten}
-use Rattle.pc_arena.proofs.SlotLaws.{at_other, taken_below}
+use Rattle.pc_chain.proofs.SlotLaws.{at_other, taken_below}
 use Rattle.pc_arena.proofs.Columns.{map_same, column_set, column_here}
 use Rattle.pc_arena.proofs.Padding.{at_padded, length_padded, set_padded, padded_set, padded_push, padded_none, padded_not_full}
 use Rattle.pc_arena.proofs.FreeLists.{free_taken_first, free_given, free_linked, free_changed, full_is, free_fresh}

@@ -4,8 +4,8 @@ use Rattle.std.proofs.lemmas.List.{get_or-map, length-map, map-set, set-get_or}
 use Rattle.pc_arena.specs.declared.cells.ArenaCell.{ArenaCell}
 use Rattle.pc_arena.specs.declared.cells.ArenaCell.TheVariants.{Free, Taken}
 use Rattle.pc_arena.specs.Cells.{item_of, link_of, with_record}
-use Rattle.pc_arena.specs.Slots.{at}
-use Rattle.pc_arena.proofs.SlotLaws.{at_here, at_other}
+use Rattle.pc_chain.specs.Slots.{at}
+use Rattle.pc_chain.proofs.SlotLaws.{at_here, at_other}
 
 -- a change of one field leaves the others
 pub map_same : {X Y : Type 0} (f : X → Y) (xs : List X) (i : ℕ) (x y : X) → x ≡ get_or xs i x → f y ≡ f x → map f (set xs i y) ≡ map f xs

@@ -4,9 +4,9 @@ use Rattle.std.proofs.lemmas.Option.{none-some}
 use Rattle.pc_chain.specs.declared.chain.Chain.{Chain}
 use Rattle.pc_chain.specs.Chains.{first_of, rest_of, Avoids, AllHave, IsChain}
 use Rattle.pc_chain.proofs.ChainLaws.{have_still, have_push, have_others, have_both, avoids_all, all_avoids, avoids_pushed, chain_still, empty_chain}
-use Rattle.pc_arena.specs.Slots.{at, is_full, IsTaken}
+use Rattle.pc_chain.specs.Slots.{at, is_full, IsTaken}
 use Rattle.pc_arena.specs.Cells.{IsFreeList}
-use Rattle.pc_arena.proofs.SlotLaws.{at_here, at_other, not_both, not_full, full_where_none}
+use Rattle.pc_chain.proofs.SlotLaws.{at_here, at_other, not_both, not_full, full_where_none}
 
 module _ {T : Type 0} where
   -- a slot that has a record isn't in the list

@@ -2,4 +2,3 @@ mod Columns
 mod FreeLists
 mod CellKeeping
 mod Padding
-pub mod SlotLaws

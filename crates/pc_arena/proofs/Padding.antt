@@ -1,7 +1,7 @@
 -- Lists of which the rest is None.
 use Rattle.std.proofs.Common.{◌≡◌, ℕ, zero, suc, ◌+◌, ◌<◌, List, [], ◌∷◌, ◌++◌, length, replicate, set, Option, Some, None, false, refl, ap, ◌∙◌}
 use Rattle.std.proofs.lemmas.List.{length-append, length-replicate, set-append_left}
-use Rattle.pc_arena.specs.Slots.{at, is_full}
+use Rattle.pc_chain.specs.Slots.{at, is_full}
 use Rattle.pc_arena.specs.Cells.{padded}
 
 pub bare : {X : Type 0} (n i : ℕ) → at (replicate {A = Option X} n None) i ≡ None

@@ -5,7 +5,7 @@ use Rattle.pc_chain.specs.declared.chain.Chain.{Chain}
 use Rattle.pc_chain.specs.Chains.{Avoids, AllHave, IsChain}
 use Rattle.pc_arena.specs.declared.cells.ArenaCell.{ArenaCell}
 use Rattle.pc_arena.specs.declared.cells.ArenaCell.TheVariants.{Free, Taken}
-use Rattle.pc_arena.specs.Slots.{Slots, at}
+use Rattle.pc_chain.specs.Slots.{Slots, at}
 
 -- so many more behind the list, each None
 abbrev pub padded : {X : Type 0} → ℕ → List (Option X) → List (Option X)

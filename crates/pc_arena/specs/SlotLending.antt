@@ -2,7 +2,7 @@
 use Rattle.std.specs.Prelude.{ℕ, Some}
 use Rattle.std.specs.Borrow.{Lends, Fml, RattleType, MutBor}
 use Rattle.pc_arena.specs.Cells.{with_record}
-use Rattle.pc_arena.specs.Slots.{Slots, with_item}
+use Rattle.pc_chain.specs.Slots.{Slots, with_item}
 use Rattle.pc_arena.specs.declared.cells.ArenaCell.{ArenaCell}
 use Rattle.pc_arena.specs.contracts.cells.ArenaCell.{the_row as the_cell}
 use Rattle.pc_arena.specs.contracts.arena.Arena.{the_row}

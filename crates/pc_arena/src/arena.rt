@@ -2,7 +2,7 @@
 ghost use Rattle.std.specs.Prelude.{◌≡◌, ◌≢◌, ◌≤◌, ℕ, length, IfOk, IfErr, OnErr, is_err, Some, None, option_copied, slice_set};
 ghost use Rattle.std.specs.Borrow.{sem};
 ghost use Rattle.pc_arena.specs.SlotLending.{LendsItem};
-ghost use Rattle.pc_arena.specs.Slots.{at, is_full, with_item, IsTaken, IsFree, AllFree};
+ghost use Rattle.pc_chain.specs.Slots.{at, is_full, with_item, IsTaken, IsFree, AllFree};
 
 use crate::cells::{ArenaCell, ByLink, Cells};
 use pc_chain::{Chain, Links};
@@ -28,7 +28,7 @@ pub struct Arena<T> {
 
 impl<T> Model for Arena<T> {
     ghost use Rattle.std.specs.Prelude.{◌≤◌, vec_capacity};
-    ghost use Rattle.pc_arena.specs.Slots.{Slots};
+    ghost use Rattle.pc_chain.specs.Slots.{Slots};
     ghost use Rattle.pc_arena.specs.Cells.{slots_of, AreCellsKept};
 
     ghost Value = { Slots T };
@@ -41,7 +41,7 @@ impl<T> Model for Arena<T> {
 impl<T> Links<ByLink> for Arena<T> {
     ghost use Rattle.std.specs.Prelude.{◌≡◌, refl};
     ghost use Rattle.std.proofs.Common.{◌∙◌};
-    ghost use Rattle.pc_arena.specs.Slots.{at, IsTaken};
+    ghost use Rattle.pc_chain.specs.Slots.{at, IsTaken};
 
     type Id = SlotId;
 

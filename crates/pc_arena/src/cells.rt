@@ -1,6 +1,6 @@
 //! Cells: what a slot keeps.
 ghost use Rattle.std.specs.Prelude.{◌≡◌, ◌≢◌, ◌<◌, ℕ, length, vec_capacity};
-ghost use Rattle.pc_arena.specs.Slots.{at};
+ghost use Rattle.pc_chain.specs.Slots.{at};
 ghost use Rattle.pc_arena.specs.Cells.{link_in, links_of, items_of};
 
 use pc_chain::Links;
@@ -144,7 +144,7 @@ pub struct ByLink;
 impl<T> Links<ByLink> for Cells<T> {
     ghost use Rattle.std.specs.Prelude.{◌<◌, ◌≡◌, length, refl, vec_capacity};
     ghost use Rattle.std.proofs.Common.{◌∙◌};
-    ghost use Rattle.pc_arena.specs.Slots.{at};
+    ghost use Rattle.pc_chain.specs.Slots.{at};
     ghost use Rattle.pc_arena.specs.Cells.{links_of, items_of};
 
     type Id = SlotId;

@@ -3,6 +3,7 @@
 
 mod arena;
 mod cells;
+mod keyed;
 
 pub use arena::Arena;
 pub use cells::ByLink;

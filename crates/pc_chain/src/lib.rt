@@ -1,13 +1,17 @@
-//! Chains and stacks: lists that are linked by ids, over links that someone else keeps. Beside them stands what a new id's record
-//! holds.
+//! Chains and stacks: lists that are linked by ids, over links that someone else keeps. Beside them stands what is asked of
+//! whoever keeps links, records and their keys in slots.
 #![tactic(auto)]
 
 mod blank;
 mod chain;
+mod keyed;
+mod keyed_slots;
 mod links;
 mod stack;
 
 pub use blank::Blank;
 pub use chain::Chain;
+pub use keyed::Keyed;
+pub use keyed_slots::KeyedSlots;
 pub use links::Links;
 pub use stack::Stack;

@@ -4,7 +4,7 @@ use Rattle.std.proofs.lemmas.Option.{none-some}
 use Rattle.std.proofs.lemmas.List.{get_or-replicate, length-replicate}
 use Rattle.pc_chain.specs.declared.stack.Stack.{Stack}
 use Rattle.pc_chain.proofs.StackLaws.{empty_stack}
-use Rattle.pc_arena.specs.Slots.{Slots, at, IsTaken, AllFree}
+use Rattle.pc_chain.specs.Slots.{Slots, at, IsTaken, AllFree}
 use Rattle.pc_index.specs.Indexes.{IndexView, chain_at, IsIndex}
 use Rattle.pc_index.specs.Keys.{key_at}
 

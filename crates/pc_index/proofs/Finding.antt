@@ -1,14 +1,16 @@
 -- Looking for a key along the chain of its place.
-use Rattle.std.proofs.Common.{◌≡◌, ℕ, ◌<◌, ◌≤◌, List, [], ◌∷◌, length, Option, Some, None, option_map, Bool, true, false, refl, sym, ◌∙◌, ap}
+use Rattle.std.proofs.Common.{◌≡◌, ℕ, ◌<◌, ◌≤◌, List, [], ◌∷◌, length, Option, Some, None, option_map, Bool, true, false, refl, sym, ◌∙◌, ap, subst}
 use Rattle.std.proofs.lemmas.Bool.{or_parts}
 use Rattle.std.proofs.lemmas.Option.{none-some}
 use Rattle.std.specs.List.{list_any}
 use Rattle.pc_chain.specs.Chains.{Avoids}
+use Rattle.pc_chain.specs.Stacks.{IsStack}
 use Rattle.pc_chain.proofs.StackLaws.{stack_fits}
-use Rattle.pc_arena.specs.Slots.{Slots, at, IsTaken}
-use Rattle.pc_arena.proofs.SlotLaws.{taken_below}
+use Rattle.pc_chain.specs.Slots.{Slots, at, IsTaken}
+use Rattle.pc_chain.proofs.SlotLaws.{taken_below}
 use Rattle.pc_index.specs.Indexes.{IndexView, place_of, chain_at, IsIndex}
 use Rattle.pc_index.specs.Keys.{key_at, IsAbsent, IsSlotOf}
+use Rattle.pc_index.proofs.Linked.{linked}
 use Rattle.pc_index.proofs.Texts.{same_text, one_text, own_text}
 
 -- an id that passes isn't in a list of which none does
@@ -28,14 +30,27 @@ module _ {T : Type 0} (key_of : T → List ℕ) where
   is_key_at key None e = absurd cc
   is_key_at key (Some x) e = let f : key_of x ≡ key = cc in rw f (own_text key)
 
-  pub is_key_of : (key : List ℕ) (o : Option T) (x : T) → o ≡ Some x → is_key key o ≡ same_text (key_of x) key
-  is_key_of key o x e = ap (is_key key) e
+  pub is_key_of : (key k : List ℕ) (o : Option T) → option_map key_of o ≡ Some k → is_key key o ≡ same_text k key
+  is_key_of key k None e = absurd cc
+  is_key_of key k (Some x) e = let f : key_of x ≡ k = cc in ap (λ (z : List ℕ). same_text z key) f
+
+  -- a slot of which the key is told has a record
+  pub item_there : (o : Option T) (k : List ℕ) → option_map key_of o ≡ Some k → (x : T) × (o ≡ Some x) × (key_of x ≡ k)
+  item_there None k e = absurd cc
+  item_there (Some x) k e = (x, refl, cc)
 
   -- the slot that is found
-  pub slot_found : (slots : Slots T) (table : IndexView) (key : List ℕ) (id : ℕ) (x : T) → IsIndex key_of slots table → at slots.items id ≡ Some x → true ≡ same_text (key_of x) key → IsSlotOf key_of slots.items key (Some id)
-  slot_found slots table key id x i e t = λ other.
-      let this : key_at key_of slots.items id ≡ Some key = ap (option_map key_of) e ∙ ap Some (one_text (key_of x) key (sym t)) in
+  pub slot_found : (slots : Slots T) (table : IndexView) (key k : List ℕ) (id : ℕ) → IsIndex key_of slots table → key_at key_of slots.items id ≡ Some k → true ≡ same_text k key → IsSlotOf key_of slots.items key (Some id)
+  slot_found slots table key k id i e t = λ other.
+      let this : key_at key_of slots.items id ≡ Some key = e ∙ ap Some (one_text k key (sym t)) in
       ((λ s. ap (key_at key_of slots.items) (let f : other ≡ id = cc in f) ∙ this), (λ h. ap Some (i.distinct id other key this h)))
+
+  -- the chain of a key's place, over the links of whoever keeps the slots
+  pub line_of : (slots : Slots T) (table : IndexView) (i : IsIndex key_of slots table) (key : List ℕ) (n : ℕ) (has : ℕ → Type 0) (next : ℕ → Option ℕ) → ((id : ℕ) → next id ≡ at slots.links id) → ((id : ℕ) → IsTaken slots.items id → has id) →
+      n ≡ place_of table key → n < length table.chains → IsStack has next (chain_at table (place_of table key)) (i.ids (place_of table key))
+  line_of slots table i key n has next l k e w =
+      let p : ℕ = place_of table key in
+      linked slots has next l (chain_at table p) (i.ids p) k (i.chains p (subst (λ (q : ℕ). q < length table.chains) e w))
 
   -- where none of the chain has the key, no record has it
   pub slot_missing : (slots : Slots T) (table : IndexView) (key : List ℕ) (i : IsIndex key_of slots table) → false ≡ list_any (λ id. is_key key (at slots.items id)) (i.ids (place_of table key)) → IsSlotOf key_of slots.items key None

@@ -3,8 +3,8 @@ use Rattle.std.proofs.Common.{◌≡◌, ◌≢◌, ℕ, ◌<◌, length, inl, i
 use Rattle.std.proofs.lemmas.Bool.{cases_eq}
 use Rattle.pc_chain.proofs.ChainLaws.{have_still, have_from}
 use Rattle.pc_chain.proofs.StackLaws.{stack_still}
-use Rattle.pc_arena.specs.Slots.{Slots, at, IsTaken}
-use Rattle.pc_arena.proofs.SlotLaws.{at_here, at_other, taken_below}
+use Rattle.pc_chain.specs.Slots.{Slots, at, IsTaken}
+use Rattle.pc_chain.proofs.SlotLaws.{at_here, at_other, taken_below}
 use Rattle.pc_index.specs.Indexes.{IndexView, chain_at, IsIndex}
 use Rattle.pc_index.specs.Keys.{key_at, IsSlotOf}
 use Rattle.pc_index.proofs.Places.{IsPlaced}

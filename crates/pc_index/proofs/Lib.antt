@@ -1,6 +1,7 @@
 mod Beginning
 mod Finding
 pub mod IndexLaws
+mod Linked
 mod Making
 mod Places
 mod Removing

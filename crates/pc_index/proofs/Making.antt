@@ -7,8 +7,8 @@ use Rattle.pc_chain.specs.Chains.{Avoids, AllHave}
 use Rattle.pc_chain.specs.Stacks.{IsStack}
 use Rattle.pc_chain.proofs.ChainLaws.{have_still, have_from, have_both, avoids_all, all_avoids}
 use Rattle.pc_chain.proofs.StackLaws.{stack_still}
-use Rattle.pc_arena.specs.Slots.{Slots, at, with_item, IsTaken, IsFree}
-use Rattle.pc_arena.proofs.SlotLaws.{at_here, at_other, not_both}
+use Rattle.pc_chain.specs.Slots.{Slots, at, with_item, IsTaken, IsFree}
+use Rattle.pc_chain.proofs.SlotLaws.{at_here, at_other, not_both}
 use Rattle.pc_index.specs.Indexes.{IndexView, place_of, chain_at, IsIndex}
 use Rattle.pc_index.specs.Keys.{key_at, IsAbsent, IsSlotOf}
 use Rattle.pc_index.proofs.IndexLaws.{slot_kept}

@@ -5,7 +5,7 @@ use Rattle.std.proofs.lemmas.List.{get_or-set_same, get_or-set_other, get_or_rea
 use Rattle.pc_chain.specs.declared.stack.Stack.{Stack}
 use Rattle.pc_chain.specs.Chains.{Avoids, AreDisjoint, AllHave}
 use Rattle.pc_chain.proofs.ChainLaws.{have_still, have_both, all_avoids}
-use Rattle.pc_arena.specs.Slots.{Slots, at, IsTaken}
+use Rattle.pc_chain.specs.Slots.{Slots, at, IsTaken}
 use Rattle.pc_index.specs.Hashes.{key_hash}
 use Rattle.pc_index.specs.Indexes.{IndexView, place_of, chain_at, IsIndex}
 use Rattle.pc_index.specs.Keys.{key_at}

@@ -6,8 +6,8 @@ use Rattle.pc_chain.specs.declared.stack.Stack.{Stack}
 use Rattle.pc_chain.specs.Chains.{Avoids, AreDisjoint, AllHave, Leads}
 use Rattle.pc_chain.specs.Stacks.{IsStack}
 use Rattle.pc_chain.proofs.ChainLaws.{have_still, have_both, have_without, avoids_all, leads_still, once}
-use Rattle.pc_arena.specs.Slots.{Slots, at, IsTaken}
-use Rattle.pc_arena.proofs.SlotLaws.{at_here, at_other, taken_below}
+use Rattle.pc_chain.specs.Slots.{Slots, at, IsTaken}
+use Rattle.pc_chain.proofs.SlotLaws.{at_here, at_other, taken_below}
 use Rattle.pc_index.specs.Indexes.{IndexView, place_of, chain_at, IsIndex}
 use Rattle.pc_index.specs.Keys.{key_at, IsAbsent, IsSlotOf}
 use Rattle.pc_index.proofs.Places.{changed, with_chain, place_same, each_place, each_list, elsewhere, places_apart, one_key, IsPlaced}

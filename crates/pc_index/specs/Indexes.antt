@@ -4,7 +4,7 @@ use Rattle.std.specs.declared.random_state.RandomState.{RandomState}
 use Rattle.pc_chain.specs.declared.stack.Stack.{Stack}
 use Rattle.pc_chain.specs.Chains.{Avoids, AllHave}
 use Rattle.pc_chain.specs.Stacks.{IsStack}
-use Rattle.pc_arena.specs.Slots.{Slots, at, IsTaken}
+use Rattle.pc_chain.specs.Slots.{Slots, at, IsTaken}
 use Rattle.pc_index.specs.Hashes.{key_hash}
 use Rattle.pc_index.specs.Keys.{key_at}
 

@@ -1,6 +1,6 @@
 -- Keys and slots: records in slots, seen as a map from their keys to their slots.
 use Rattle.std.specs.Prelude.{◌≡◌, ◌≢◌, ◌↔◌, ℕ, List, Option, Some, option_map, slice_set}
-use Rattle.pc_arena.specs.Slots.{at, IsFree}
+use Rattle.pc_chain.specs.Slots.{at, IsFree}
 
 module _ {T : Type 0} (key_of : T → List ℕ) where
   -- the key of the record in the slot, if it has one

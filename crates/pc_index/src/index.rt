@@ -1,26 +1,24 @@
 //! The index itself.
 ghost use Rattle.std.specs.Prelude.{◌≡◌, ◌<◌, true, length, ℕ, IfOk, IfErr, OnErr, Ok, Err, Some, None, if◌then◌else◌, slice_set};
 ghost use Rattle.std.specs.Int.{IsNextPowerOfTwo};
-ghost use Rattle.pc_arena.specs.Slots.{at, is_full, IsTaken, AllFree};
+ghost use Rattle.pc_chain.specs.Slots.{at, is_full, IsTaken, AllFree};
 ghost use Rattle.pc_index.specs.Indexes.{place_of, IsIndex};
 ghost use Rattle.pc_index.specs.Keys.{IsSlotOf, IsAbsent, KeepsOtherSlots, IsRecordMade};
 
 use crate::hashing::hash_of;
-use crate::keyed::Keyed;
-use pc_arena::{Arena, ByLink};
-use pc_chain::{Links, Stack};
+use pc_chain::{KeyedSlots, Stack};
 use pc_types::{Key, Refusal, SlotId};
 use std::alloc::{AllocError, Global};
 use std::hash::RandomState;
 use std::marker::Model;
 
-/// Tells from a key which record of an arena has it. The index has a chain for each place that a hash can give, and these
-/// go through the links of the arena's slots; the arena itself is handed in at each call. That an index is one of an arena
+/// Tells from a key which slot has its record. The index has a chain for each place that a hash can give, and these go through
+/// the links of the slots. Whoever keeps the slots (`KeyedSlots`) is handed in at each call. That an index is one of these slots
 /// is said by `IsIndex`: each record is found by its key, and no two records have the same one. A record may be changed in
 /// its slot as long as its key stays, but slots are taken and freed by the index alone.
 ///
 /// A find goes along one chain, from the record that was made last. There are as many chains as the least power of two at or
-/// above the arena's capacity, and the hash is SipHash under a seed of two secret words, so whoever picks the keys can't tell
+/// above the number of slots, and the hash is SipHash under a seed of two secret words, so whoever picks the keys can't tell
 /// which share a chain.
 #[derive(Drop)]
 pub struct Index {
@@ -40,19 +38,19 @@ impl Model for Index {
 }
 
 impl Index {
-    /// The index of an arena in which no slot is taken. All its memory is taken here, and it fails only where memory ran out.
+    /// The index of slots of which none has a record. All its memory is taken here, and it fails only where memory ran out.
     /// The seed is the store's own: two words that the operating system gives by chance (`RandomState::new`), and that no
     /// answer shows.
-    pub fn new<T: Keyed>(
+    pub fn new<K, S: KeyedSlots<K>>(
         alloc: Global,
-        arena: &Arena<T>,
+        slots: &S,
         seed: RandomState,
     ) -> Result<Index, AllocError>
-        requires { AllFree arena.now.items }
-        ensures index { IfOk result (λ index. IsIndex T.key_of arena.now index) }
-        ensures chains { IfOk result (λ index. IsNextPowerOfTwo (length arena.now.items) (length index.chains)) }
+        requires { AllFree (S.slots_of slots.now).items }
+        ensures index { IfOk result (λ index. IsIndex S.key_of (S.slots_of slots.now) index) }
+        ensures chains { IfOk result (λ index. IsNextPowerOfTwo (length (S.slots_of slots.now).items) (length index.chains)) }
     {
-        let count = arena.capacity().next_power_of_two();
+        let count = slots.slot_count().next_power_of_two();
         let chains = vec![in alloc; Stack::new(); count as usize]?;
         Ok(Index { chains, seed })
     }
@@ -66,93 +64,87 @@ impl Index {
     }
 
     /// The slot of the record that has the key; None where no record has it.
-    pub fn find<T: Keyed>(&self, arena: &Arena<T>, key: &Key) -> Option<SlotId>
-        requires { IsIndex T.key_of arena.now self.now }
-        ensures { IsSlotOf T.key_of arena.now.items key.now result }
+    pub fn find<K, S: KeyedSlots<K>>(&self, slots: &S, key: &Key) -> Option<SlotId>
+        requires { IsIndex S.key_of (S.slots_of slots.now) self.now }
+        ensures { IsSlotOf S.key_of (S.slots_of slots.now).items key.now result }
     {
-        let mut at = self.chains[self.place(key)].first::<ByLink, Arena<T>>(arena);
-        for _ in 0..arena.capacity() {
+        let mut at = self.chains[self.place(key)].first::<K, S>(slots);
+        for _ in 0..slots.slot_count() {
             let Some(id) = at else {
                 return None;
             };
-            if arena.get(id).key().is(key) {
+            if slots.key_in(id).is(key) {
                 return Some(id);
             }
-            at = <Arena<T> as Links<ByLink>>::next(arena, id);
+            at = slots.next(id);
         }
         None
     }
 
     /// The slot of the record that has the key; where none has it, a blank one is made in a free slot. Each other key keeps its
     /// slot. Refuses with `Full` exactly where no record has the key and no slot is free, and else only with `OutOfMemory`, where
-    /// no record has it and the blank one can't be made; arena and index are then as they were.
-    pub fn find_or_make<T: Keyed>(
+    /// no record has it and the blank one can't be made; slots and index are then as they were.
+    pub fn find_or_make<K, S: KeyedSlots<K>>(
         &mut self,
-        arena: &mut Arena<T>,
+        slots: &mut S,
         alloc: Global,
         key: &Key,
     ) -> Result<SlotId, Refusal>
-        requires { IsIndex T.key_of arena.old self.old }
-        ensures slot { IfOk result (λ id. IsSlotOf T.key_of arena.new.items key.now (Some id)) }
-        ensures found { (id : ℕ) → IsSlotOf T.key_of arena.old.items key.now (Some id) → (result ≡ Ok id) × (arena.new ≡ arena.old) × (self.new ≡ self.old) }
-        ensures made { IsAbsent T.key_of arena.old.items key.now → IfOk result (λ id. IsRecordMade (T.blank_of key.now) arena.old.items arena.new.items id) }
-        ensures others { KeepsOtherSlots T.key_of key.now arena.old.items arena.new.items }
-        ensures index { IsIndex T.key_of arena.new self.new }
-        ensures full { IsAbsent T.key_of arena.old.items key.now → is_full arena.old.items ≡ true → result ≡ Err Refusal.Full }
-        ensures refusal { IfErr result (λ e. IsAbsent T.key_of arena.old.items key.now × (e ≡ (if is_full arena.old.items then Refusal.Full else Refusal.OutOfMemory))) }
-        ensures err { OnErr result ((arena.new ≡ arena.old) × (self.new ≡ self.old)) }
+        requires { IsIndex S.key_of (S.slots_of slots.old) self.old }
+        ensures slot { IfOk result (λ id. IsSlotOf S.key_of (S.slots_of slots.new).items key.now (Some id)) }
+        ensures found { (id : ℕ) → IsSlotOf S.key_of (S.slots_of slots.old).items key.now (Some id) → (result ≡ Ok id) × (slots.new ≡ slots.old) × (self.new ≡ self.old) }
+        ensures made { IsAbsent S.key_of (S.slots_of slots.old).items key.now → IfOk result (λ id. IsRecordMade (S.blank_of key.now) (S.slots_of slots.old).items (S.slots_of slots.new).items id) }
+        ensures others { KeepsOtherSlots S.key_of key.now (S.slots_of slots.old).items (S.slots_of slots.new).items }
+        ensures index { IsIndex S.key_of (S.slots_of slots.new) self.new }
+        ensures full { IsAbsent S.key_of (S.slots_of slots.old).items key.now → is_full (S.slots_of slots.old).items ≡ true → result ≡ Err Refusal.Full }
+        ensures refusal { IfErr result (λ e. IsAbsent S.key_of (S.slots_of slots.old).items key.now × (e ≡ (if is_full (S.slots_of slots.old).items then Refusal.Full else Refusal.OutOfMemory))) }
+        ensures err { OnErr result ((slots.new ≡ slots.old) × (self.new ≡ self.old)) }
     {
-        match self.find(&*arena, key) {
+        match self.find(&*slots, key) {
             Some(id) => Ok(id),
-            None => self.make(arena, alloc, key),
+            None => self.make(slots, alloc, key),
         }
     }
 
     /// The slot of the blank record of a key that no record has, which goes into a free slot; each other key keeps its slot.
     /// Refuses with `Full` exactly where no slot is free, and else only with `OutOfMemory`, where the blank record can't be made;
-    /// arena and index are then as they were.
-    pub fn make<T: Keyed>(
+    /// slots and index are then as they were.
+    pub fn make<K, S: KeyedSlots<K>>(
         &mut self,
-        arena: &mut Arena<T>,
+        slots: &mut S,
         alloc: Global,
         key: &Key,
     ) -> Result<SlotId, Refusal>
-        requires index { IsIndex T.key_of arena.old self.old }
-        requires absent { IsAbsent T.key_of arena.old.items key.now }
-        ensures made { IfOk result (λ id. IsRecordMade (T.blank_of key.now) arena.old.items arena.new.items id) }
-        ensures others { KeepsOtherSlots T.key_of key.now arena.old.items arena.new.items }
-        ensures index { IsIndex T.key_of arena.new self.new }
-        ensures full { is_full arena.old.items ≡ true → result ≡ Err Refusal.Full }
-        ensures refusal { IfErr result (λ e. e ≡ (if is_full arena.old.items then Refusal.Full else Refusal.OutOfMemory)) }
-        ensures err { OnErr result ((arena.new ≡ arena.old) × (self.new ≡ self.old)) }
+        requires index { IsIndex S.key_of (S.slots_of slots.old) self.old }
+        requires absent { IsAbsent S.key_of (S.slots_of slots.old).items key.now }
+        ensures made { IfOk result (λ id. IsRecordMade (S.blank_of key.now) (S.slots_of slots.old).items (S.slots_of slots.new).items id) }
+        ensures others { KeepsOtherSlots S.key_of key.now (S.slots_of slots.old).items (S.slots_of slots.new).items }
+        ensures index { IsIndex S.key_of (S.slots_of slots.new) self.new }
+        ensures full { is_full (S.slots_of slots.old).items ≡ true → result ≡ Err Refusal.Full }
+        ensures refusal { IfErr result (λ e. e ≡ (if is_full (S.slots_of slots.old).items then Refusal.Full else Refusal.OutOfMemory)) }
+        ensures err { OnErr result ((slots.new ≡ slots.old) × (self.new ≡ self.old)) }
     {
-        if arena.is_full() {
-            return Err(Refusal::Full);
-        }
-        let Ok(item) = T::blank(alloc, key) else {
-            return Err(Refusal::OutOfMemory);
-        };
-        let id = arena.take_slot(item)?;
+        let id = slots.make_blank(alloc, key)?;
         let place = self.place(key);
-        self.chains[place].push_front::<ByLink, Arena<T>>(arena, id);
+        self.chains[place].push_front::<K, S>(slots, id);
         Ok(id)
     }
 
     /// Takes the record out of the slot, which has one, and gives it. The slot is free from then on, and no record has the
     /// key; each other key keeps its slot and its record. It takes no memory.
-    pub fn remove<T: Keyed>(&mut self, arena: &mut Arena<T>, id: SlotId) -> T
-        requires index { IsIndex T.key_of arena.old self.old }
-        requires taken { IsTaken arena.old.items id }
-        ensures given { at arena.old.items id ≡ Some result }
-        ensures items { arena.new.items ≡ slice_set arena.old.items id None }
-        ensures gone { IsAbsent T.key_of arena.new.items (T.key_of result) }
-        ensures others { KeepsOtherSlots T.key_of (T.key_of result) arena.old.items arena.new.items }
-        ensures index { IsIndex T.key_of arena.new self.new }
+    pub fn remove<K, S: KeyedSlots<K>>(&mut self, slots: &mut S, id: SlotId) -> S::Item
+        requires index { IsIndex S.key_of (S.slots_of slots.old) self.old }
+        requires taken { IsTaken (S.slots_of slots.old).items id }
+        ensures given { at (S.slots_of slots.old).items id ≡ Some result }
+        ensures items { (S.slots_of slots.new).items ≡ slice_set (S.slots_of slots.old).items id None }
+        ensures gone { IsAbsent S.key_of (S.slots_of slots.new).items (S.key_of result) }
+        ensures others { KeepsOtherSlots S.key_of (S.key_of result) (S.slots_of slots.old).items (S.slots_of slots.new).items }
+        ensures index { IsIndex S.key_of (S.slots_of slots.new) self.new }
     {
-        let place = self.place(arena.get(id).key());
+        let place = self.place(slots.key_in(id));
         let mut chain = self.chains[place];
-        chain.unlink::<ByLink, Arena<T>>(arena, id);
+        chain.unlink::<K, S>(slots, id);
         self.chains[place] = chain;
-        arena.free_slot(id)
+        slots.free(id)
     }
 }

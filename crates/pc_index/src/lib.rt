@@ -1,9 +1,8 @@
-//! An index: which slot of an arena has the record of a key. Its hash chains go through the slots' links.
+//! An index: which slot has the record of a key, over records in slots that someone else keeps. Its hash chains go through the
+//! links of the slots.
 #![tactic(auto)]
 
 mod hashing;
 mod index;
-mod keyed;
 
 pub use index::Index;
-pub use keyed::Keyed;

@@ -3,7 +3,7 @@ use Rattle.std.proofs.Common.{◌≡◌, ℕ, zero, suc, ◌+◌, ◌<◌, ◌�
 use Rattle.std.specs.FinMap.{find, put}
 use Rattle.std.specs.FinMap.Entries.{find-put, length-put}
 use Rattle.std.proofs.lemmas.Bool.{eqb-true, eqb-false, eq-eqb, ne_eqb}
-use Rattle.pc_arena.specs.Slots.{Slots, at, is_full}
+use Rattle.pc_chain.specs.Slots.{Slots, at, is_full}
 use Rattle.pc_index.specs.Indexes.{IndexView}
 use Rattle.pc_index.specs.Keys.{key_at}
 use Rattle.pc_model.specs.Database.{key_cmp, key_order, same_bytes}

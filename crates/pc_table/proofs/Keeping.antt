@@ -6,8 +6,8 @@ use Rattle.pc_types.specs.declared.refusal.Refusal.{Refusal}
 use Rattle.pc_types.specs.declared.limits.TheConstants.{MOST_KEYS}
 use Rattle.pc_model.specs.Database.{key_cmp, same_bytes}
 use Rattle.pc_model.proofs.JoinLaws.{one_key}
-use Rattle.pc_arena.specs.Slots.{Slots, at, is_full, with_item, IsTaken, AllFree}
-use Rattle.pc_arena.proofs.SlotLaws.{at_here, taken_below}
+use Rattle.pc_chain.specs.Slots.{Slots, at, is_full, with_item, IsTaken, AllFree}
+use Rattle.pc_chain.proofs.SlotLaws.{at_here, taken_below}
 use Rattle.pc_index.specs.Indexes.{IndexView, IsIndex}
 use Rattle.pc_index.specs.Keys.{key_at, IsAbsent, IsSlotOf, IsRecordMade}
 use Rattle.pc_index.proofs.IndexLaws.{index_kept, keys_set}

@@ -2,8 +2,8 @@
 use Rattle.std.proofs.Common.{◌≡◌, ℕ, zero, suc, ◌+◌, List, [], ◌∷◌, Option, Some, None, option_map, is_some, Bool, true, false, cond, refl, sym, ap, ◌∙◌, arith}
 use Rattle.std.specs.FinMap.{find}
 use Rattle.std.specs.FinMap.Entries.{find-put, is_sorted-put}
-use Rattle.pc_arena.specs.Slots.{Slots, at}
-use Rattle.pc_arena.proofs.SlotLaws.{taken_below}
+use Rattle.pc_chain.specs.Slots.{Slots, at}
+use Rattle.pc_chain.proofs.SlotLaws.{taken_below}
 use Rattle.pc_index.specs.Indexes.{IndexView}
 use Rattle.pc_index.specs.Keys.{key_at, IsAbsent}
 use Rattle.pc_model.specs.Database.{key_cmp, key_order, same_bytes}

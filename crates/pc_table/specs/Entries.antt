@@ -3,7 +3,7 @@ use Rattle.std.specs.Prelude.{ℕ, ◌+◌, ◌≤◌, List, [], ◌∷◌, leng
 use Rattle.std.specs.FinMap.{put}
 use Rattle.pc_types.specs.declared.limits.TheConstants.{MOST_KEYS}
 use Rattle.pc_model.specs.Database.{key_cmp}
-use Rattle.pc_arena.specs.Slots.{Slots}
+use Rattle.pc_chain.specs.Slots.{Slots}
 use Rattle.pc_index.specs.Indexes.{IndexView, IsIndex}
 use Rattle.pc_table.specs.Rows.{TableRow, Contents}
 use Rattle.pc_table.specs.declared.entry.TableEntry.{TableEntry}

@@ -1,6 +1,5 @@
 //! Entries: what stands in a slot.
-use pc_chain::Blank;
-use pc_index::Keyed;
+use pc_chain::{Blank, Keyed};
 use pc_types::Key;
 use std::alloc::{AllocError, Global};
 

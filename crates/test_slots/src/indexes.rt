@@ -1,9 +1,10 @@
 //! Keys that get slots, are found, and lose them.
-ghost use Rattle.pc_arena.specs.Slots.{IsTaken};
+ghost use Rattle.pc_chain.specs.Slots.{IsTaken};
 ghost use Rattle.pc_index.specs.Indexes.{IsIndex};
 
 use pc_arena::Arena;
-use pc_index::{Index, Keyed};
+use pc_chain::Keyed;
+use pc_index::Index;
 use pc_types::{Key, Refusal, SlotId};
 use std::alloc::{AllocError, Global};
 use std::hash::RandomState;

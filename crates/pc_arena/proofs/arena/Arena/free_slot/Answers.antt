@@ -1,6 +1,6 @@
 use Rattle.std.proofs.Common.{refl, sym, ◌∙◌, ap, rules}
 use Rattle.pc_arena.specs.Cells.{link_of}
-use Rattle.pc_arena.specs.Slots.{at}
+use Rattle.pc_chain.specs.Slots.{at}
 use Rattle.pc_arena.proofs.Columns.{map_same}
 use Rattle.pc_arena.proofs.FreeLists.{taken_avoids}
 use Rattle.pc_arena.proofs.CellKeeping.{kept_given, line_set, taken_in, taken_seen, seen_given, seen_link}

@@ -1,6 +1,6 @@
 use Rattle.std.proofs.Common.{refl, ◌∙◌, ap, Some, rules}
 use Rattle.pc_arena.specs.Cells.{item_of}
-use Rattle.pc_arena.specs.Slots.{with_item, Slots}
+use Rattle.pc_chain.specs.Slots.{with_item, Slots}
 use Rattle.pc_arena.proofs.Columns.{column_read, item_with, link_with}
 use Rattle.pc_arena.proofs.CellKeeping.{kept_changed, slots_with_item, taken_in, taken_seen, seen_item}
 use Rattle.pc_arena.proofs.arena.Arena.get_mut.Goals as goal

@@ -1,5 +1,5 @@
 use Rattle.std.proofs.Common.{◌≡◌, ◌<◌, sym, ◌∙◌, ap, is_none, length, rules, arith}
-use Rattle.pc_arena.specs.Slots.{is_full, Slots}
+use Rattle.pc_chain.specs.Slots.{is_full, Slots}
 use Rattle.pc_arena.proofs.CellKeeping.{kept_full, kept_not_full}
 use Rattle.pc_arena.proofs.arena.Arena.is_full.Goals as goal
 

@@ -1,6 +1,6 @@
 use Rattle.std.proofs.Common.{◌≡◌, ◌<◌, sym, ◌∙◌, ap, is_none, length, rules, Some, arith}
-use Rattle.pc_arena.specs.Slots.{is_full, Slots, with_item}
-use Rattle.pc_arena.proofs.SlotLaws.{not_full}
+use Rattle.pc_chain.specs.Slots.{is_full, Slots, with_item}
+use Rattle.pc_chain.proofs.SlotLaws.{not_full}
 use Rattle.pc_arena.proofs.CellKeeping.{first_in, first_seen, kept_full, kept_not_full, kept_taken, kept_fresh, slots_with_item, slots_with_fresh}
 use Rattle.pc_arena.proofs.arena.Arena.take_slot.Goals as goal
 

@@ -1,6 +1,6 @@
 use Rattle.std.proofs.Common.{sym, ◌∙◌, ap, rules, subst, set}
-use Rattle.pc_arena.specs.Slots.{at, IsTaken, Slots}
-use Rattle.pc_arena.proofs.SlotLaws.{at_other}
+use Rattle.pc_chain.specs.Slots.{at, IsTaken, Slots}
+use Rattle.pc_chain.proofs.SlotLaws.{at_other}
 use Rattle.pc_arena.proofs.CellKeeping.{taken_in, taken_seen, link_here, kept_linked, slots_with_link}
 use Rattle.pc_arena.proofs.arena.ArenaLinksByLink.set_next.Goals as goal
 

@@ -12,27 +12,27 @@ pub make-requires-clause-absent : goal.make-requires-clause-absent
 make-requires-clause-absent g c = slot_absent _ _ _ c.self.view_is c.self.invariant c.args.key.now c.requires
 
 pub returns-clause-made : goal.returns-clause-made
-returns-clause-made g c = if_ok _ _ c.make.result (λ id m. seen_made _ _ _ c.self.view_is c.self.invariant c.make.new.arena.items c.args.key.now id g.T.Blank.blank c.requires m) c.make.ensures.made
+returns-clause-made g c = if_ok _ _ c.make.result (λ id m. seen_made _ _ _ c.self.view_is c.self.invariant c.make.new.slots.items c.args.key.now id g.T.Blank.blank c.requires m) c.make.ensures.made
 
 pub returns-clause-fresh : goal.returns-clause-fresh
-returns-clause-fresh g c = if_ok _ _ c.make.result (λ id m. slot_made _ _ _ c.self.view_is c.self.invariant c.make.new.arena.items id _ m) c.make.ensures.made
+returns-clause-fresh g c = if_ok _ _ c.make.result (λ id m. slot_made _ _ _ c.self.view_is c.self.invariant c.make.new.slots.items id _ m) c.make.ensures.made
 
 pub returns-clause-slot : goal.returns-clause-slot
 returns-clause-slot g c =
     let gone = slot_absent _ _ _ c.self.view_is c.self.invariant c.args.key.now c.requires in
-    let after = after_made _ _ _ c.self.view_is c.self.invariant g.T.Blank.blank c.args.key.now c.make.new.arena c.make.new.self c.make.result gone c.make.ensures.made c.make.ensures.err c.make.ensures.index in
+    let after = after_made _ _ _ c.self.view_is c.self.invariant g.T.Blank.blank c.args.key.now c.make.new.slots c.make.new.self c.make.result gone c.make.ensures.made c.make.ensures.err c.make.ensures.index in
     after.slot
 
 pub returns-clause-row : goal.returns-clause-row
 returns-clause-row g c =
     let gone = slot_absent _ _ _ c.self.view_is c.self.invariant c.args.key.now c.requires in
-    let after = after_made _ _ _ c.self.view_is c.self.invariant g.T.Blank.blank c.args.key.now c.make.new.arena c.make.new.self c.make.result gone c.make.ensures.made c.make.ensures.err c.make.ensures.index in
-    if_ok _ _ c.make.result (slot_has (contents_of c.make.new.arena.items).rows c.args.key.now) after.slot
+    let after = after_made _ _ _ c.self.view_is c.self.invariant g.T.Blank.blank c.args.key.now c.make.new.slots c.make.new.self c.make.result gone c.make.ensures.made c.make.ensures.err c.make.ensures.index in
+    if_ok _ _ c.make.result (slot_has (contents_of c.make.new.slots.items).rows c.args.key.now) after.slot
 
 pub returns-clause-changed : goal.returns-clause-changed
 returns-clause-changed g c =
     let gone = slot_absent _ _ _ c.self.view_is c.self.invariant c.args.key.now c.requires in
-    let after = after_made _ _ _ c.self.view_is c.self.invariant g.T.Blank.blank c.args.key.now c.make.new.arena c.make.new.self c.make.result gone c.make.ensures.made c.make.ensures.err c.make.ensures.index in
+    let after = after_made _ _ _ c.self.view_is c.self.invariant g.T.Blank.blank c.args.key.now c.make.new.slots c.make.new.self c.make.result gone c.make.ensures.made c.make.ensures.err c.make.ensures.index in
     after.changed
 
 pub returns-clause-full : goal.returns-clause-full
@@ -47,5 +47,5 @@ returns-clause-before g c = kept_slots _ _ _ c.self.view_is c.self.invariant
 pub returns-clause-after : goal.returns-clause-after
 returns-clause-after g c =
     let gone = slot_absent _ _ _ c.self.view_is c.self.invariant c.args.key.now c.requires in
-    let after = after_made _ _ _ c.self.view_is c.self.invariant g.T.Blank.blank c.args.key.now c.make.new.arena c.make.new.self c.make.result gone c.make.ensures.made c.make.ensures.err c.make.ensures.index in
+    let after = after_made _ _ _ c.self.view_is c.self.invariant g.T.Blank.blank c.args.key.now c.make.new.slots c.make.new.self c.make.result gone c.make.ensures.made c.make.ensures.err c.make.ensures.index in
     in_slots _ _ after.kept

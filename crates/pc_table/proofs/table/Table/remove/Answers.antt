@@ -17,4 +17,4 @@ pub returns-clause-before : goal.returns-clause-before
 returns-clause-before g c = kept_slots _ _ _ c.self.view_is c.self.invariant
 
 pub returns-clause-after : goal.returns-clause-after
-returns-clause-after g c = in_slots _ _ (kept_removed _ _ _ c.self.view_is c.self.invariant c.args.id c.remove.new.arena c.remove.new.self c.remove.ensures.items c.remove.ensures.index)
+returns-clause-after g c = in_slots _ _ (kept_removed _ _ _ c.self.view_is c.self.invariant c.args.id c.remove.new.slots c.remove.new.self c.remove.ensures.items c.remove.ensures.index)

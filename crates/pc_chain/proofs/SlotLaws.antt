@@ -2,7 +2,7 @@
 use Rattle.std.proofs.Common.{◌≡◌, ◌≢◌, ℕ, zero, suc, ◌<◌, List, [], ◌∷◌, length, set, Option, Some, None, is_some, true, false, refl, arith}
 use Rattle.std.proofs.lemmas.Bool.{false≢true}
 use Rattle.std.proofs.lemmas.List.{get_or-set_same, get_or-set_other}
-use Rattle.pc_arena.specs.Slots.{at, is_full, IsTaken, IsFree}
+use Rattle.pc_chain.specs.Slots.{at, is_full, IsTaken, IsFree}
 
 -- what is written is read, and the rest stays
 pub at_here : {X : Type 0} (xs : List (Option X)) (i : ℕ) (v : Option X) → i < length xs → at (set xs i v) i ≡ v
