@@ -11,7 +11,7 @@ use std::alloc::{AllocError, Global};
 use std::marker::Model;
 
 /// The ends of each transaction's chain that has some, in entries that rise by the transaction's number. An entry is found by
-/// a search by halves, and then named by its place. The row keeps its room, so that an entry that comes where one went takes
+/// a binary search, and then named by its place. The row keeps its room, so that an entry that comes where one went takes
 /// no memory.
 #[derive(Drop)]
 pub(crate) struct EndsRow {

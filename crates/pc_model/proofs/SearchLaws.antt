@@ -1,4 +1,4 @@
--- A search by halves among entries that rise by key.
+-- A binary search among entries that rise by key.
 use Rattle.std.proofs.Common.{◌≡◌, ℕ, zero, suc, ◌+◌, ◌<◌, ◌≤◌, List, [], ◌∷◌, length, get_or, Result, Ok, Err, IfOk, IfErr, HoldsAt, refl, sym, ap, ◌∙◌, arith, add-one, Bool, true, false, ltb, ltb-true, ltb-false, subst}
 use Rattle.std.specs.declared.cmp.Ordering.{Ordering}
 use Rattle.std.specs.declared.cmp.Ordering.TheVariants.{Less, Equal, Greater}

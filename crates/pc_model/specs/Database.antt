@@ -11,7 +11,7 @@ use Rattle.pc_types.specs.declared.Change.TheVariants.{Set, Remove}
 use Rattle.pc_types.specs.declared.Write.{Write}
 use Rattle.pc_types.specs.Changes.{changed, merged}
 
--- the order of keys, byte by byte
+-- the order of keys, byte by byte: by their two bytes of a space first, and then by their own bytes
 abbrev pub key_cmp : List ℕ → List ℕ → Ordering
 key_cmp = slice_cmp nat_cmp
 

@@ -1,5 +1,5 @@
--- Strict two-phase locking with wait-die. Each key has a queue of requests: a get asks for a shared lock, a put or a removal
--- for an exclusive one, and what was granted stands until its transaction commits or aborts. Of two transactions the one with
+-- Strict two-phase locking with wait-die. Each key has a queue of requests: a get asks for a shared lock, a put, a removal
+-- or an add for an exclusive one, and what was granted stands until its transaction commits or aborts. Of two transactions the one with
 -- the smaller number is the older. The rules:
 -- (1) who asks for no more than its lock allows already is granted that at once;
 -- (2) who has no request in the queue gets one at its end, granted if it conflicts with no other, be that granted or waiting;

@@ -114,7 +114,7 @@ fn value_of<'a>(pairs: &'a [(Key, Value)], key: &Key) -> Option<&'a Value>
     }
 }
 
-/// Where the entry of the key is, or else where one would go, in entries that rise strictly by key: a search by halves.
+/// Where the entry of the key is, or else where one would go, in entries that rise strictly by key: a binary search.
 pub fn place<X>(pairs: &[(Key, X)], key: &Key) -> Result<usize, usize>
     requires { KeysRise pairs.now }
     ensures at { IfOk result (IsAt pairs.now key.now) }

@@ -21,7 +21,7 @@ pub(crate) fn is_above(entries: &[(Headed, Option<Value>)], key: &Headed) -> boo
     }
 }
 
-// Where the entry of the key is, or else where one would go, in entries that rise by key: a search by halves.
+// Where the entry of the key is, or else where one would go, in entries that rise by key: a binary search.
 pub(crate) fn place(entries: &[(Headed, Option<Value>)], key: &Headed) -> Result<usize, usize>
     requires { KeysRise entries.now }
     ensures at { IfOk result (IsAt entries.now key.now) }

@@ -14,7 +14,7 @@ use std::cmp::Ordering;
 use std::marker::Model;
 
 /// What one transaction has read of keys that it had not written: of each key the first read, in their order, with the
-/// value that it answered, or nothing. A key is found by a search by halves.
+/// value that it answered, or nothing. A key is found by a binary search.
 #[derive(Drop)]
 pub struct ReadSet {
     reads: Vec<(Key, Option<Value>)>,
@@ -136,7 +136,7 @@ fn compare_at(reads: &[(Key, Option<Value>)], place: usize, key: &Key) -> Orderi
     }
 }
 
-// Where the key stands in the order, or else where it would go: a search by halves.
+// Where the key stands in the order, or else where it would go: a binary search.
 fn position(reads: &[(Key, Option<Value>)], order: &[usize], key: &Key) -> Result<usize, usize>
     requires { IsOrder (read_keys reads.now) order.now }
     ensures at { IfOk result (IsAt (entries (read_keys reads.now) order.now) key.now) }

@@ -14,7 +14,7 @@ use std::cmp::Ordering;
 use std::marker::Model;
 
 /// What one transaction has written: of each key all its changes as one, in the order of first writes. A key is found by a
-/// search by halves.
+/// binary search.
 #[derive(Drop)]
 pub struct WriteSet {
     writes: Vec<Write>,
@@ -147,7 +147,7 @@ fn compare_at(writes: &[Write], place: usize, key: &Key) -> Ordering
     }
 }
 
-// Where the key stands in the order, or else where it would go: a search by halves.
+// Where the key stands in the order, or else where it would go: a binary search.
 fn position(writes: &[Write], order: &[usize], key: &Key) -> Result<usize, usize>
     requires { IsOrder (written_keys writes.now) order.now }
     ensures at { IfOk result (IsAt (entries (written_keys writes.now) order.now) key.now) }
