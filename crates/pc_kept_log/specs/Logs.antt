@@ -1,8 +1,10 @@
 -- A log in memory.
 use Rattle.std.specs.Prelude.{ℕ, ◌≤◌, List, [], ◌++◌, Option, Some}
 use Rattle.pc_types.specs.declared.Entry.{Entry}
-use Rattle.pc_types.specs.declared.Entry.TheVariants.{Commit}
+use Rattle.pc_types.specs.declared.Entry.TheVariants.{Commit, Token}
+use Rattle.pc_types.specs.declared.limits.TheConstants.{MOST_SESSIONS}
 use Rattle.pc_types.specs.declared.Write.{Write}
+use Rattle.pc_model.specs.DistinctWrites.{AreDistinct}
 use Rattle.pc_kept_log.specs.declared.log.Log.{Log}
 use Rattle.pc_kept_log.specs.Chunks.{entries_in_pieces}
 
@@ -13,6 +15,12 @@ entries_of log = entries_in_pieces log.full.items ++ log.open.entries
 -- there is memory for one more entry, of so many bytes
 abbrev pub HasRoomForEntry : Log → ℕ → Type 0
 HasRoomForEntry log size = size ≤ log.open.room
+
+-- a log can have the entry, beside how many writes it has: a commit is of a session from 1 to 64, and no two of its writes have one
+-- key; a token is of a point from 1 on
+abbrev pub IsFitEntry : Entry → Type 0
+IsFitEntry (Commit session writes) = (1 ≤ session) × (session ≤ MOST_SESSIONS) × AreDistinct writes
+IsFitEntry (Token phase point) = 1 ≤ point
 
 -- the writes of a commit's entry; none of a token's, and where there is no entry
 abbrev pub writes_of_entry : Option Entry → List Write

@@ -1,14 +1,16 @@
 //! The entries of a log.
-ghost use Rattle.std.specs.Prelude.{◌≡◌, ◌==◌, ◌<◌, ◌≤◌, [], ◌∷◌, ◌++◌, length, IfErr, OnOk, OnErr};
+ghost use Rattle.std.specs.Prelude.{◌≡◌, ◌==◌, ◌<◌, ◌≤◌, [], ◌∷◌, ◌++◌, length, Err, IfOk, IfErr, OnOk, OnErr, if◌then◌else◌};
 ghost use Rattle.pc_types.specs.declared.Entry.TheVariants.{Commit, Token};
-ghost use Rattle.pc_kept_log.specs.Logs.{entries_of, HasRoomForEntry};
+ghost use Rattle.pc_kept_log.specs.Logs.{entries_of, HasRoomForEntry, IsFitEntry};
 ghost use Rattle.pc_log.specs.Texts.{entry_text};
 ghost use Rattle.pc_types.specs.declared.limits.TheConstants.{MOST_SESSIONS, MOST_WRITES};
 ghost use Rattle.pc_model.specs.DistinctWrites.{AreDistinct};
+ghost use Rattle.pc_model.specs.FewWrites.{HasFewWrites};
 
 use crate::chunk::Chunk;
 use crate::log::Log;
-use pc_types::{Lsn, MOST_LOG_ENTRIES, Phase, Point, Refusal, SessionNo, Write};
+use pc_log::entry_size;
+use pc_types::{Entry, Lsn, MOST_LOG_ENTRIES, Phase, Point, Refusal, SessionNo, Write};
 use std::alloc::{AllocError, Global};
 use std::mem;
 
@@ -90,6 +92,28 @@ impl Log {
     {
         self.open.append_token(phase, point);
         self.last()
+    }
+
+    /// Adds the entry at the end, for which it makes room: of a commit of a session from 1 to 64, with at most 256 writes, no two of
+    /// which have one key, or a token. Answers its number: the first entry has number 1. Refuses with `LogFull` if and only if there
+    /// are 16,777,216 entries, and otherwise only with `OutOfMemory`; the entries are then as they were.
+    pub fn append(&mut self, entry: &Entry) -> Result<Lsn, Refusal>
+        requires few { HasFewWrites entry.now }
+        requires fit { IsFitEntry entry.now }
+        ensures entries { OnOk result (entries_of self.new ≡ entries_of self.old ++ entry.now ∷ []) }
+        ensures number { IfOk result (λ number. number ≡ length (entries_of self.new)) }
+        ensures full { length (entries_of self.old) ≡ MOST_LOG_ENTRIES → result ≡ Err Refusal.LogFull }
+        ensures refusal { IfErr result (λ e. e ≡ (if length (entries_of self.old) == MOST_LOG_ENTRIES then Refusal.LogFull else Refusal.OutOfMemory)) }
+        ensures err { OnErr result (entries_of self.new ≡ entries_of self.old) }
+    {
+        if self.is_full() {
+            return Err(Refusal::LogFull);
+        }
+        self.reserve(entry_size(entry))?;
+        Ok(match entry {
+            Entry::Commit(session, writes) => self.append_commit(*session, writes.as_slice()),
+            Entry::Token(phase, point) => self.append_token(*phase, *point),
+        })
     }
 
     // The number of the last entry.

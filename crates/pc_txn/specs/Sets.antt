@@ -1,9 +1,10 @@
 -- What one transaction has written and read.
-use Rattle.std.specs.Prelude.{ℕ, zero, suc, List, [], ◌∷◌, map, Option, option_map, slice_get}
+use Rattle.std.specs.Prelude.{ℕ, zero, suc, ◌==◌, ◌&&◌, Bool, List, [], ◌∷◌, length, map, Option, option_map, is_none, slice_get}
+use Rattle.pc_types.specs.declared.limits.TheConstants.{MOST_WRITES}
 use Rattle.pc_types.specs.declared.Change.{Change}
 use Rattle.pc_types.specs.declared.Write.{Write}
 use Rattle.pc_types.specs.Changes.{merged}
-use Rattle.pc_model.specs.Database.{write_of}
+use Rattle.pc_model.specs.Database.{write_of, written}
 use Rattle.pc_model.specs.Receipts.{Read}
 
 -- items in their order, and how many more there is room for
@@ -14,6 +15,10 @@ pub record Roomy (X : Type 0) : Type 0 where
 -- the keys that are written
 abbrev pub written_keys : List Write → List (List ℕ)
 written_keys writes = map (λ w. w.key) writes
+
+-- a write of the key would be of one key too many
+abbrev pub is_one_more : List Write → List ℕ → Bool
+is_one_more writes key = (length writes == MOST_WRITES) && is_none (written writes key)
 
 -- the change of the write at the place
 abbrev pub change_at : List Write → ℕ → Option Change

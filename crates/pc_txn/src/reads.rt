@@ -1,5 +1,5 @@
 //! A read set: the first read of each key that was not written.
-ghost use Rattle.std.specs.Prelude.{◌≡◌, ◌<◌, ◌≤◌, ◌+◌, ◌++◌, [], length, vec_len, vec_capacity, slice_get, IsOk, OnOk, IfOk, IfErr, Some};
+ghost use Rattle.std.specs.Prelude.{◌≡◌, ◌<◌, ◌≤◌, ◌+◌, ◌++◌, [], length, vec_len, vec_capacity, slice_get, IsOk, OnOk, OnErr, IfOk, IfErr, Some};
 ghost use Rattle.pc_model.specs.Database.{key_cmp};
 ghost use Rattle.pc_model.specs.Places.{IsAt, IsGap};
 ghost use Rattle.pc_model.specs.Receipts.{is_read};
@@ -8,7 +8,7 @@ ghost use Rattle.pc_txn.specs.Orders.{key_at, entries, IsOrder};
 ghost use Rattle.pc_txn.specs.Sets.{Roomy, read_keys};
 
 use crate::order;
-use pc_types::{Key, Value};
+use pc_types::{Key, Refusal, Value};
 use std::alloc::{AllocError, Global};
 use std::cmp::Ordering;
 use std::marker::Model;
@@ -101,6 +101,24 @@ impl ReadSet {
                 self.reads.push_reserved((key, content));
                 Ok(place)
             }
+        }
+    }
+
+    /// Notes the read of a key, for which it makes room, where it is not of an own write and the key was not read before. Refuses
+    /// with `OutOfMemory` alone, and the reads are then as they were.
+    pub fn note_read(
+        &mut self,
+        own: bool,
+        key: Key,
+        content: Option<Value>,
+    ) -> Result<(), Refusal>
+        ensures reads { OnOk result (self.new.items ≡ noting own self.old.items key content) }
+        ensures refusal { IfErr result (λ e. e ≡ Refusal.OutOfMemory) }
+        ensures err { OnErr result (self.new.items ≡ self.old.items) }
+    {
+        self.reserve()?;
+        match self.note(own, key, content) {
+            Ok(_) | Err(_) => Ok(()),
         }
     }
 

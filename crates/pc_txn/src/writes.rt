@@ -1,14 +1,14 @@
 //! A write set: of each key all its changes, as one.
-ghost use Rattle.std.specs.Prelude.{◌≡◌, ◌<◌, ◌≤◌, ◌+◌, ◌==◌, ◌&&◌, ◌++◌, [], length, is_none, is_some, IsOk, OnOk, IfOk, IfErr, vec_len, vec_capacity};
+ghost use Rattle.std.specs.Prelude.{◌≡◌, ◌<◌, ◌≤◌, ◌+◌, ◌++◌, [], true, length, is_some, IsOk, OnOk, OnErr, IfOk, IfErr, Err, if◌then◌else◌, vec_len, vec_capacity};
 ghost use Rattle.pc_model.specs.Database.{key_cmp, with_write, written};
 ghost use Rattle.pc_model.specs.DistinctWrites.{AreDistinct};
 ghost use Rattle.pc_model.specs.Places.{IsAt, IsGap};
 ghost use Rattle.pc_txn.specs.Orders.{key_at, entries, IsOrder};
-ghost use Rattle.pc_txn.specs.Sets.{Roomy, written_keys, change_at, merged_at};
+ghost use Rattle.pc_txn.specs.Sets.{Roomy, written_keys, change_at, merged_at, is_one_more};
 ghost use Rattle.pc_types.specs.Changes.{can_add, CanMerge};
 
 use crate::order;
-use pc_types::{Key, MOST_WRITES, Write};
+use pc_types::{Key, MOST_WRITES, Refusal, Write};
 use std::alloc::{AllocError, Global};
 use std::cmp::Ordering;
 use std::marker::Model;
@@ -70,7 +70,7 @@ impl WriteSet {
 
     /// Whether a write of the key would be of a 257th key.
     pub fn is_full_for(&self, key: &Key) -> bool
-        ensures { result ≡ ((length self.now.items == MOST_WRITES) && is_none (written self.now.items key.now)) }
+        ensures { result ≡ is_one_more self.now.items key.now }
     {
         self.writes.len() == MOST_WRITES && !self.has(key)
     }
@@ -110,6 +110,24 @@ impl WriteSet {
                 self.writes.push_reserved(write);
             }
         }
+    }
+
+    /// Notes a write, for which it makes room: merged with the earlier write of its key, or else at the end. Refuses with
+    /// `TooManyWrites` if and only if it would be of a 257th key, and otherwise only with `OutOfMemory`; the writes are then as
+    /// they were.
+    pub fn note_write(&mut self, alloc: Global, write: Write) -> Result<(), Refusal>
+        requires merges { CanMerge (written self.old.items write.key) write.change }
+        ensures noted { OnOk result (self.new.items ≡ with_write self.old.items write) }
+        ensures full { is_one_more self.old.items write.key ≡ true → result ≡ Err Refusal.TooManyWrites }
+        ensures refusal { IfErr result (λ e. e ≡ (if is_one_more self.old.items write.key then Refusal.TooManyWrites else Refusal.OutOfMemory)) }
+        ensures err { OnErr result (self.new.items ≡ self.old.items) }
+    {
+        if self.is_full_for(&write.key) {
+            return Err(Refusal::TooManyWrites);
+        }
+        self.reserve()?;
+        self.note(alloc, write);
+        Ok(())
     }
 
     /// Takes all writes off. What memory the set has it keeps for later writes.

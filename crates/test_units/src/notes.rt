@@ -18,9 +18,7 @@ fn key_of(alloc: Global, number: u16) -> Result<Key, Refusal> {
 fn write_at(alloc: Global, set: &mut WriteSet, number: u16, byte: u8) -> Result<(), Refusal> {
     let key = key_of(alloc, number)?;
     let change = Change::Set(Value::new(alloc, &[byte; 20])?);
-    set.reserve()?;
-    set.note(alloc, Write { key, change });
-    Ok(())
+    set.note_write(alloc, Write { key, change })
 }
 
 // The last byte of the key in the row, and the first of its value.
@@ -80,6 +78,10 @@ fn finds_256_keys(rt: HostRuntime) -> Result<(), Fail> {
     }
     let key = key_of(alloc, 256)?;
     assert!(rt; !set.has(&key) && set.is_full_for(&key));
+    assert_eq!(rt; write_at(alloc, &mut set, 256, 1), Err(Refusal::TooManyWrites));
+    assert_eq!(rt; set.len(), 256);
+    write_at(alloc, &mut set, 255, 2)?;
+    assert_eq!(rt; told(set.as_slice(), 0), Some((255, 2)));
     Ok(())
 }
 
@@ -121,5 +123,8 @@ fn notes_first_reads(rt: HostRuntime) -> Result<(), Fail> {
     noted.reserve(reads.len())?;
     reads.move_into(&mut noted);
     assert_eq!(rt; (noted.len(), reads.len()), (2, 0));
+    reads.note_read(true, key_of(alloc, 4)?, None)?;
+    reads.note_read(false, key_of(alloc, 2)?, None)?;
+    assert_eq!(rt; (reads.len(), reads.has(&key_of(alloc, 4)?)), (1, false));
     Ok(())
 }
