@@ -118,9 +118,9 @@ def is_of(full, function):
     """Whether the name that a check prints is that of the function: crate, modules, owner (of a trait's `impl` with more behind it) and name."""
     _, owner, trait, name = function
     parts = full.split("::")
-    if parts[-1] != name:
+    if parts[-1] != name or len(parts) < 2:
         return False
-    return not owner or len(parts) > 1 and (parts[-2] == owner or bool(trait) and parts[-2].startswith(owner))
+    return (parts[-2] == owner or bool(trait) and parts[-2].startswith(owner)) if owner else parts[-2][0].islower()
 
 
 def word_of(function):

@@ -9,17 +9,16 @@
                                     tried; then what is to be mended; the last line has the sums
     try_bodies.py --known           tells which bodies were refused and not tried again since the function that they change was another one; the status
                                     is 1 where there is one; the last line has the sums
-    try_bodies.py --copy FOLDER     makes the copy alone, in which `rt ci NAME..` tries them over what the gate has proved on this machine
-    try_bodies.py --read LOG        notes what such a run refused, of the text as it stands
 
-They are tried on a copy of the repository, by `rt must-fail`, as many crates side by side as --lanes N says (one where it isn't given),
-once the libraries below them are built. What was refused is noted in tools/tried, a line for each crate, reason and date, in which a body stands
+They are tried on a copy of the repository, as many crates side by side as --lanes N says (one where it isn't given), once the libraries below
+them are built: bodies that change different functions in one text, by one check of these functions (tools/rounds.py), and the others one by
+one, by `rt must-fail`. What was refused is noted in tools/tried, a line for each crate, reason and date, in which a body stands
 with three checksums: of its own text, of the items that it changes, and of what these reach (tools/reach.py). A note is void once one of them is
 another one. The reason is what `rt` says of the refusal:
 
     clause    a clause isn't proved, or a law: this alone counts as refused
     fits      a proof no longer fits its goal, or names what is gone: it refuses the shape of the code, and the body is to be mended
-    limit     the prover gave up, so it is to be mended too (`rt` says it in 160 characters; a limit told behind them is taken for a clause)
+    limit     the prover gave up at each clause that it didn't prove, so it is to be mended too
     refused   noted before reasons were, and carried over where the text had not changed: it counts as refused
     earlier   noted on an earlier text, without these checksums: it is void
 
@@ -42,6 +41,7 @@ import tempfile
 from concurrent.futures import ThreadPoolExecutor
 
 import reach
+import rounds
 from gate_times import crates_of
 
 ROOT = os.path.join(os.path.dirname(os.path.abspath(__file__)), "..")
@@ -136,16 +136,29 @@ class Record:
             it.writelines(f"{name} {reason} {date}: {' '.join(bodies)}\n" for (name, reason, date), bodies in sorted(lines.items()))
 
 
-def try_crate(copy, name):
-    """The bodies that were refused, each with the reason; what `rt must-fail` says of those that no clause refused is printed."""
+def try_alone(copy, name, bodies):
+    """The reason of each of these bodies that was refused, by `rt must-fail`."""
+    for body in bodies:
+        shutil.copy(path_of(name, body), f"{copy}/crates/{name}/must-fail/")
     ran = subprocess.run(["rt", "must-fail", name], cwd=copy, capture_output=True, text=True)
-    wanted = [os.path.basename(it).removesuffix(".edit") for it in glob.glob(f"{copy}/crates/{name}/must-fail/*.edit")]
-    told = {body: reason_of(said) for crate, body, said in SAID.findall(ran.stdout) if crate == name and body in wanted}
-    count = sum(it == "clause" for it in told.values())
-    others = [line[:400] for line in ran.stdout.splitlines() for found in [re.search(rf"must-fail {name}/([\w.-]+)\.edit: ", line)]
-              if found and told.get(found[1]) != "clause"]
-    print(f"{name}: {count} of {len(wanted)} refused by a clause", *others, *([] if told else [ran.stdout[-2000:], ran.stderr[-600:]]), sep="\n", flush=True)
-    return told if count == len(wanted) else {None: "", **told}
+    return {body: reason_of(said) for crate, body, said in SAID.findall(ran.stdout) if crate == name and body in bodies}
+
+
+def try_crate(copy, name, bodies, tree, check=rounds.check):
+    """The reason of each body that was refused; those that no clause refused are printed."""
+    texts = {it: edit_of(name, it) for it in bodies}
+    functions = {it: rounds.functions_of(tree, name, texts[it]) for it in bodies}
+    told = {}
+    for together in rounds.rounds_of({it: own for it, own in functions.items() if own}):
+        told.update(rounds.try_round(rounds.Copy(f"{copy}/crates/{name}"), together, functions, texts, check))
+    alone = [it for it in bodies if it not in told]
+    if alone:
+        told.update(try_alone(copy, name, alone))
+    refused = {it: reason for it, reason in told.items() if reason != "none"}
+    count = sum(it == "clause" for it in refused.values())
+    others = [f"{name}/{it}: {refused.get(it, 'NOT REFUSED')}" for it in bodies if refused.get(it) != "clause"]
+    print(f"{name}: {count} of {len(bodies)} refused by a clause", *others, sep="\n", flush=True)
+    return refused
 
 
 def needed_by(names):
@@ -165,48 +178,38 @@ def linked(one, other):
     return other
 
 
-def copy_with(copy, chosen):
-    """A copy of the repository in which the chosen bodies are those of the gate."""
-    shutil.copytree(ROOT, copy, ignore=shutil.ignore_patterns(".git"), copy_function=linked)
+def copy_in(folder):
+    """A copy of the repository, in which these crates have no body of the gate."""
+    shutil.copytree(ROOT, folder, ignore=shutil.ignore_patterns(".git"), copy_function=linked)
     for name in crates():
-        shutil.rmtree(f"{copy}/crates/{name}/must-fail", ignore_errors=True)
-        os.makedirs(f"{copy}/crates/{name}/must-fail")
-    for name, bodies in chosen.items():
-        for body in bodies:
-            shutil.copy(path_of(name, body), f"{copy}/crates/{name}/must-fail/")
+        shutil.rmtree(f"{folder}/crates/{name}/must-fail", ignore_errors=True)
+        os.makedirs(f"{folder}/crates/{name}/must-fail")
 
 
 def try_all(chosen, lanes):
-    """Tries the chosen bodies, by crate. The status is 1 where no clause refused one."""
+    """Tries the chosen bodies, by crate, and notes what came of each. The status is 1 where no clause refused one."""
     today = Today()
-    sums = {(name, body): today.sums(name, body) for name, bodies in chosen.items() for body in bodies}
     with tempfile.TemporaryDirectory(prefix="tried-") as room:
         copy = os.path.join(room, "copy")
-        copy_with(copy, chosen)
+        copy_in(copy)
         for name in needed_by(chosen):
             subprocess.run(["rt", "lib"], cwd=f"{copy}/crates/{name}", check=True, capture_output=True)
         with ThreadPoolExecutor(lanes) as pool:
-            done = dict(zip(chosen, pool.map(lambda name: try_crate(copy, name), chosen)))
+            done = dict(zip(chosen, pool.map(lambda name: try_crate(copy, name, chosen[name], today.tree), chosen)))
+    return note_all(chosen, done, today)
+
+
+def note_all(chosen, done, today):
+    """Notes the reasons of these bodies; one that wasn't refused has no note any more."""
     record = Record()
-    for name, told in done.items():
-        for body, reason in told.items():
-            if body:
-                record.note(name, body, reason, sums[name, body])
+    for name, bodies in chosen.items():
+        for body in bodies:
+            if body in done[name]:
+                record.note(name, body, done[name][body], today.sums(name, body))
+            else:
+                record.notes.pop((name, body), None)
     record.write()
-    return 1 if any(None in it for it in done.values()) else 0
-
-
-def read_log(path):
-    """Notes what a run of `rt ci` in such a copy refused."""
-    with open(path, encoding="utf-8", errors="replace") as it:
-        found = SAID.findall(it.read())
-    record, today, known = Record(), Today(), crates()
-    tried = {(name, body): reason_of(said) for name, body, said in found if name in known and body in bodies_of(name)}
-    for (name, body), reason in tried.items():
-        record.note(name, body, reason, today.sums(name, body))
-    record.write()
-    print(f"{sum(it == 'clause' for it in tried.values())} of {len(tried)} bodies were refused by a clause")
-    return 0
+    return 0 if all(done[name].get(it) == "clause" for name, bodies in chosen.items() for it in bodies) else 1
 
 
 def counted(states):
@@ -269,17 +272,11 @@ def main():
     reader.add_argument("--list", action="store_true")
     reader.add_argument("--known", action="store_true")
     reader.add_argument("--lanes", type=int, default=1)
-    reader.add_argument("--copy")
-    reader.add_argument("--read")
     given = reader.parse_args()
     if given.list:
         return tell()
     if given.known:
         return tell_known()
-    if given.read:
-        return read_log(given.read)
-    if given.copy:
-        return copy_with(given.copy, chosen_of(given.names, given.since))
     return try_all(chosen_of(given.names, given.since), given.lanes)
 
 

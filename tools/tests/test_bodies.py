@@ -106,14 +106,6 @@ class Bodies(InFolder):
         self.change("pc_high", "1", "7")
         self.assertEqual(self.printed(try_bodies.tell_known)[0], 1)
 
-    def test_what_a_run_of_the_gate_refused_is_noted(self):
-        """Bodies of the gate, and those that were not refused, are no part of it."""
-        clause = "refused, as it must be: note: src/lib.rt:2:1: it is not proved that what the function ensures holds"
-        said = ("one.edit: " + clause, "two.edit: NOT REFUSED: x", "three.edit: " + clause)
-        log = self.write("log", "".join(f"rt: must-fail pc_high/{it}\n" for it in said))
-        self.assertEqual(self.printed(try_bodies.read_log, log), (0, "1 of 1 bodies were refused by a clause\n"))
-        self.assertEqual(self.states(), {ONE: "never", TWO: "clause", HIGH: "never"})
-
     def test_why_a_body_was_refused(self):
         goal = "it is not proved that what the function ensures holds when it returns (`returns`)"
         for said, reason in (
@@ -145,7 +137,7 @@ class Bodies(InFolder):
         self.assertEqual(try_bodies.needed_by(["pc_high"]), ["pc_low", "pc_mid"])
 
     def test_the_copy_in_which_they_are_tried(self):
-        """It has the chosen bodies in the place of those of the gate, and shares no file with the repository that may be written."""
+        """It has no body of the gate, and shares no file with the repository that may be written."""
         self.write("repository/crates.txt", "pc_low: std\n")
         self.write("repository/crates/pc_low/must-fail/old.edit", EDIT)
         self.write("repository/crates/pc_low/tried/one.edit", EDIT)
@@ -154,27 +146,34 @@ class Bodies(InFolder):
         here, copy = os.path.join(self.folder, "repository"), os.path.join(self.folder, "copy")
         for module in (gate_times, try_bodies):
             self.replace(module, ROOT=here)
-        try_bodies.copy_with(copy, {"pc_low": ["one"]})
-        self.assertEqual(os.listdir(os.path.join(copy, "crates/pc_low/must-fail")), ["one.edit"])
+        try_bodies.copy_in(copy)
+        self.assertEqual(os.listdir(os.path.join(copy, "crates/pc_low/must-fail")), [])
         self.assertFalse(os.path.exists(os.path.join(copy, ".git")))
         self.assertFalse(os.path.samefile(os.path.join(copy, "crates.txt"), os.path.join(here, "crates.txt")))
 
-    def test_which_bodies_were_refused(self):
-        for body in ("one", "two"):
-            self.write(f"crates/pc_high/must-fail/{body}.edit", EDIT)
-        refused = "must-fail pc_high/one.edit: refused, as it must be: note: src/lib.rt:2:1: it is not proved that it is one\n"
-        other = "must-fail pc_high/two.edit: NOT REFUSED: x\n"
-        shape = "must-fail pc_high/two.edit: refused, as it must be: proofs/a/Answers.antt:1:1: error: b\n"
-        for said, wanted, begin in (
-            (refused + other, {None: "", "one": "clause"}, "pc_high: 1 of 2 refused by a clause\nmust-fail pc_high/two.edit: NOT REFUSED: x\n"),
-            (refused + shape, {None: "", "one": "clause", "two": "fits"}, "pc_high: 1 of 2 refused by a clause\n" + shape),
-            (refused + refused.replace("one.", "two."), {"one": "clause", "two": "clause"}, "pc_high: 2 of 2 refused by a clause\n"),
-            ("broken\n", {None: ""}, "pc_high: 0 of 2 refused by a clause\nbroken\n"),
+    def tried(self, *said):
+        """What is found of both bodies of a crate where checks print these texts, one after the other."""
+        texts, left = iter(said), []
+
+        def check(_, words):
+            left.append(words)
+            return next(texts)
+
+        found, told = self.printed(try_bodies.try_crate, self.folder, "pc_high", ["one", "two"], reach.tree_here(), check)
+        return found, told, left
+
+    def test_bodies_of_one_function_are_tried_one_by_one(self):
+        goal = "note: src/lib.rt:3:1: it is not proved that what the function ensures holds when it returns (`returns`)%s\n"
+        shape = "./proofs/high/Answers.antt:1:1: error: b\n"
+        for first, second, wanted in (
+            (goal % "" + "fn pc_high::high: no proof", shape + "fn pc_high::high: not proved", {"one": "clause", "two": "fits"}),
+            (goal % "; `search` gave up at one of its limits" + "fn pc_high::high: no proof", "fn pc_high::high: proved", {"one": "limit"}),
         ):
-            with mock.patch.object(subprocess, "run", return_value=subprocess.CompletedProcess([], 0, said, "")):
-                found, told = self.printed(try_bodies.try_crate, self.folder, "pc_high")
-            self.assertEqual(found, wanted)
-            self.assertTrue(told.startswith(begin), told)
+            found, told, left = self.tried(first, second)
+            self.assertEqual((found, left), (wanted, [["high"], ["high"]]))
+            self.assertEqual(told.splitlines()[0], f"pc_high: {int('clause' in found.values())} of 2 refused by a clause")
+        self.assertIn("pc_high/two: NOT REFUSED", told)
+        self.assertEqual(self.read("crates/pc_high/src/lib.rt"), SOURCE.replace("fn low", "fn high").replace("    1\n", "    low() + 1\n"))
 
 
 class Meetings(InFolder):
