@@ -106,12 +106,7 @@ impl ReadSet {
 
     /// Notes the read of a key, for which it makes room, where it is not of an own write and the key was not read before. Refuses
     /// with `OutOfMemory` alone, and the reads are then as they were.
-    pub fn note_read(
-        &mut self,
-        own: bool,
-        key: Key,
-        content: Option<Value>,
-    ) -> Result<(), Refusal>
+    pub fn note_read(&mut self, own: bool, key: Key, content: Option<Value>) -> Result<(), Refusal>
         ensures reads { OnOk result (self.new.items ≡ noting own self.old.items key content) }
         ensures refusal { IfErr result (λ e. e ≡ Refusal.OutOfMemory) }
         ensures err { OnErr result (self.new.items ≡ self.old.items) }

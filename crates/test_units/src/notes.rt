@@ -78,7 +78,10 @@ fn finds_256_keys(rt: HostRuntime) -> Result<(), Fail> {
     }
     let key = key_of(alloc, 256)?;
     assert!(rt; !set.has(&key) && set.is_full_for(&key));
-    assert_eq!(rt; write_at(alloc, &mut set, 256, 1), Err(Refusal::TooManyWrites));
+    assert_eq!(rt;
+        write_at(alloc, &mut set, 256, 1),
+        Err(Refusal::TooManyWrites)
+    );
     assert_eq!(rt; set.len(), 256);
     write_at(alloc, &mut set, 255, 2)?;
     assert_eq!(rt; told(set.as_slice(), 0), Some((255, 2)));
