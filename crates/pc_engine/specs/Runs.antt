@@ -1,16 +1,11 @@
--- Runs of whole lists of events: what they start from, and what they leave.
+-- Runs of whole lists of events: what they leave.
 use Rattle.std.specs.Prelude.{◌≡◌, ℕ, List, [], ◌∷◌, length}
 use Rattle.pc_types.specs.declared.Event.{Event}
 use Rattle.pc_types.specs.declared.Reply.{Reply}
 use Rattle.pc_model.specs.History.{History}
-use Rattle.pc_model.specs.Files.{BaseFile}
 use Rattle.pc_model.specs.Replies.{Setting, IsLegalHistory}
 use Rattle.pc_engine.specs.Store.{Store, setting_of}
 use Rattle.pc_engine.specs.Stands.{Stands, IsSerial, KeepsPoints}
-
--- what a run starts from that is given this base, so many sessions and this capacity
-abbrev pub starting : BaseFile → ℕ → ℕ → Setting
-starting base sessions capacity = record { run = base.run; base = base.pairs; sessions = sessions; capacity = capacity }
 
 -- the history that goes on by these events with these replies, in this order
 abbrev pub history_after : History → List Event → List Reply → History

@@ -6,6 +6,7 @@ ghost use Rattle.pc_model.specs.Files.{file_at};
 ghost use Rattle.pc_model.specs.Database.{KeysRise, database_of, written};
 ghost use Rattle.pc_model.specs.History.{History};
 ghost use Rattle.pc_model.specs.Limits.{IsInLimits};
+ghost use Rattle.pc_model.specs.Replies.{starting};
 ghost use Rattle.pc_model.specs.FewWrites.{HasFewWrites};
 ghost use Rattle.pc_model.specs.Log.{after};
 ghost use Rattle.pc_log.specs.Laws.{IsLog};
@@ -15,7 +16,7 @@ ghost use Rattle.pc_engine.specs.Sessions.{waits_in, writes_in};
 ghost use Rattle.pc_engine.specs.Store.{active_of, setting_of};
 ghost use Rattle.pc_engine.specs.Stands.{Stands, Follows, IfRefused};
 ghost use Rattle.pc_engine.specs.Checks.{IsStoreSound};
-ghost use Rattle.pc_engine.specs.Runs.{starting, IsRun};
+ghost use Rattle.pc_engine.specs.Runs.{IsRun};
 
 use crate::checks::is_sound;
 use crate::sessions::Sessions;

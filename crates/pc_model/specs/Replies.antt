@@ -25,7 +25,7 @@ use Rattle.pc_model.specs.Locks.{outcome, queue_of, is_waiting}
 use Rattle.pc_types.specs.declared.Outcome.TheVariants.{Granted, Queued, Died}
 use Rattle.pc_types.specs.declared.limits.TheConstants.{MOST_FILES, MOST_FILE_ENTRIES, MOST_LOG_ENTRIES, MOST_POINTS, MOST_TRANSACTIONS, MOST_WRITES}
 use Rattle.pc_model.specs.Points.{is_among, with_key, with_keys, touched, taken}
-use Rattle.pc_model.specs.Files.{File, shelf, file_at, joined_file, join_of, conflict, numbers_to}
+use Rattle.pc_model.specs.Files.{BaseFile, File, shelf, file_at, joined_file, join_of, conflict, numbers_to}
 
 -- what a run starts from; the base stands at point 0
 pub record Setting : Type 0 where
@@ -33,6 +33,10 @@ pub record Setting : Type 0 where
   pub base : Database
   pub sessions : ℕ
   pub capacity : ℕ
+
+-- what a run starts from that is given this base, so many sessions and this capacity
+abbrev pub starting : BaseFile → ℕ → ℕ → Setting
+starting base sessions capacity = record { run = base.run; base = base.pairs; sessions = sessions; capacity = capacity }
 
 -- the phase is this one
 abbrev pub is_in : Phase → History → Bool

@@ -1,6 +1,7 @@
 use Rattle.std.proofs.Common.{◌≡◌, [], length, take}
+use Rattle.pc_model.specs.Replies.{starting}
 use Rattle.pc_engine.specs.Store.{setting_of}
-use Rattle.pc_engine.specs.Runs.{starting, history_after}
+use Rattle.pc_engine.specs.Runs.{history_after}
 use Rattle.pc_engine.specs.Stands.{Stands}
 use Rattle.pc_engine.proofs.world.run.Given as goal
 
