@@ -1,5 +1,5 @@
-//! Laws of worlds and of their files. Each function does nothing, and its contract is a law.
-ghost use Rattle.pc_engine.specs.Laws.{FilesOfTheirPointsAreRight, StandingWorldsAreSerial, StandingWorldsHaveLegalQueues, StandingWorldsKeepPoints};
+//! Laws of worlds. Each function does nothing, and its contract is a law.
+ghost use Rattle.pc_engine.specs.Laws.{StandingWorldsAreSerial, StandingWorldsHaveLegalQueues, StandingWorldsKeepPoints};
 
 /// A world that stands after a history is serial: each key's committed value is that of the log replayed on the base, and each
 /// committed transaction has read right.
@@ -17,9 +17,4 @@ pub fn standing_worlds_keep_points()
 /// In a world that stands after a history no two granted requests of a key conflict.
 pub fn standing_worlds_have_legal_queues()
     ensures { StandingWorldsHaveLegalQueues }
-{}
-
-/// A file that a legal history gives its points is right by the log of that history.
-pub fn files_of_their_points_are_right()
-    ensures { FilesOfTheirPointsAreRight }
 {}

@@ -17,9 +17,9 @@ ghost use Rattle.pc_engine.specs.Stands.{Stands, Follows, IfRefused};
 ghost use Rattle.pc_engine.specs.Checks.{IsStoreSound};
 ghost use Rattle.pc_engine.specs.Runs.{starting, IsRun};
 
-use crate::checks::is_sound;
 use crate::sessions::Sessions;
 use crate::shelving::{file_at, shared_at};
+use pc_audit::is_sound;
 use pc_capture::SharedPart;
 use pc_kept_log::Log;
 use pc_part::{Base, Part};

@@ -7,8 +7,8 @@ use Rattle.pc_model.specs.History.{History}
 use Rattle.pc_model.specs.Replies.{Setting}
 use Rattle.pc_model.specs.Standing.{IsOfItsPoints}
 use Rattle.pc_collapse.specs.Laws.{FilesFoldWell}
-use Rattle.pc_engine.specs.Checks.{IsFileRight}
-use Rattle.pc_engine.specs.Laws.{FilesOfTheirPointsAreRight}
+use Rattle.pc_audit.specs.Checks.{IsFileRight}
+use Rattle.pc_audit.specs.Laws.{FilesOfTheirPointsAreRight}
 use Rattle.pc_outcomes.specs.Leaving.{with_file, Folded, IsStoreReport, AreLeftAfter, IsOfAll, IsLegacy}
 use Rattle.pc_outcomes.specs.declared.run_report.StoreReport.{StoreReport}
 

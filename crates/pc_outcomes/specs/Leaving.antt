@@ -17,7 +17,7 @@ use Rattle.pc_part.specs.Joins.{first_cause}
 use Rattle.pc_part.specs.Layings.{lay_causes}
 use Rattle.pc_merge.specs.Folds.{Folds}
 use Rattle.pc_collapse.specs.Laws.{IsOfAllPoints}
-use Rattle.pc_engine.specs.Checks.{IsFileRight}
+use Rattle.pc_audit.specs.Checks.{IsFileRight}
 use Rattle.pc_outcomes.specs.declared.run_report.Collapsed.{Collapsed}
 use Rattle.pc_outcomes.specs.declared.run_report.StoreReport.{StoreReport}
 

@@ -9,9 +9,9 @@ ghost use Rattle.pc_collapse.specs.declared.limits.TheConstants.{MOST_COLLAPSERS
 ghost use Rattle.pc_outcomes.specs.Leaving.{is_commit, commits_in, summary_if_any, summary_of, with_file, Folded, AreLeftAfter, IsStoreReport, IsLegacy, IsUnfolded, IsUnlaid, IsReportUntold, IsUntoldAfter};
 
 use crate::run_report::{Collapsed, StoreReport};
+use pc_audit::{are_files_right, files_of_their_points_are_right};
 use pc_capture::SharedPart;
 use pc_collapse::{collapse_bag_owned, files_fold_well};
-use pc_engine::{are_files_right, files_of_their_points_are_right};
 use pc_part::{Base, Part, lay};
 use pc_types::{Entry, Gate, Refusal};
 use std::alloc::{AllocError, Global};

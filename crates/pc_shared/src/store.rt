@@ -4,11 +4,11 @@ ghost use Rattle.pc_model.specs.FewWrites.{HasFewWrites};
 ghost use Rattle.pc_model.specs.Files.{file_at, shelf};
 ghost use Rattle.pc_model.specs.Maps.{len};
 ghost use Rattle.pc_model.specs.Replies.{IsLegalHistory};
+ghost use Rattle.pc_engine.specs.Runs.{starting};
 ghost use Rattle.pc_model.specs.Calls.{session_of, counts, IsAnswered, IsBeginning};
 ghost use Rattle.pc_model.specs.ReplyKinds.{IsReplyTo};
 ghost use Rattle.pc_model.specs.SessionLaws.{IsNoJoin};
 ghost use Rattle.pc_engine.specs.Asking.{AsksOfOpen};
-ghost use Rattle.pc_engine.specs.Runs.{starting};
 ghost use Rattle.pc_engine.specs.Stands.{Stands};
 ghost use Rattle.pc_engine.specs.Store.{setting_of};
 ghost use Rattle.pc_tie.specs.Seats.{MovesOn};
@@ -31,7 +31,7 @@ use crate::waits::{News, Waits, Woken, is_wait};
 use pc_engine::World;
 use pc_latch::{Latched, LogBatch, LogPass, PartTicket};
 use pc_part::Base;
-use pc_tie::{CheckpointerSeat, Keeper, Milestone, SessionSeat, StoreName, Tie, Untied, Witness};
+use pc_tie::{CheckpointerSeat, Keeper, Milestone, SessionSeat, Start, StoreName, Tie, Untied, Witness};
 use pc_txn::SessionNotes;
 use pc_types::{FileNo, Lsn, MOST_KEYS, MOST_SESSIONS, Refusal, Reply, SessionNo, Step};
 use std::alloc::Global;
@@ -86,8 +86,9 @@ impl Opened {
         ensures full { capacity < len base.pairs → result ≡ Err Refusal.Full }
         ensures refusals { IfErr result (λ e. ((e ≡ Refusal.Full) × (capacity < len base.pairs)) ⊎ (e ≡ Refusal.OutOfMemory)) }
     {
+        let start = Start::new(&base, sessions, capacity);
         let world = World::new(alloc, base, sessions, capacity, seed)?;
-        let tie = Untied::new(alloc, &world)?;
+        let tie = Untied::new(alloc, &start)?;
         Ok(Opened {
             alloc,
             tie,

@@ -8,6 +8,7 @@ mod name;
 mod rule;
 mod seats;
 mod sight;
+mod start;
 mod tie;
 
 pub use keeper::{Dealer, Keeper};
@@ -15,4 +16,5 @@ pub use milestone::Milestone;
 pub use name::StoreName;
 pub use seats::{CheckpointerSeat, SessionSeat, Witness};
 pub use sight::{Sight, Sitting};
+pub use start::Start;
 pub use tie::{Tie, Untied};

@@ -1,22 +1,21 @@
 //! The rule that every atomic step on a store's word keeps, and what each step tells.
 use crate::sight::Sight;
+use crate::start::Start;
 use atomic_table::{Join, Play, Split, TableRule};
-use pc_engine::World;
 use pc_types::Step;
 
-/// The word is read off one legal history, of which each seat knows a beginning. The rule's key is the world as it was at the
-/// start.
+/// The word is read off one legal history, of which each seat knows a beginning. The rule's key is what the store
+/// starts from.
 pub struct OneHistory;
 
-impl<S> TableRule<S, Sight, World> for OneHistory {
+impl<S> TableRule<S, Sight, Start> for OneHistory {
     ghost use Rattle.std.specs.Prelude.{[]};
-    ghost use Rattle.pc_engine.specs.Store.{setting_of};
     ghost use Rattle.pc_tie.specs.declared.sight.Sight.TheVariants.{Whole};
     ghost use Rattle.pc_tie.specs.Rules.{HasOneHistory};
 
-    ghost holds = { λ world state. HasOneHistory (setting_of world) state };
+    ghost holds = { λ start state. HasOneHistory start state };
 
-    ghost first = { λ world. Whole [] 0 [] };
+    ghost first = { λ start. Whole [] 0 [] };
 }
 
 /// The keeper adds a step to the history.

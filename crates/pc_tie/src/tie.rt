@@ -1,14 +1,13 @@
 //! The word of a store.
 ghost use Rattle.std.specs.Prelude.{◌≡◌, [], IfOk, IfErr};
-ghost use Rattle.pc_engine.specs.Store.{setting_of};
 
 use crate::keeper::{Dealer, deal_first};
 use crate::name::StoreName;
 use crate::rule::OneHistory;
 use crate::seats::CheckpointerSeat;
 use crate::sight::Sight;
+use crate::start::Start;
 use atomic_table::{Seat, Table};
-use pc_engine::World;
 use pc_types::{Refusal, Step};
 use std::alloc::Global;
 use std::marker::{Model, PhantomData};
@@ -16,7 +15,7 @@ use std::marker::{Model, PhantomData};
 /// A word of no store yet, and its first seat. Contracts see the name that it can be given.
 #[derive(Drop)]
 pub struct Untied {
-    table: Table<Step, Sight, World, OneHistory, Global>,
+    table: Table<Step, Sight, Start, OneHistory, Global>,
     seat: Seat<Step, Sight>,
 }
 
@@ -24,7 +23,6 @@ impl Model for Untied {
     ghost use Rattle.std.specs.Prelude.{◌≡◌, []};
     ghost use Rattle.std.specs.Coded.{codes};
     ghost use Rattle.pc_model.specs.Database.{database_code};
-    ghost use Rattle.pc_engine.specs.Store.{setting_of};
     ghost use Rattle.pc_tie.specs.declared.sight.Sight.TheVariants.{Whole};
     ghost use Rattle.pc_tie.specs.Seats.{Name};
 
@@ -32,18 +30,18 @@ impl Model for Untied {
 
     ghost coded = { Prim.hlevel (codes, database_code) };
 
-    ghost view = { λ u. record { table = u.table.shared.table_id; setting = setting_of u.table.shared.key } };
+    ghost view = { λ u. record { table = u.table.shared.table_id; setting = u.table.shared.key } };
 
     ghost invariant = { λ u. (u.table.shared.table_id.words ≡ 1) × (u.seat.table_id ≡ u.table.shared.table_id) × (u.seat.me ≡ (Whole [] 0 [], [])) };
 }
 
 impl Untied {
-    /// A new word for a store that starts as this world. Refuses with `OutOfMemory` alone.
-    pub fn new(alloc: Global, world: &World) -> Result<Untied, Refusal>
-        ensures setting { IfOk result (λ u. u.setting ≡ setting_of world.now) }
+    /// A new word for a store that starts so. Refuses with `OutOfMemory` alone.
+    pub fn new(alloc: Global, start: &Start) -> Result<Untied, Refusal>
+        ensures setting { IfOk result (λ u. u.setting ≡ start.now) }
         ensures memory { IfErr result (λ e. e ≡ Refusal.OutOfMemory) }
     {
-        let (table, seat) = Table::of_words(alloc, &[0], world)?;
+        let (table, seat) = Table::of_words(alloc, &[0], start)?;
         Ok(Untied { table, seat })
     }
 
@@ -66,9 +64,9 @@ impl Untied {
 /// The word of a store, by which each seat at it knows the one history of the store, or a beginning of it.
 #[derive(Drop)]
 pub struct Tie<N: StoreName> {
-    pub(crate) table: Table<Step, Sight, World, OneHistory, Global>,
+    pub(crate) table: Table<Step, Sight, Start, OneHistory, Global>,
     name: PhantomData<N>,
     pub(crate) ghost named: { table.shared.table_id ≡ N.name.table },
     pub(crate) ghost one: { table.shared.table_id.words ≡ 1 },
-    pub(crate) ghost key: { setting_of table.shared.key ≡ N.name.setting },
+    pub(crate) ghost key: { table.shared.key ≡ N.name.setting },
 }

@@ -1,10 +1,10 @@
-//! A store's contents and files against its log.
+//! Contents and files against a log.
 ghost use Rattle.std.specs.Prelude.{◌≡◌, ◌↔◌, ◌++◌, All, IsTrue, IfOk, OnOk, List};
 ghost use Rattle.pc_types.specs.declared.Entry.{Entry};
 ghost use Rattle.pc_model.specs.Database.{Database, database_of};
 ghost use Rattle.pc_model.specs.Log.{after};
 ghost use Rattle.pc_replay.specs.Audits.{IsRight, TriplesRise};
-ghost use Rattle.pc_engine.specs.Checks.{IsFileRight};
+ghost use Rattle.pc_audit.specs.Checks.{IsFileRight};
 
 use pc_capture::SharedPart;
 use pc_part::{Base, Part};
@@ -13,9 +13,9 @@ use pc_taken::Pass;
 use pc_types::{Entry, Key, Triple, Value};
 use std::alloc::{AllocError, Global};
 
-// Whether the pairs are the log replayed on the base, and each file of the points 1 to some n, laid on the base, is the
-// state of n.
-pub(crate) fn is_sound(
+/// Whether the pairs are the log replayed on the base, and each file of the points 1 to some n, laid on the base, is the
+/// state of n. It fails only where memory ran out.
+pub fn is_sound(
     alloc: Global,
     base: &Base,
     log: &[Entry],

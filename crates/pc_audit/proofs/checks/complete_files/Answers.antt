@@ -2,9 +2,9 @@ use Rattle.std.proofs.Common.{◌↔◌, subst, All, List}
 use Rattle.std.proofs.lemmas.List.{take_all}
 use Rattle.pc_replay.specs.Audits.{IsRight}
 use Rattle.pc_model.specs.Files.{File}
-use Rattle.pc_engine.specs.Checks.{IsFileRight}
-use Rattle.pc_engine.proofs.Soundness.{one_more}
-use Rattle.pc_engine.proofs.checks.complete_files.Goals as goal
+use Rattle.pc_audit.specs.Checks.{IsFileRight}
+use Rattle.pc_audit.proofs.RightFiles.{one_more}
+use Rattle.pc_audit.proofs.checks.complete_files.Goals as goal
 
 pub loop-file-preserved : goal.loop-file-preserved
 loop-file-preserved c = (

@@ -1,7 +1,7 @@
 use Rattle.std.proofs.Common.{◌≡◌, ◌↔◌, subst, IsTrue}
 use Rattle.pc_model.specs.Database.{Database, database_of}
 use Rattle.pc_model.specs.Log.{after}
-use Rattle.pc_engine.proofs.checks.is_sound.Goals as goal
+use Rattle.pc_audit.proofs.checks.is_sound.Goals as goal
 
 pub returns : goal.returns
 returns c =

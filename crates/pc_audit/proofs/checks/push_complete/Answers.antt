@@ -1,9 +1,9 @@
 use Rattle.std.proofs.Common.{◌↔◌, ◌∙◌, ap, sym, subst, All, List}
 use Rattle.pc_replay.specs.Audits.{IsRight, triples_from}
 use Rattle.pc_replay.specs.declared.audits.CompleteFile.{CompleteFile}
-use Rattle.pc_engine.specs.Checks.{IsFileRight}
-use Rattle.pc_engine.proofs.Soundness.{with_copy}
-use Rattle.pc_engine.proofs.checks.push_complete.Goals as goal
+use Rattle.pc_audit.specs.Checks.{IsFileRight}
+use Rattle.pc_audit.proofs.RightFiles.{with_copy}
+use Rattle.pc_audit.proofs.checks.push_complete.Goals as goal
 
 pub returns-in_ok-push-clause-right : goal.returns-in_ok-push-clause-right
 returns-in_ok-push-clause-right c base log =

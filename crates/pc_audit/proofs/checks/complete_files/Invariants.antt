@@ -2,8 +2,8 @@ use Rattle.std.proofs.Common.{◌↔◌, take, All, List}
 use Rattle.pc_types.specs.declared.Entry.{Entry}
 use Rattle.pc_model.specs.Database.{Database}
 use Rattle.pc_replay.specs.Audits.{IsRight, TriplesRise}
-use Rattle.pc_engine.specs.Checks.{IsFileRight}
-use Rattle.pc_engine.proofs.checks.complete_files.Given as goal
+use Rattle.pc_audit.specs.Checks.{IsFileRight}
+use Rattle.pc_audit.proofs.checks.complete_files.Given as goal
 
 -- the copies so far are right just where the first files are
 abbrev pub invariant-loop-file : goal.invariant-loop-file

@@ -2,7 +2,7 @@ use Rattle.std.proofs.Common.{◌↔◌, subst, All, List, IsTrue}
 use Rattle.pc_model.specs.Database.{Database, database_of}
 use Rattle.pc_replay.specs.Audits.{IsRight, TriplesRise}
 use Rattle.pc_replay.specs.declared.audits.CompleteFile.{CompleteFile}
-use Rattle.pc_engine.proofs.checks.are_files_right.Goals as goal
+use Rattle.pc_audit.proofs.checks.are_files_right.Goals as goal
 
 pub returns : goal.returns
 returns c =
