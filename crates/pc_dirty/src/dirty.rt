@@ -44,6 +44,7 @@ impl Dirty {
 
     /// Whether a slot is in the open set. It goes along the set, up to all of its slots: whoever keeps the links may know it at
     /// once.
+    #[tactic(auto, using(crate::proofs::Changing::none_told))]
     pub fn in_open<K, L: Links<K, Id = SideSlot>>(&self, links: &L, slot: SlotId) -> bool
         requires { (opened closed : List ℕ) × AreSets (L.has links.now) (L.next_of links.now) self.now opened closed }
         ensures { (opened closed : List ℕ) → AreSets (L.has links.now) (L.next_of links.now) self.now opened closed → (result ≡ false) ↔ Avoids slot opened }
@@ -57,6 +58,7 @@ impl Dirty {
 
     /// Whether a slot is in the closed set. It goes along the set, up to all of its slots: whoever keeps the links may know it at
     /// once.
+    #[tactic(auto, using(crate::proofs::Changing::none_told))]
     pub fn in_closed<K, L: Links<K, Id = SideSlot>>(&self, links: &L, slot: SlotId) -> bool
         requires { (opened closed : List ℕ) × AreSets (L.has links.now) (L.next_of links.now) self.now opened closed }
         ensures { (opened closed : List ℕ) → AreSets (L.has links.now) (L.next_of links.now) self.now opened closed → (result ≡ false) ↔ Avoids slot closed }

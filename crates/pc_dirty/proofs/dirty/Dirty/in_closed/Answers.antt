@@ -2,7 +2,7 @@ use Rattle.std.proofs.Common.{subst, ◌↔◌, ◌≡◌, false, arith}
 use Rattle.pc_dirty.specs.Sets.{other_side, place_of, places_of}
 use Rattle.pc_dirty.specs.declared.side.Side.{Side}
 use Rattle.pc_chain.specs.Chains.{Avoids}
-use Rattle.pc_dirty.proofs.Changing.{places_count, place_told, none_told}
+use Rattle.pc_dirty.proofs.Changing.{places_count, place_told}
 use Rattle.pc_dirty.proofs.dirty.Dirty.in_closed.Goals as goal
 
 pub contains-requires-clause-stands : goal.contains-requires-clause-stands
@@ -16,6 +16,3 @@ pub returns : goal.returns
 returns g c = λ opened closed d.
     place_told (other_side c.args.self.now.side) c.args.slot closed _
     (subst (λ (side : Side). (c.contains.result ≡ false) ↔ Avoids (place_of side c.args.slot) (places_of (other_side c.args.self.now.side) closed)) c.other-side.ensures (c.contains.ensures (places_of (other_side c.args.self.now.side) closed) d.closed_chain))
-
-pub returns-then-closed_len-eq0 : goal.returns-then-closed_len-eq0
-returns-then-closed_len-eq0 g c = λ opened closed d. none_told c.args.slot closed c.closed_len.result (c.closed_len.ensures opened closed d) c.if-closed_len-eq0.true

@@ -1,6 +1,6 @@
 use Rattle.std.proofs.Common.{arith}
 use Rattle.pc_dirty.specs.Sets.{places_of}
-use Rattle.pc_dirty.proofs.Changing.{places_count, place_told, none_told}
+use Rattle.pc_dirty.proofs.Changing.{places_count, place_told}
 use Rattle.pc_dirty.proofs.dirty.Dirty.in_open.Goals as goal
 
 pub contains-requires-clause-stands : goal.contains-requires-clause-stands
@@ -12,6 +12,3 @@ contains-requires-clause-stands g c =
 
 pub returns : goal.returns
 returns g c = λ opened closed d. place_told c.args.self.now.side c.args.slot opened _ (c.contains.ensures (places_of c.args.self.now.side opened) d.open_chain)
-
-pub returns-then-open_len-eq0 : goal.returns-then-open_len-eq0
-returns-then-open_len-eq0 g c = λ opened closed d. none_told c.args.slot opened c.open_len.result (c.open_len.ensures opened closed d) c.if-open_len-eq0.true
