@@ -21,7 +21,7 @@ ghost use Rattle.pc_latch.specs.Cycles.{next_event, IsCalled, IsAdvance, IsTakeC
 ghost use Rattle.pc_model.specs.Sets as set;
 ghost use Rattle.pc_latch.specs.Tickets.{HasNoFile, IsNoTicket};
 
-use crate::pass::{LogBatch, LogPass, next_of};
+use crate::pass::{LogPass, LogTexts, next_of};
 use crate::ticket::PartTicket;
 use pc_engine::World;
 use pc_tie::{CheckpointerSeat, Keeper, Milestone, SessionSeat, StoreName, Tie, Witness};
@@ -185,7 +185,7 @@ impl<N: StoreName> Latched<N> {
         tie: &Tie<N>,
         pass: &mut LogPass<N>,
         room: u32,
-    ) -> Result<LogBatch, Refusal>
+    ) -> Result<LogTexts, Refusal>
         ensures held { self.new ≡ self.old }
         ensures list { IfOk result (λ next. pass.new ≡ pass.old ++ batch room (drop (length pass.old) (log_of self.old))) }
         ensures next { IfOk result (λ next. IsNext room pass.old pass.new next.text.items next.count) }
@@ -223,10 +223,11 @@ impl<N: StoreName> Latched<N> {
         self.world.log().len() as u32
     }
 
-    /// How many entries the log has, for the checkpointer: no fewer than it has seen.
+    /// How many entries the log has, for the checkpointer, who has seen a beginning of the history: no fewer than it has seen.
     pub fn log_len_since(&mut self, tie: &Tie<N>, checkpointer: &mut CheckpointerSeat<N>) -> u32
         ensures same { (self.new ≡ self.old) × (checkpointer.new ≡ checkpointer.old) }
         ensures len { result ≡ length (log_of self.old) }
+        ensures had_seen { IsBeginning checkpointer.old self.old }
         ensures seen { length (log_of checkpointer.old) ≤ result }
         ensures legal { HasEntries N.name.setting result }
     {

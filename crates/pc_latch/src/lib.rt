@@ -7,5 +7,5 @@ mod pass;
 mod ticket;
 
 pub use latched::Latched;
-pub use pass::{LogBatch, LogPass};
+pub use pass::{LogPass, LogTexts};
 pub use ticket::{PartTicket, renew_tickets};

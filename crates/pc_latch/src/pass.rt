@@ -93,9 +93,9 @@ impl<N: StoreName> LogPass<N> {
     }
 }
 
-/// The next entries of a log, as their texts.
+/// The texts of the next entries of a log.
 #[derive(Drop)]
-pub struct LogBatch {
+pub struct LogTexts {
     /// The texts, one behind the other.
     pub text: Vec<u8>,
     /// How many entries they are of.
@@ -126,7 +126,7 @@ pub(crate) fn next_of(
     log: &Log,
     first: usize,
     room: u32,
-) -> Result<LogBatch, Refusal>
+) -> Result<LogTexts, Refusal>
     requires { first ≤ length (entries_of log.now) }
     ensures within { IfOk result (λ next. first + next.count ≤ length (entries_of log.now)) }
     ensures batch { IfOk result (λ next. take next.count (drop first (entries_of log.now)) ≡ batch room (drop first (entries_of log.now))) }
@@ -135,5 +135,5 @@ pub(crate) fn next_of(
 {
     let count = batch_len(log, first, room);
     let text = log.copied_texts(alloc, first, count)?;
-    Ok(LogBatch { text, count })
+    Ok(LogTexts { text, count })
 }

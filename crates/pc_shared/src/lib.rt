@@ -12,7 +12,8 @@ mod written;
 
 pub use closing::Closed;
 pub use ending::{EndMark, Marked};
-pub use pc_latch::{LogBatch, LogPass, PartTicket};
+pub use logged::{LastEntry, LogBatch};
+pub use pc_latch::{LogPass, PartTicket};
 pub use pc_tie::{CheckpointerSeat, Witness};
 pub use pc_txn::Commits;
 pub use session::{CallAnswer, LentReceipt, Session};

@@ -7,7 +7,7 @@ ghost use Rattle.pc_shared.specs.Written.{HasGoneOut};
 use crate::store::{Shared, pause};
 use crate::written::Written;
 use pc_latch::LogPass;
-use pc_tie::StoreName;
+use pc_tie::{StoreName, Witness};
 use pc_types::{Lsn, Tally};
 use std::alloc::{AllocError, Global};
 use std::io;
@@ -18,6 +18,26 @@ use std::sync::{Condvar, Mutex, Wait};
 const LOOKS: u32 = 32;
 
 const PAUSE: u32 = 8;
+
+/// The next entries of a store's log, as their texts.
+#[derive(Drop)]
+pub struct LogBatch<N: StoreName> {
+    /// The texts, one behind the other.
+    pub text: Vec<u8>,
+    /// How many entries they are of.
+    pub count: usize,
+    /// A witness of the history of whose log they are.
+    pub seen: Witness<N>,
+}
+
+/// The last entry of a store's log.
+#[derive(Drop)]
+pub struct LastEntry<N: StoreName> {
+    /// Its number, 0 where the log has none.
+    pub number: Lsn,
+    /// A witness of the history of whose log it is.
+    pub seen: Witness<N>,
+}
 
 /// How many entries of the log are written, whether that stays, and who waits for more.
 #[derive(Drop)]
@@ -127,12 +147,12 @@ impl<N: StoreName> Shared<N> {
         self.logged.mark(rt, pass, out);
     }
 
-    /// Marks that no more entries will be written. Who waits for one goes on.
+    /// Marks that no more entries will be written. Who waits for one goes on; that is promised by no clause.
     pub fn mark_log_end<R: Wait>(&self, rt: &R) {
         self.logged.end(rt);
     }
 
-    /// Whether that was marked.
+    /// Whether that was marked. Nothing is promised of the answer: a mark of another thread may be seen or not.
     pub fn has_log_ended(&self) -> bool {
         self.logged.has_ended()
     }
@@ -144,7 +164,7 @@ impl<N: StoreName> Shared<N> {
         u64::from(number.0) <= self.logged.written.get()
     }
 
-    /// Whether somebody waits for an entry to be written.
+    /// Whether somebody waits for an entry to be written. Nothing is promised of the answer, which may be old when it is read.
     pub fn is_log_awaited(&self) -> bool {
         self.logged.is_awaited()
     }

@@ -1,5 +1,5 @@
 //! The store that threads share.
-ghost use Rattle.std.specs.Prelude.{◌≡◌, ◌≢◌, ◌≤◌, ◌<◌, ◌⊎◌, ◌↔◌, ◌++◌, [], true, false, Some, Err, length, IfOk, IfErr, IfSome, OnErr, All, MatchBool};
+ghost use Rattle.std.specs.Prelude.{◌≡◌, ◌≢◌, ◌≤◌, ◌<◌, ◌⊎◌, ◌↔◌, ◌++◌, [], true, false, Some, Err, length, drop, IfOk, IfErr, IfSome, OnErr, All, MatchBool};
 ghost use Rattle.pc_model.specs.FewWrites.{HasFewWrites};
 ghost use Rattle.pc_model.specs.Files.{file_at, shelf};
 ghost use Rattle.pc_model.specs.Maps.{len};
@@ -12,7 +12,7 @@ ghost use Rattle.pc_engine.specs.Asking.{AsksOfOpen};
 ghost use Rattle.pc_engine.specs.Stands.{Stands};
 ghost use Rattle.pc_engine.specs.Store.{setting_of};
 ghost use Rattle.pc_tie.specs.Seats.{MovesOn};
-ghost use Rattle.pc_latch.specs.Batches.{HasEntries, IsNext};
+ghost use Rattle.pc_latch.specs.Batches.{batch, HasEntries, IsNext};
 ghost use Rattle.pc_latch.specs.Cycles.{IsAdvance, IsTakeCalled};
 ghost use Rattle.pc_model.specs.History.{History, is_open, log_of};
 ghost use Rattle.pc_model.specs.Receipts.{own_of};
@@ -25,13 +25,15 @@ ghost use Rattle.pc_shared.specs.Sitters.{new_sitters, IsLeftByStore, AreSitters
 ghost use Rattle.pc_shared.specs.Waking.{woken_by, noted};
 
 use crate::closing::{Closed, close};
-use crate::logged::Logged;
+use crate::logged::{LastEntry, LogBatch, Logged};
 use crate::session::Session;
 use crate::waits::{News, Waits, Woken, is_wait};
 use pc_engine::World;
-use pc_latch::{Latched, LogBatch, LogPass, PartTicket};
+use pc_latch::{Latched, LogPass, LogTexts, PartTicket};
 use pc_part::Base;
-use pc_tie::{CheckpointerSeat, Keeper, Milestone, SessionSeat, Start, StoreName, Tie, Untied, Witness};
+use pc_tie::{
+    CheckpointerSeat, Keeper, Milestone, SessionSeat, Start, StoreName, Tie, Untied, Witness,
+};
 use pc_txn::SessionNotes;
 use pc_types::{FileNo, Lsn, MOST_KEYS, MOST_SESSIONS, Refusal, Reply, SessionNo, Step};
 use std::alloc::Global;
@@ -227,7 +229,8 @@ const FIRST_SHORT_PAUSE: u32 = 1;
 
 const LONGEST_SHORT_PAUSE: u32 = 8;
 
-/// Lets other threads run, so many times: each is a call of the system, and a moment also where no other thread is ready.
+/// Lets other threads run, so many times: each is a call of the system, and a moment also where no other thread is ready. Nothing is
+/// promised of how long that takes, or of who runs.
 pub fn pause(times: u32) {
     for _ in 0..times {
         thread::yield_now();
@@ -349,19 +352,27 @@ impl<N: StoreName> Shared<N> {
     }
 
     /// The texts of the next entries of the log after those that the pass has handed out, as long as there is room for so many bytes of text,
-    /// which the last one may go beyond; the pass then has them too. Refuses with `OutOfMemory` alone, and the pass stays.
+    /// which the last one may go beyond; the pass then has them too. The batch has a witness of the store's legal history so far:
+    /// these are the next entries of its log, and where that has more than the pass had, and there is room, it is one at least.
+    /// Refuses with `OutOfMemory` alone, and the pass stays.
     pub fn log_next<R: Wait>(
         &self,
         rt: &R,
         pass: &mut LogPass<N>,
         room: u32,
-    ) -> Result<LogBatch, Refusal>
+    ) -> Result<LogBatch<N>, Refusal>
+        ensures legal { IfOk result (λ next. IsLegalHistory N.name.setting next.seen) }
+        ensures list { IfOk result (λ next. pass.new ≡ pass.old ++ batch room (drop (length pass.old) (log_of next.seen))) }
+        ensures some { IfOk result (λ next. 1 ≤ room → length pass.old < length (log_of next.seen) → 1 ≤ next.count) }
         ensures next { IfOk result (λ next. IsNext room pass.old pass.new next.text.items next.count) }
         ensures same { OnErr result (pass.new ≡ pass.old) }
         ensures memory { IfErr result (λ e. e ≡ Refusal.OutOfMemory) }
     {
         let mut held = self.get_latch(rt);
-        held.latched.log_next(self.alloc, &self.tie, pass, room)
+        let next = held.latched.log_next(self.alloc, &self.tie, pass, room)?;
+        let LogTexts { text, count } = next;
+        let seen = held.latched.witness(&self.tie);
+        Ok(LogBatch { text, count, seen })
     }
 
     /// Ends the store, and tells by one legal history what it leaves: the base that it started from and the log of that history,
@@ -483,22 +494,34 @@ impl<N: StoreName> Shared<N> {
         unreachable!()
     }
 
-    /// The number of the log's last entry, 0 where it has none.
-    pub fn last_entry<R: Wait>(&self, rt: &R) -> Lsn
-        ensures { HasEntries N.name.setting result }
+    /// The number of the log's last entry, with a witness of the store's legal history so far, of whose log it is.
+    pub fn last_entry<R: Wait>(&self, rt: &R) -> LastEntry<N>
+        ensures last { result.number ≡ length (log_of result.seen) }
+        ensures legal { IsLegalHistory N.name.setting result.seen }
     {
-        Lsn(self.get_latch(rt).latched.log_len())
+        let mut held = self.get_latch(rt);
+        let number = Lsn(held.latched.log_len());
+        let seen = held.latched.witness(&self.tie);
+        LastEntry { number, seen }
     }
 
-    /// The number of the log's last entry, 0 where it has none, for the checkpointer: no less than that of the last entry that it
-    /// has seen.
-    pub fn last_entry_since<R: Wait>(&self, rt: &R, checkpointer: &mut CheckpointerSeat<N>) -> Lsn
+    /// The same for the checkpointer, who has seen a beginning of that history: it is no less than the number of the last entry that
+    /// it has seen.
+    pub fn last_entry_since<R: Wait>(
+        &self,
+        rt: &R,
+        checkpointer: &mut CheckpointerSeat<N>,
+    ) -> LastEntry<N>
         ensures same { checkpointer.new ≡ checkpointer.old }
-        ensures seen { length (log_of checkpointer.old) ≤ result }
-        ensures legal { HasEntries N.name.setting result }
+        ensures last { result.number ≡ length (log_of result.seen) }
+        ensures had_seen { IsBeginning checkpointer.old result.seen }
+        ensures seen { length (log_of checkpointer.old) ≤ result.number }
+        ensures legal { IsLegalHistory N.name.setting result.seen }
     {
         let mut held = self.get_latch_soon(rt);
-        Lsn(held.latched.log_len_since(&self.tie, checkpointer))
+        let number = Lsn(held.latched.log_len_since(&self.tie, checkpointer));
+        let seen = held.latched.witness(&self.tie);
+        LastEntry { number, seen }
     }
 
     /// Waits until the log has the entry of this number, and gives the number of its last one; nothing where it hasn't, and the
@@ -512,7 +535,7 @@ impl<N: StoreName> Shared<N> {
             if number.0 <= last {
                 return Some(Lsn(last));
             }
-            if held.waits.is_last() || self.has_ended() {
+            if held.waits.is_last() || self.ended() {
                 return None;
             }
             held.waits.await_commit(number.0);
@@ -521,19 +544,20 @@ impl<N: StoreName> Shared<N> {
         unreachable!()
     }
 
-    // Whether the end was marked.
-    fn has_ended(&self) -> bool {
+    /// Whether the end was marked. Nothing is promised of the answer; what a mark tells, `end_mark` gives.
+    pub fn ended(&self) -> bool {
         self.end.witness().is_some()
     }
 
-    /// Marks that no client commits any more, for who waits for a commit.
+    /// Marks that no client commits any more, for who waits for a commit. Nothing is promised of who goes on.
     pub fn mark_last_commit<R: Wait>(&self, rt: &R) {
         self.get_latch(rt).waits.mark_last();
         self.committed.notify_all();
     }
 
     /// Waits for the turn to begin again what has died, and has it until it is dropped; no two threads have it at once. A thread
-    /// that asks for it is to have no transaction open: then nobody waits for a lock of one that waits here.
+    /// that asks for it is to have no transaction open: then nobody waits for a lock of one that waits here. Nothing of that is
+    /// promised by a clause: that one thread alone has it is the mutex's word.
     pub fn turn_to_repeat<R: Wait>(&self, rt: &R) -> MutexGuard<'_, Turn> {
         self.repeating.lock(rt)
     }

@@ -66,7 +66,7 @@ impl<'a, N: StoreName, D: Drop> Checkpointer<'a, N, D> {
     {
         let due = Lsn(self.counted_from.0.saturating_add(self.every));
         let _ = room.shared.until_committed(rt, due);
-        let begun = room.shared.last_entry(rt);
+        let begun = room.shared.last_entry(rt).number;
         self.counted_from = Lsn(begun.0.saturating_add(TOKENS));
     }
 

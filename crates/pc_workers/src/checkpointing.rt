@@ -99,12 +99,12 @@ fn rest<N: StoreName, R: Wait>(rt: &R, shared: &Shared<N>, pace: &mut Pace) {
     let mut times = 1u32;
     for looks in 1..=MOST_LOOKS {
         pause(times);
-        if pace.has_rested(shared.last_entry(rt), looks) {
+        if pace.has_rested(shared.last_entry(rt).number, looks) {
             break;
         }
         times = times.saturating_mul(2).min(LONGEST_PAUSE);
     }
-    pace.begin_turn(shared.last_entry(rt));
+    pace.begin_turn(shared.last_entry(rt).number);
 }
 
 // Takes the keys of the point, until none is left, and rests between turns of them.
@@ -118,7 +118,7 @@ fn take_keys<N: StoreName, R: Wait, G: Gate>(
     ensures stood { IfOk result (λ _. HasStood N.name.setting seat.old seat.new) }
     ensures held_up { IfErr result (IsHeldUp N.name.setting seat.old seat.new) }
 {
-    let mut pace = Pace::new(shared.last_entry(rt));
+    let mut pace = Pace::new(shared.last_entry(rt).number);
     for _ in rt.forever() {
         let reply = shared.take(rt, seat);
         let has_more = has_more(&reply);

@@ -40,7 +40,7 @@ fn write_batch<N: StoreName, R: Wait, W: io::Write, G: Gate>(
     rt: &R,
     shared: &Shared<N>,
     pass: &LogPass<N>,
-    next: &LogBatch,
+    next: &LogBatch<N>,
     out: &mut Tally<W>,
     gate: &G,
 ) -> Result<(), Refusal>
