@@ -1,6 +1,6 @@
 //! The command line.
 ghost use Rattle.std.specs.Prelude.{◌≤◌};
-ghost use Rattle.pc_types.specs.declared.limits.TheConstants.{MOST_KEYS};
+ghost use Rattle.pc_types.specs.declared.limits.TheConstants.{MOST_KEYS, MOST_SESSIONS};
 ghost use Rattle.pc_collapse.specs.declared.limits.TheConstants.{MOST_COLLAPSERS};
 ghost use Rattle.pc_jobs.specs.declared.dealing.TheConstants.{MOST_WORKERS};
 
@@ -9,7 +9,6 @@ use clap::error::ErrorKind;
 use clap::{Arg, ArgAction, ArgMatches, Command, Error};
 use pc_collapse::MOST_COLLAPSERS;
 use pc_jobs::MOST_WORKERS;
-use pc_script::Setup;
 use pc_types::{MOST_KEYS, MOST_SESSIONS};
 use std::alloc::{AllocError, Global};
 
@@ -24,10 +23,16 @@ const VERSION: &str = "0.1.0";
 pub struct StepOptions<'a> {
     /// The file of the script.
     pub script: &'a str,
-    /// What the store is made with.
-    pub setup: Setup,
+    /// The run's number, 1 to 2,147,483,647.
+    pub run: u32,
+    /// How many sessions the store has, 1 to 64.
+    pub sessions: u8,
+    /// How many keys it has room for, 1 to 1,048,576.
+    pub capacity: u32,
     /// Whether faults are explained also where standard error is no terminal.
     pub is_explained: bool,
+    ghost has_sessions: { (1 ≤ sessions) × (sessions ≤ MOST_SESSIONS) },
+    ghost has_room: { (1 ≤ capacity) × (capacity ≤ MOST_KEYS) },
 }
 
 /// What `pcalc collapse` is asked to do.
@@ -371,14 +376,11 @@ fn options_of<'a>(matches: &ArgMatches<'a>) -> Option<StepOptions<'a>> {
     if capacity < 1 || MOST_KEYS < capacity || sessions < 1 || MOST_SESSIONS < sessions {
         return None;
     }
-    let setup = Setup {
+    Some(StepOptions {
+        script,
         run,
         sessions,
         capacity,
-    };
-    Some(StepOptions {
-        script,
-        setup,
         is_explained: matches.get_flag("explain"),
     })
 }

@@ -47,6 +47,15 @@ fn step_opened<E: Write>(
     }
 }
 
+// What the store is made with.
+fn setup_of(options: &StepOptions<'_>) -> Setup {
+    Setup {
+        run: options.run,
+        sessions: options.sessions,
+        capacity: options.capacity,
+    }
+}
+
 fn step<R: Read + Drop, E: Write>(
     explainer: &Explainer<'_>,
     options: &StepOptions<'_>,
@@ -56,8 +65,8 @@ fn step<R: Read + Drop, E: Write>(
 ) -> io::Result<u8> {
     let rt = explainer.rt;
     let mut out = Tally::new(output_before(rt, explainer.causes, io::writer(rt))?);
-    let (setup, script) = (options.setup, options.script);
-    Ok(run_script(rt.alloc(), setup, seed, script, opened, &mut out, errors))
+    let setup = setup_of(options);
+    Ok(run_script(rt.alloc(), setup, seed, options.script, opened, &mut out, errors))
 }
 
 // The same; then it is told of each bad line why it is one. The script is read before, since it may be a pipe.
