@@ -1,7 +1,7 @@
 -- What stops some of a client's transactions stops them all, and as many are given up at most as there are.
 use Rattle.std.proofs.Common.{◌≡◌, ◌⊎◌, ℕ, zero, suc, ◌+◌, ◌<◌, ◌≤◌, ◌^◌, ◌++◌, Bool, true, false, List, [], ◌∷◌, length, length-append, map, take, drop, get_or, refl, sym, ap, subst, ◌∙◌, inl, inr, arith}
 use Rattle.std.specs.List.{flat_map}
-use Rattle.std.specs.Prelude.{IsTrue, ◌||◌, All, Option, Result, Ok, Err, IfErr}
+use Rattle.std.specs.Prelude.{IsTrue, ◌||◌, All, Option, Some, None, is_some}
 use Rattle.std.proofs.lemmas.List.Elements.{All-head}
 use Rattle.std.proofs.lemmas.List.{drop_more, take-append-drop}
 use Rattle.std.proofs.lemmas.List.Concat.{flat_map-append}
@@ -16,16 +16,17 @@ use Rattle.pc_jobs.specs.declared.works.Job.{Job}
 use Rattle.pc_jobs.specs.declared.works.ClientTask.{ClientTask}
 use Rattle.pc_jobs.specs.Jobs.{job_of}
 use Rattle.pc_shared.specs.Sitters.{Sitter}
-use Rattle.pc_texts.specs.declared.file_names.FileName.{FileName}
 use Rattle.pc_types.specs.declared.tally.Tally.{Tally}
 use Rattle.pc_board.specs.Passes.{Pass}
 use Rattle.pc_workers.specs.Collapsing.{IsShown}
 use Rattle.pc_workers.specs.Collapsing as collapsing
-use Rattle.pc_workers.specs.Logging.{LogGoesOut}
 use Rattle.pc_threads.specs.declared.fault.ThreadsFault.{ThreadsFault}
 use Rattle.pc_threads.specs.declared.fault.ThreadsFault.TheVariants as fault
 use Rattle.pc_threads.specs.Clients.{HasDone, ClientHasStopped, HaveStopped, HaveWorked, clients_in, first_of, jobs_in, jobs_of, transactions_in}
-use Rattle.pc_threads.specs.Faults.{IsThreadsEnd, IsFileLost, IsStop}
+use Rattle.pc_threads.specs.declared.files.FileFault.{FileFault}
+use Rattle.pc_threads.specs.declared.files.FileFault.TheVariants as lost
+use Rattle.pc_threads.specs.declared.threads.LogFault.{LogFault}
+use Rattle.pc_threads.specs.Faults.{IsThreadsEnd, IsStop, LogHasStopped, fault_of}
 
 -- as many are given up at most as there are
 pub at_most : (way : ℕ → List Bool → History → History → Type 0) (jobs : List Job) (given_up : ℕ) (old new : Sitter) → HasDone way jobs given_up old new → given_up ≤ length jobs
@@ -131,13 +132,9 @@ module _ (writes : Bool) (transactions points : ℕ) where
   device_stops given there is = subst (IsStop writes transactions points) (sym is) there
 
 -- a file that was lost ends it
-pub lost_ends : (name : FileName) (given : ThreadsFault) → IsFileLost name given → IsThreadsEnd true 0 0 given
-lost_ends name (fault.Refused why) lost = device_stops true 0 0 why refl lost
-lost_ends name (fault.Unmade file why) lost = refl
-lost_ends name fault.NoThread lost = absurd lost
-
-pub lost_device : (name : FileName) (given : ThreadsFault) (why : Refusal) → given ≡ fault.Refused why → why ≡ Device → IsFileLost name given
-lost_device name given why is device = subst (IsFileLost name) (sym is) device
+pub lost_ends : {T : Type 0} (given : FileFault T) → IsThreadsEnd true 0 0 (fault_of given)
+lost_ends (lost.Unmade file why) = refl
+lost_ends (lost.Failed file) = refl
 
 -- what clients stop for
 pub stopped_ends : (has_log : Bool) (clients : List Client) (given : Refusal) → HaveStopped has_log clients given → IsStop has_log (transactions_in clients) 0 given
@@ -175,13 +172,6 @@ from_none b is = absurd (cc (is))
 
 -- ---- what the other threads stop for
 
--- a logger
-pub log_stops : {T X : Type 0} (contents : T → Option (List ℕ)) (old new : Tally T) (result : Result X Refusal) (text : List ℕ) → LogGoesOut contents old new result text → IfErr result (IsStop true 0 0)
-log_stops contents old new (Ok x) text logged = tt
-log_stops contents old new (Err given) text (inl (memory, puts)) = memory_stops true 0 0 given memory
-log_stops contents old new (Err given) text (inr (inl puts)) = device_stops true 0 0 given refl puts.0
-log_stops contents old new (Err given) text (inr (inr behind)) = device_stops true 0 0 given refl behind.0
-
 -- a collapser, which has claimed a number of a point
 some_points : (points : ℕ) (pass : Pass) (earlier : List ℕ) (last : ℕ) → All (IsShown points pass) (earlier ++ last ∷ []) → 0 < points
 some_points points pass [] last shown = let low = (All-head (IsShown points pass) last [] shown).0 in omega (arith, low)
@@ -204,5 +194,7 @@ pub hands_end : (hands out : Bool) (n points : ℕ) (given : ThreadsFault) → I
 hands_end hands out n points given end = more_end hands (hands || out) n n points points given (left_true hands out) (omega arith) (omega arith) end
 
 -- and so is what the logger stops for
-pub logger_ends : (hands out : Bool) (n points : ℕ) (given : Refusal) → IsStop out 0 0 given → IsStop (hands || out) n points given
-logger_ends hands out n points given stop = wider_stop out (hands || out) 0 n 0 points given (right_true hands out) (omega arith) (omega arith) stop
+pub logger_ends : {T : Type 0} (hands : Bool) (log : Option (Tally T)) (n points : ℕ) (stop : LogFault T) → LogHasStopped log stop → IsStop (hands || is_some log) n points stop.why
+logger_ends hands None n points stop stopped = absurd stopped
+logger_ends hands (Some log) n points stop (inl memory) = memory_stops (hands || true) n points stop.why memory
+logger_ends hands (Some log) n points stop (inr (device, risen)) = device_stops (hands || true) n points stop.why (right_true hands true refl) device

@@ -5,7 +5,7 @@ ghost use Rattle.pc_types.specs.declared.Phase.TheVariants.{Rest};
 ghost use Rattle.pc_model.specs.History.{phase_of};
 ghost use Rattle.pc_workers.specs.Covering.{HaveOnlyTo};
 ghost use Rattle.pc_threads.specs.Clients.{HaveWorked, clients_in, transactions_in};
-ghost use Rattle.pc_threads.specs.Faults.{IsThreadsEnd, IsStop};
+ghost use Rattle.pc_threads.specs.Faults.{IsThreadsEnd, IsStop, LogHasStopped};
 ghost use Rattle.pc_threads.specs.Logs.{HasLogged};
 ghost use Rattle.pc_threads.specs.Rested.{IsLeftByHands, IsLeftByWorkers};
 
@@ -58,11 +58,29 @@ pub struct Written<N: StoreName, F: Write> {
     pub out: Option<Tally<F>>,
 }
 
+/// Why a logger has stopped before the end, and its file.
+#[derive(Drop)]
+pub(crate) struct LogFault<F: Write> {
+    pub(crate) why: Refusal,
+    pub(crate) out: Tally<F>,
+}
+
+impl<F: Write + Drop> From<LogFault<F>> for ThreadsFault {
+    ghost use Rattle.std.specs.Prelude.{◌≡◌};
+    ghost use Rattle.pc_threads.specs.declared.fault.ThreadsFault.TheVariants.{Refused};
+
+    ghost from_gives = { λ stop fault. fault ≡ Refused stop.why };
+
+    fn from(stop: LogFault<F>) -> ThreadsFault {
+        ThreadsFault::Refused(stop.why)
+    }
+}
+
 impl<N: StoreName, F: Write + Drop> Logger<N, F> {
     // Writes the log until the end is marked, or its file is lost, and tells the others that no more is written.
-    fn run<R: Wait, G: Gate>(self, rt: &R, room: &Room<'_, N, G>) -> Result<Written<N, F>, Refusal>
+    fn run<R: Wait, G: Gate>(self, rt: &R, room: &Room<'_, N, G>) -> Result<Written<N, F>, LogFault<F>>
         ensures logged { IfOk result (λ written. HasLogged F.contents N.name.setting.run self.out written.out written.pass) }
-        ensures stopped { IfErr result (IsStop (is_some self.out) 0 0) }
+        ensures stopped { IfErr result (LogHasStopped self.out) }
     {
         let Logger { mut pass, out } = self;
         let Some(mut out) = out else {
@@ -75,21 +93,22 @@ impl<N: StoreName, F: Write + Drop> Logger<N, F> {
                 pass,
                 out: Some(out),
             }),
-            Err(why) => Err(why),
+            Err(why) => Err(LogFault { why, out }),
         }
     }
 }
 
-// The promise of a logger: what its pass has handed out was written to its file, or memory ran out or the file was lost.
+// The promise of a logger: what its pass has handed out was written to its file, or memory ran out, or the device failed in a call of
+// the file, which is handed back.
 #[derive(Drop)]
 struct LogOf<N: StoreName, F: Write>(Snapshot<Logger<N, F>>);
 
-impl<N: StoreName, F: Write> Promise<Result<Written<N, F>, Refusal>> for LogOf<N, F> {
-    ghost use Rattle.std.specs.Prelude.{IfErr, IfOk, is_some};
-    ghost use Rattle.pc_threads.specs.Faults.{IsStop};
+impl<N: StoreName, F: Write> Promise<Result<Written<N, F>, LogFault<F>>> for LogOf<N, F> {
+    ghost use Rattle.std.specs.Prelude.{IfErr, IfOk};
+    ghost use Rattle.pc_threads.specs.Faults.{LogHasStopped};
     ghost use Rattle.pc_threads.specs.Logs.{HasLogged};
 
-    ghost kept_by = { λ given written. IfOk written (λ w. HasLogged F.contents N.name.setting.run given.0.value.out w.out w.pass) × IfErr written (IsStop (is_some given.0.value.out) 0 0) };
+    ghost kept_by = { λ given written. IfOk written (λ w. HasLogged F.contents N.name.setting.run given.0.value.out w.out w.pass) × IfErr written (LogHasStopped given.0.value.out) };
 }
 
 // Joins the files of points as they are published. The tickets that the collapser holds in the end. All that it is given stands
