@@ -77,11 +77,9 @@ module _ (st : Setting) (workload : Workload) (there : Bool) where
   pub of_threads : (writes : Bool) (count : ℕ) (given : ThreadsFault) → (IsTrue writes → IsTrue there) → count ≡ transactions_in workload.clients → IsThreadsEnd writes count workload.points given → EndsRun st workload there given
   of_threads writes count (fault.Refused why.OutOfMemory) on same end = tt
   of_threads writes count (fault.Refused why.Device) on same end = on end
-  of_threads writes count (fault.Refused why.Full) on same (inl many) = inr (inl (omega (arith, same, many)))
-  of_threads writes count (fault.Refused why.Full) on same (inr past) = inr (inr (omega (arith, past)))
+  of_threads writes count (fault.Refused why.Full) on same many = inr (inl (omega (arith, same, many)))
   of_threads writes count (fault.Refused why.PointsFull) on same end = end
   of_threads writes count (fault.Refused why.LogFull) on same end = end
-  of_threads writes count (fault.Refused why.ShelfFull) on same end = end
   of_threads writes count (fault.Refused why.NoFile) on same end = end
   of_threads writes count (fault.Refused other) on same end = absurd end
   of_threads writes count (fault.Unmade file why) on same end = on end

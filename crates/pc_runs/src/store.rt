@@ -28,8 +28,8 @@ use pc_outcomes::{RunReport, StoreReport, commits_in, left_by};
 use pc_shared::{CheckpointerSeat, Closed, Opened, PartTicket, Session, Shared};
 use pc_texts::FileName;
 use pc_threads::{
-    FileFault, Logger, NewFiles, Ran, Rested, Room, Seating, ThreadsFault, Worked, Written, finish_file,
-    hands_of, run_threads, seat_workers,
+    FileFault, Logger, NewFiles, Ran, Rested, Room, Seating, ThreadsFault, Worked, Written,
+    finish_file, hands_of, run_threads, seat_workers,
 };
 use pc_tie::StoreName;
 use pc_types::{Gate, Tally};

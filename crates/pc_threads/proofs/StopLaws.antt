@@ -111,11 +111,9 @@ module _ (has_log : Bool) where
 pub wider_stop : (a b : Bool) (m n p q : ℕ) (given : Refusal) → (IsTrue a → IsTrue b) → m ≤ n → p ≤ q → IsStop a m p given → IsStop b n q given
 wider_stop a b m n p q why.OutOfMemory on low few stop = tt
 wider_stop a b m n p q why.Device on low few stop = on stop
-wider_stop a b m n p q why.Full on low few (inl many) = inl (omega (arith, low, many))
-wider_stop a b m n p q why.Full on low few (inr past) = inr (omega (arith, few, past))
+wider_stop a b m n p q why.Full on low few stop = omega (arith, low, stop)
 wider_stop a b m n p q why.PointsFull on low few stop = omega (arith, few, stop)
 wider_stop a b m n p q why.LogFull on low few stop = omega (arith, few, stop)
-wider_stop a b m n p q why.ShelfFull on low few stop = omega (arith, few, stop)
 wider_stop a b m n p q why.NoFile on low few stop = omega (arith, few, stop)
 wider_stop a b m n p q other on low few stop = absurd stop
 
@@ -140,7 +138,7 @@ lost_ends (lost.Failed file) = refl
 pub stopped_ends : (has_log : Bool) (clients : List Client) (given : Refusal) → HaveStopped has_log clients given → IsStop has_log (transactions_in clients) 0 given
 stopped_ends has_log clients given (inl memory) = memory_stops has_log (transactions_in clients) 0 given memory
 stopped_ends has_log clients given (inr (inl (device, there))) = device_stops has_log (transactions_in clients) 0 given there device
-stopped_ends has_log clients given (inr (inr (full, many))) = subst (IsStop has_log (transactions_in clients) 0) (sym full) (inl many)
+stopped_ends has_log clients given (inr (inr (full, many))) = subst (IsStop has_log (transactions_in clients) 0) (sym full) many
 
 -- the transactions of one worker's clients beside those of the workers before it
 pub of_worker : {X : Type 0} (f : X → List Client) (clients : List Client) (x : X) (rest all : List X) (whole : List Client) → all ≡ x ∷ rest → clients ++ clients_in (map f all) ≡ whole
@@ -157,7 +155,7 @@ of_worker f clients x rest all whole is was =
 -- more of two workers' transactions were given up than can be counted
 pub both_stop : (has_log : Bool) (transactions a b : ℕ) (given : Refusal) → a + b ≤ transactions → (given ≡ OutOfMemory) ⊎ ((given ≡ Full) × (2 ^ 64 ≤ a + b)) → IsStop has_log transactions 0 given
 both_stop has_log transactions a b given low (inl memory) = memory_stops has_log transactions 0 given memory
-both_stop has_log transactions a b given low (inr (full, many)) = subst (IsStop has_log transactions 0) (sym full) (inl (omega (arith, low, many)))
+both_stop has_log transactions a b given low (inr (full, many)) = subst (IsStop has_log transactions 0) (sym full) (omega (arith, low, many))
 
 pub left_true : (a b : Bool) → IsTrue a → IsTrue (a || b)
 left_true true b is = refl

@@ -30,15 +30,14 @@ LogHasStopped None stop = ⊥
 LogHasStopped (Some log) stop = (stop.why ≡ refusal.OutOfMemory) ⊎ ((stop.why ≡ refusal.Device) × HasRisen log.failures stop.out.failures)
 
 -- Why one of the threads of a run has stopped, where files are written or not, there are so many transactions, and so many points
--- are due: memory ran out; a file that is written was lost; more transactions were given up than 64 bits can count, or more points
--- are due than there can be; or, where points are due, the log or the shelf has no place left, or a point's file isn't there.
+-- are due: memory ran out; a file that is written was lost; more transactions were given up than 64 bits can count; more points are
+-- due than there can be; or, where points are due, the log has no place left, or a point's file isn't there.
 abbrev pub IsStop : Bool → ℕ → ℕ → Refusal → Type 0
 IsStop writes transactions points refusal.OutOfMemory = ⊤
 IsStop writes transactions points refusal.Device = IsTrue writes
-IsStop writes transactions points refusal.Full = (2 ^ 64 ≤ transactions) ⊎ (MOST_POINTS < points)
+IsStop writes transactions points refusal.Full = 2 ^ 64 ≤ transactions
 IsStop writes transactions points refusal.PointsFull = MOST_POINTS < points
 IsStop writes transactions points refusal.LogFull = 0 < points
-IsStop writes transactions points refusal.ShelfFull = 0 < points
 IsStop writes transactions points refusal.NoFile = 0 < points
 IsStop writes transactions points other = ⊥
 
