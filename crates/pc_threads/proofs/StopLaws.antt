@@ -2,7 +2,7 @@
 use Rattle.std.proofs.Common.{◌≡◌, ◌⊎◌, ℕ, zero, suc, ◌+◌, ◌<◌, ◌≤◌, ◌^◌, ◌++◌, Bool, true, false, List, [], ◌∷◌, length, length-append, map, take, drop, get_or, refl, sym, ap, subst, ◌∙◌, inl, inr, arith}
 use Rattle.std.specs.List.{flat_map}
 use Rattle.std.specs.Prelude.{IsTrue, ◌||◌, All, Option, Some, None, is_some}
-use Rattle.std.proofs.lemmas.List.Elements.{All-head}
+use Rattle.std.proofs.lemmas.List.Elements.{All-head, All-tail}
 use Rattle.std.proofs.lemmas.List.{drop_more, take-append-drop}
 use Rattle.std.proofs.lemmas.List.Concat.{flat_map-append}
 use Rattle.pc_types.specs.declared.refusal.Refusal.{Refusal}
@@ -18,6 +18,7 @@ use Rattle.pc_jobs.specs.Jobs.{job_of}
 use Rattle.pc_shared.specs.Sitters.{Sitter}
 use Rattle.pc_types.specs.declared.tally.Tally.{Tally}
 use Rattle.pc_board.specs.Passes.{Pass}
+use Rattle.pc_latch.specs.Tickets.{IsNoTicket}
 use Rattle.pc_workers.specs.Collapsing.{IsShown}
 use Rattle.pc_workers.specs.Collapsing as collapsing
 use Rattle.pc_threads.specs.declared.fault.ThreadsFault.{ThreadsFault}
@@ -26,7 +27,8 @@ use Rattle.pc_threads.specs.Clients.{HasDone, ClientHasStopped, HaveStopped, Hav
 use Rattle.pc_threads.specs.declared.files.FileFault.{FileFault}
 use Rattle.pc_threads.specs.declared.files.FileFault.TheVariants as lost
 use Rattle.pc_threads.specs.declared.threads.LogFault.{LogFault}
-use Rattle.pc_threads.specs.Faults.{IsThreadsEnd, IsStop, LogHasStopped, fault_of}
+use Rattle.pc_threads.specs.declared.threads.CollapseFault.{CollapseFault}
+use Rattle.pc_threads.specs.Faults.{CollapserHasStopped, IsThreadsEnd, IsStop, LogHasStopped, fault_of}
 
 -- as many are given up at most as there are
 pub at_most : (way : ℕ → List Bool → History → History → Type 0) (jobs : List Job) (given_up : ℕ) (old new : Sitter) → HasDone way jobs given_up old new → given_up ≤ length jobs
@@ -171,17 +173,24 @@ from_none b is = absurd (cc (is))
 -- ---- what the other threads stop for
 
 -- a collapser, which has claimed a number of a point
-some_points : (points : ℕ) (pass : Pass) (earlier : List ℕ) (last : ℕ) → All (IsShown points pass) (earlier ++ last ∷ []) → 0 < points
-some_points points pass [] last shown = let low = (All-head (IsShown points pass) last [] shown).0 in omega (arith, low)
-some_points points pass (n ∷ more) last shown = let low = (All-head (IsShown points pass) n (more ++ last ∷ []) shown).0 in omega (arith, low)
+last_shown : (points : ℕ) (pass : Pass) (earlier : List ℕ) (last : ℕ) → All (IsShown points pass) (earlier ++ last ∷ []) → last < points
+last_shown points pass [] last shown = (All-head (IsShown points pass) last [] shown).0
+last_shown points pass (n ∷ more) last shown = last_shown points pass more last (All-tail (IsShown points pass) n (more ++ last ∷ []) shown)
 
-pub collapser_stops : (st : Setting) (points : ℕ) (seen : History) (before after : Pass) (given : Refusal) → collapsing.CollapserHasStopped st points seen before after given → (given ≡ why.NoFile) ⊎ (given ≡ OutOfMemory)
-    → IsStop false 0 points given
-collapser_stops st points seen before after given stopped (inr memory) = memory_stops false 0 points given memory
-collapser_stops st points seen before after given stopped (inl none) = elim stopped.cause [
-  | inl memory ↦ memory_stops false 0 points given memory
-  | inr it ↦ subst (IsStop false 0 points) (sym none) (some_points points after it.0 it.1 (subst (All (IsShown points after)) it.2 stopped.shown))
+pub collapser_stops : {N : Type 0} (st : Setting) (points : ℕ) (before after : Pass) (stop : CollapseFault N) → collapsing.CollapserHasStopped st points stop.seen before after stop.why → (stop.why ≡ why.NoFile) ⊎ (stop.why ≡ OutOfMemory)
+    → CollapserHasStopped st points stop
+collapser_stops st points before after stop stopped (inr memory) = inl memory
+collapser_stops st points before after stop stopped (inl none) = elim stopped.cause [
+  | inl memory ↦ inl memory
+  | inr it ↦
+      let low = last_shown points after it.0 it.1 (subst (All (IsShown points after)) it.2 stopped.shown) in
+      inr (none, it.3, (suc it.1, omega arith, omega (arith, low), subst (IsNoTicket st stop.seen (suc it.1)) none it.4))
 ]
+
+-- which ends a run of some points
+pub collapser_ends : {N : Type 0} (st : Setting) (points : ℕ) (stop : CollapseFault N) → CollapserHasStopped st points stop → IsStop false 0 points stop.why
+collapser_ends st points stop (inl memory) = memory_stops false 0 points stop.why memory
+collapser_ends st points stop (inr (none, legal, (point, some, low, lacks))) = subst (IsStop false 0 points) (sym none) (omega (arith, some, low))
 
 -- what the checkpointer stops for, who takes some of the points
 pub point_ends : (has_log there : Bool) (n some points : ℕ) (given : ThreadsFault) → some ≤ points → IsThreadsEnd there 0 some given → IsThreadsEnd (has_log || there) n points given

@@ -5,11 +5,14 @@ use Rattle.pc_types.specs.declared.limits.TheConstants.{MOST_POINTS}
 use Rattle.pc_types.specs.declared.refusal.Refusal.{Refusal}
 use Rattle.pc_types.specs.declared.refusal.Refusal.TheVariants as refusal
 use Rattle.pc_types.specs.declared.tally.Tally.{Tally}
+use Rattle.pc_model.specs.Replies.{Setting, IsLegalHistory}
+use Rattle.pc_latch.specs.Tickets.{HasNoFile}
 use Rattle.pc_texts.specs.declared.file_names.FileName.{FileName}
 use Rattle.pc_threads.specs.declared.fault.ThreadsFault.{ThreadsFault}
 use Rattle.pc_threads.specs.declared.fault.ThreadsFault.TheVariants as fault
 use Rattle.pc_threads.specs.declared.files.FileFault.{FileFault}
 use Rattle.pc_threads.specs.declared.files.FileFault.TheVariants as lost
+use Rattle.pc_threads.specs.declared.threads.CollapseFault.{CollapseFault}
 use Rattle.pc_threads.specs.declared.threads.LogFault.{LogFault}
 
 -- The file of this name can't be made; or the device failed in a call of the file, which is handed back: of its calls more have failed
@@ -28,6 +31,12 @@ fault_of (lost.Failed file) = fault.Refused refusal.Device
 abbrev pub LogHasStopped : {T : Type 0} → Option (Tally T) → LogFault T → Type 0
 LogHasStopped None stop = ⊥
 LogHasStopped (Some log) stop = (stop.why ≡ refusal.OutOfMemory) ⊎ ((stop.why ≡ refusal.Device) × HasRisen log.failures stop.out.failures)
+
+-- A collapser of so many points has stopped, and hands its witness back: memory ran out, or the shelf of the legal history that it has
+-- seen has no file of one of the points.
+abbrev pub CollapserHasStopped : {N : Type 0} → Setting → ℕ → CollapseFault N → Type 0
+CollapserHasStopped st points stop =
+    (stop.why ≡ refusal.OutOfMemory) ⊎ ((stop.why ≡ refusal.NoFile) × IsLegalHistory st stop.seen × ((point : ℕ) × (1 ≤ point) × (point ≤ points) × HasNoFile st stop.seen point))
 
 -- Why one of the threads of a run has stopped, where files are written or not, there are so many transactions, and so many points
 -- are due: memory ran out; a file that is written was lost; more transactions were given up than 64 bits can count; more points are
