@@ -24,13 +24,15 @@ use Rattle.pc_texts.specs.declared.file_names.FileName.{FileName}
 use Rattle.pc_texts.proofs.StatePairLaws.{pairs_of}
 use Rattle.pc_outcomes.specs.Leaving.{IsUntoldAfter, has_point}
 use Rattle.pc_threads.specs.Clients.{clients_in, jobs_of, transactions_in}
-use Rattle.pc_threads.specs.Faults.{IsThreadsEnd, IsFileLost}
+use Rattle.pc_threads.specs.Faults.{IsThreadsEnd, fault_of}
 use Rattle.pc_threads.specs.Files.{HasWritten}
 use Rattle.pc_threads.specs.declared.fault.ThreadsFault.{ThreadsFault}
 use Rattle.pc_threads.specs.declared.fault.ThreadsFault.TheVariants as fault
+use Rattle.pc_threads.specs.declared.files.FileFault.{FileFault}
+use Rattle.pc_threads.specs.declared.files.FileFault.TheVariants as lost
 use Rattle.pc_workers.specs.Covering.{HaveJustTo, HaveOnlyTo}
 use Rattle.pc_runs.specs.Faults.{EndsRun, IsRunRefused}
-use Rattle.pc_runs.specs.Folders.{HasBegunFiles}
+use Rattle.pc_runs.specs.Folders.{HasBegunFiles, IsLogLost}
 use Rattle.pc_runs.proofs.DealingLaws.{same_total, total}
 
 -- the clients of all workers have as many transactions as all clients
@@ -49,21 +51,18 @@ log_there holds contents blank base (Some folder) (Some log) begun = refl
 log_there holds contents blank base None (Some log) begun = absurd begun
 log_there holds contents blank base (Some folder) None begun = absurd begun
 
+-- there is a folder where its log is lost
+pub log_lost_there : {D T : Type 0} (folder : Option D) (log : Option (Tally T)) (given : FileFault T) → IsLogLost folder log given → IsTrue (is_some folder)
+log_lost_there (Some folder) (Some log) given is = refl
+log_lost_there (Some folder) None given is = absurd is
+log_lost_there None log given is = absurd is
+
 -- what is left of the folder is there where the folder was
 pub folder_there : {D : Type 0} (holds : D → FileName → List ℕ → Type 0) (points : ℕ) (first later : Option D) (files : List File) → HasWritten holds points first later files → is_some later ≡ is_some first
 folder_there holds points None None files written = refl
 folder_there holds points (Some old) (Some new) files written = refl
 folder_there holds points None (Some new) files written = absurd written
 folder_there holds points (Some old) None files written = absurd written
-
--- a file that was lost to the device
-pub device_lost : (name : FileName) (given : ThreadsFault) (cause : Refusal) → given ≡ fault.Refused cause → cause ≡ why.Device → IsFileLost name given
-device_lost name given cause is device = subst (IsFileLost name) (sym is) device
-
--- it is one of two
-pub later_lost : {T : Type 0} (result : Result T ThreadsFault) (a b : FileName) → IfErr result (IsFileLost b) → IfErr result (λ given. IsFileLost a given ⊎ IsFileLost b given)
-later_lost (Ok made) a b lost = tt
-later_lost (Err given) a b lost = inr lost
 
 -- a file is written only where there is a folder
 pub one_there : (a b c there : Bool) → a ≡ there → b ≡ there → c ≡ there → IsTrue (a || b || c) → IsTrue there
@@ -78,11 +77,9 @@ module _ (st : Setting) (workload : Workload) (there : Bool) where
   pub of_threads : (writes : Bool) (count : ℕ) (given : ThreadsFault) → (IsTrue writes → IsTrue there) → count ≡ transactions_in workload.clients → IsThreadsEnd writes count workload.points given → EndsRun st workload there given
   of_threads writes count (fault.Refused why.OutOfMemory) on same end = tt
   of_threads writes count (fault.Refused why.Device) on same end = on end
-  of_threads writes count (fault.Refused why.Full) on same (inl many) = inr (inl (omega (arith, same, many)))
-  of_threads writes count (fault.Refused why.Full) on same (inr past) = inr (inr (omega (arith, past)))
+  of_threads writes count (fault.Refused why.Full) on same many = inr (inl (omega (arith, same, many)))
   of_threads writes count (fault.Refused why.PointsFull) on same end = end
   of_threads writes count (fault.Refused why.LogFull) on same end = end
-  of_threads writes count (fault.Refused why.ShelfFull) on same end = end
   of_threads writes count (fault.Refused why.NoFile) on same end = end
   of_threads writes count (fault.Refused other) on same end = absurd end
   of_threads writes count (fault.Unmade file why) on same end = on end
@@ -92,15 +89,9 @@ module _ (st : Setting) (workload : Workload) (there : Bool) where
   memory_ends given is = subst (EndsRun st workload there) (sym is) tt
 
   -- one of a file of the folder
-  pub lost_ends : (name : FileName) (given : ThreadsFault) → IsTrue there → IsFileLost name given → EndsRun st workload there given
-  lost_ends name (fault.Refused why) is lost = subst (IsRunRefused st workload there) (sym lost) is
-  lost_ends name (fault.Unmade file why) is lost = is
-  lost_ends name fault.NoThread is lost = absurd lost
-
-  -- the base's file, or that of the log
-  pub begins_badly : (a b : FileName) (given : ThreadsFault) → IsTrue there → IsFileLost a given ⊎ IsFileLost b given → EndsRun st workload there given
-  begins_badly a b given is (inl lost) = lost_ends a given is lost
-  begins_badly a b given is (inr lost) = lost_ends b given is lost
+  pub lost_ends : {T : Type 0} (given : FileFault T) → IsTrue there → EndsRun st workload there (fault_of given)
+  lost_ends (lost.Unmade file why) is = is
+  lost_ends (lost.Failed file) is = is
 
   -- a store that can't be opened
   pub not_opened : (given : Refusal) → ((given ≡ why.Full) × (st.capacity < len st.base)) ⊎ (given ≡ why.OutOfMemory) → IsRunRefused st workload there given

@@ -1,7 +1,8 @@
 -- The files of a run in its folder.
-use Rattle.std.specs.Prelude.{◌≡◌, ◌≤◌, ◌++◌, ⊤, ℕ, Bool, true, false, List, Option, Some, None, Ok}
+use Rattle.std.specs.Prelude.{◌≡◌, ◌⊎◌, ◌≤◌, ◌++◌, ⊤, ℕ, Bool, true, false, List, Option, Some, None, Ok}
 use Rattle.pc_types.specs.Tallies.{Puts, inner_of}
 use Rattle.pc_types.specs.declared.Entry.{Entry}
+use Rattle.pc_types.specs.declared.refusal.Refusal.{Refusal}
 use Rattle.pc_types.specs.declared.tally.Tally.{Tally}
 use Rattle.pc_model.specs.Files.{BaseFile}
 use Rattle.pc_model.specs.Replies.{Setting}
@@ -11,7 +12,10 @@ use Rattle.pc_log.specs.Texts.{log_text}
 use Rattle.pc_part.specs.Texts.{base_text, part_text}
 use Rattle.pc_texts.specs.declared.file_names.FileName.{FileName}
 use Rattle.pc_texts.specs.declared.file_names.FileName.TheVariants.{Base, Part, Log}
+use Rattle.pc_threads.specs.Faults.{IsFileLost}
 use Rattle.pc_threads.specs.Files.{KeepsOtherFiles}
+use Rattle.pc_threads.specs.declared.files.FileFault.{FileFault}
+use Rattle.pc_threads.specs.declared.files.FileFault.TheVariants.{Unmade}
 
 -- the base that a store of this setting starts from
 abbrev pub base_of : Setting → BaseFile
@@ -35,6 +39,15 @@ abbrev pub HasBegunFiles : {D T : Type 0} → (D → FileName → List ℕ → T
 HasBegunFiles holds contents blank base None None = ⊤
 HasBegunFiles holds contents blank base (Some folder) (Some log) = holds folder Base (base_text base) × (contents (inner_of log) ≡ blank)
 HasBegunFiles holds contents blank base folder log = ⊥
+
+-- the base's file was lost, or that of the log can't be made
+abbrev pub IsBeginLost : {T : Type 0} → FileFault T → Type 0
+IsBeginLost lost = IsFileLost Base 0 lost ⊎ ((why : Refusal) × (lost ≡ Unmade Log why))
+
+-- there is a folder, and the log's file was lost, of which as many calls had failed as the tally says
+abbrev pub IsLogLost : {D T : Type 0} → Option D → Option (Tally T) → FileFault T → Type 0
+IsLogLost (Some folder) (Some log) lost = IsFileLost Log log.failures lost
+IsLogLost folder log lost = ⊥
 
 -- Behind whatever text was written to the log's file the rest was, and the file is whole; the other files stay.
 abbrev pub HasFinished : {D T : Type 0} → (D → FileName → List ℕ → Type 0) → (T → Option (List ℕ)) → Option (List ℕ) → List ℕ → Option D → Option (Tally T) → Option D → Type 0

@@ -1,15 +1,16 @@
 //! The files that a run leaves in a folder.
-ghost use Rattle.std.specs.Prelude.{◌≡◌, ◌⊎◌, IfErr, IfOk, OnOk};
+ghost use Rattle.std.specs.Prelude.{◌≡◌, IfErr, IfOk, OnOk};
 ghost use Rattle.pc_types.specs.Tallies.{Puts, inner_of};
 ghost use Rattle.pc_part.specs.Texts.{base_text};
 ghost use Rattle.pc_texts.specs.Files.{report_text};
 ghost use Rattle.pc_texts.specs.declared.file_names.FileName.TheVariants as file;
 ghost use Rattle.pc_texts.specs.FileNames.{name_of};
 ghost use Rattle.pc_threads.specs.Faults.{IsFileLost};
+ghost use Rattle.pc_runs.specs.Folders.{IsBeginLost};
 
 use pc_part::Base;
 use pc_texts::{FileName, part_name, report};
-use pc_threads::{NewFiles, ThreadsFault, finish_file, make_file};
+use pc_threads::{FileFault, NewFiles, finish_file, make_file};
 use pc_types::{Refusal, Tally};
 use std::io::Write;
 
@@ -44,17 +45,31 @@ pub fn report_unmade<E: Write>(
     }
 }
 
-/// Writes the file of the base, and makes that of the log, to which nothing is written yet.
+// Writes the file of the base.
+fn write_base<F: Write + Drop, D: NewFiles<F>>(
+    folder: &mut D,
+    base: &Base,
+) -> Result<(), FileFault<F>>
+    ensures whole { OnOk result (D.holds folder.new file.Base (base_text base.now)) }
+    ensures lost { IfErr result (IsFileLost file.Base 0) }
+{
+    let mut file = make_file(folder, FileName::Base)?;
+    match base.encode(&mut file) {
+        Ok(()) => finish_file(folder, FileName::Base, file),
+        Err(_) => Err(FileFault::Failed(file)),
+    }
+}
+
+/// Writes the file of the base, and makes that of the log, to which nothing is written yet. It fails only where one of them can't be
+/// made, or the device failed in a call of the base's file, which is then handed back.
 pub fn begin_files<F: Write + Drop, D: NewFiles<F>>(
     folder: &mut D,
     base: &Base,
-) -> Result<Tally<F>, ThreadsFault>
+) -> Result<Tally<F>, FileFault<F>>
     ensures base { OnOk result (D.holds folder.new file.Base (base_text base.now)) }
     ensures log { IfOk result (λ log. F.contents (inner_of log) ≡ D.blank) }
-    ensures lost { IfErr result (λ why. IsFileLost file.Base why ⊎ IsFileLost file.Log why) }
+    ensures lost { IfErr result IsBeginLost }
 {
-    let mut file = make_file(folder, FileName::Base)?;
-    base.encode(&mut file)?;
-    finish_file(folder, FileName::Base, file)?;
+    write_base(folder, base)?;
     make_file(folder, FileName::Log)
 }

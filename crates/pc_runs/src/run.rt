@@ -1,12 +1,10 @@
 //! A run of a workload, from its reader to the status.
 ghost use Rattle.std.specs.Prelude.{◌≡◌, ◌⊎◌, ◌≤◌, is_some, IsOk, IsTrue, IfOk, IfErr, OnOk};
 ghost use Rattle.pc_types.specs.declared.limits.TheConstants.{MOST_KEYS, MOST_SESSIONS};
-ghost use Rattle.pc_texts.specs.declared.file_names.FileName.TheVariants as file;
 ghost use Rattle.pc_shared.specs.Sitters.{new_sitters};
 ghost use Rattle.pc_threads.specs.Clients.{HaveSeats};
-ghost use Rattle.pc_threads.specs.Faults.{IsFileLost};
 ghost use Rattle.pc_runs.specs.Faults.{EndsRun};
-ghost use Rattle.pc_runs.specs.Folders.{HasBegunFiles};
+ghost use Rattle.pc_runs.specs.Folders.{HasBegunFiles, IsBeginLost};
 ghost use Rattle.pc_runs.specs.Runs.{RunBegins, GoesOut, IsAnswer, IsCauseOfUnprinted, IsFailed, IsWorkloadRun, IsRunUnanswered, run_setting};
 
 use crate::crew::Crew;
@@ -20,7 +18,7 @@ use pc_outcomes::{Printed, RunReport};
 use pc_part::Base;
 use pc_shared::Opened;
 use pc_texts::{NamedFile, read_opened};
-use pc_threads::{NewFiles, ThreadsFault};
+use pc_threads::{FileFault, NewFiles, ThreadsFault};
 use pc_types::{MOST_SESSIONS, Refusal, Tally};
 use pc_workers::ClientGate;
 use std::alloc::Global;
@@ -195,14 +193,14 @@ fn run_read<
     run_store::<Brand, F, D, G, H>(rt, alloc, opened, workload, crew, folder, log)
 }
 
-// Begins the files of the folder, where there is one.
+// Begins the files of the folder, where there is one. A file of which a call failed is handed back.
 fn begin<F: Write + Drop, D: NewFiles<F> + Drop>(
     folder: Option<D>,
     base: &Base,
-) -> Result<(Option<D>, Option<Tally<F>>), ThreadsFault>
+) -> Result<(Option<D>, Option<Tally<F>>), FileFault<F>>
     ensures there { IfOk result (λ r. is_some r.0 ≡ is_some folder) }
     ensures begun { IfOk result (λ r. HasBegunFiles D.holds F.contents D.blank base.now r.0 r.1) }
-    ensures lost { IfErr result (λ why. IsTrue (is_some folder) × (IsFileLost file.Base why ⊎ IsFileLost file.Log why)) }
+    ensures lost { IfErr result (λ lost. IsTrue (is_some folder) × IsBeginLost lost) }
 {
     match folder {
         Some(mut folder) => {

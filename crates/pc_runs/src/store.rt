@@ -1,5 +1,5 @@
 //! A store of a workload, from its opening to what it leaves.
-ghost use Rattle.std.specs.Prelude.{◌≡◌, ◌≤◌, ◌<◌, ◌||◌, ◌++◌, [], All, List, IsTrue, length, drop, is_some, IfErr, IfOk};
+ghost use Rattle.std.specs.Prelude.{◌≡◌, ◌≤◌, ◌<◌, ◌||◌, ◌++◌, [], All, List, length, drop, is_some, IfErr, IfOk};
 ghost use Rattle.pc_types.specs.declared.refusal.Refusal.{Refusal};
 ghost use Rattle.pc_types.specs.declared.refusal.Refusal.TheVariants.{OutOfMemory};
 ghost use Rattle.pc_model.specs.History.{History};
@@ -8,16 +8,15 @@ ghost use Rattle.pc_board.specs.Passes.{IsOfBoard};
 ghost use Rattle.pc_outcomes.specs.Leaving.{AreLeftAfter, IsLegacy, IsUntoldAfter, commits_in};
 ghost use Rattle.pc_shared.specs.Sitters.{Sitter, new_sitters};
 ghost use Rattle.pc_threads.specs.Clients.{HaveSeats, HaveWorked, clients_in, transactions_in};
-ghost use Rattle.pc_threads.specs.Faults.{IsThreadsEnd, IsFileLost};
+ghost use Rattle.pc_threads.specs.Faults.{IsThreadsEnd};
 ghost use Rattle.pc_threads.specs.declared.fault.ThreadsFault.TheVariants as ThreadsFault;
-ghost use Rattle.pc_texts.specs.declared.file_names.FileName.TheVariants as file;
 ghost use Rattle.pc_workers.specs.Checkpointing.{HasCycled};
 ghost use Rattle.pc_workers.specs.Covering.{HaveOnlyTo, HaveJustTo};
 ghost use Rattle.pc_workers.specs.Logging.{rest_text};
 ghost use Rattle.pc_threads.specs.Files.{HasWritten};
 ghost use Rattle.pc_threads.specs.Logs.{HasLogged};
 ghost use Rattle.pc_runs.specs.Faults.{EndsRun};
-ghost use Rattle.pc_runs.specs.Folders.{HasBegunFiles, HasFinished, base_of};
+ghost use Rattle.pc_runs.specs.Folders.{HasBegunFiles, HasFinished, IsLogLost, base_of};
 ghost use Rattle.pc_runs.specs.Runs.{IsWorkloadRun};
 
 use crate::crew::Crew;
@@ -29,8 +28,8 @@ use pc_outcomes::{RunReport, StoreReport, commits_in, left_by};
 use pc_shared::{CheckpointerSeat, Closed, Opened, PartTicket, Session, Shared};
 use pc_texts::FileName;
 use pc_threads::{
-    Logger, NewFiles, Ran, Rested, Room, Seating, ThreadsFault, Worked, Written, finish_file,
-    hands_of, run_threads, seat_workers,
+    FileFault, Logger, NewFiles, Ran, Rested, Room, Seating, ThreadsFault, Worked, Written,
+    finish_file, hands_of, run_threads, seat_workers,
 };
 use pc_tie::StoreName;
 use pc_types::{Gate, Tally};
@@ -267,19 +266,22 @@ fn files_of<N: StoreName>(
     Ok(files)
 }
 
-// Writes the rest of the log, of which so many entries were handed out and written, and the file is whole; where there is one.
+// Writes the rest of the log, of which so many entries were handed out and written, and the file is whole; where there is one. Where
+// a call of it failed it is handed back.
 fn finish_log<N: StoreName, F: Write + Drop, D: NewFiles<F> + Drop>(
     closed: &Closed<N>,
     folder: Option<D>,
     log: Option<Tally<F>>,
-) -> Result<Option<D>, ThreadsFault>
+) -> Result<Option<D>, FileFault<F>>
     requires { closed.now.logged ≤ length closed.now.world.log }
     ensures finished { IfOk result (λ later. HasFinished D.holds F.contents D.blank (rest_text closed.now.logged closed.now.world.log) folder log later) }
-    ensures lost { IfErr result (λ why. IsTrue (is_some folder) × IsFileLost file.Log why) }
+    ensures lost { IfErr result (IsLogLost folder log) }
 {
     match (folder, log) {
         (Some(mut folder), Some(mut log)) => {
-            log_rest(closed, &mut log)?;
+            if log_rest(closed, &mut log).is_err() {
+                return Err(FileFault::Failed(log));
+            }
             finish_file(&mut folder, FileName::Log, log)?;
             Ok(Some(folder))
         }

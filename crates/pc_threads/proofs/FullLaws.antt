@@ -1,13 +1,38 @@
 -- What keeps the store from going on with the points of a run.
-use Rattle.std.proofs.Common.{ℕ, ◌<◌, ◌≤◌, Bool, arith}
+use Rattle.std.proofs.Common.{◌≡◌, ℕ, ◌+◌, ◌<◌, ◌≤◌, Bool, [], ap, refl, length, length-append, ◌∙◌, arith}
+use Rattle.pc_types.specs.declared.limits.TheConstants.{MOST_FILES, MOST_POINTS}
 use Rattle.pc_types.specs.declared.refusal.Refusal.{Refusal}
 use Rattle.pc_types.specs.declared.refusal.Refusal.TheVariants as why
-use Rattle.pc_workers.specs.Checkpointing.{IsFull}
+use Rattle.pc_model.specs.Files.{shelf}
+use Rattle.pc_model.specs.History.{History, point_of}
+use Rattle.pc_model.specs.Replies.{Setting}
+use Rattle.pc_board.specs.Passes.{Pass}
+use Rattle.pc_latch.specs.Cycles.{done_among}
+use Rattle.pc_workers.specs.Checkpointing.{whole_cycles, HasBrokenOff, HasCycled, IsFull}
+use Rattle.pc_workers.proofs.BoardCalls.{done_append}
+use Rattle.pc_workers.proofs.WholeCycles.{points_of_cycles}
 use Rattle.pc_threads.specs.Faults.{IsStop}
 
-pub full_stops : (writes : Bool) (transactions points last : ℕ) (given : Refusal) → last ≤ points → 0 < points → IsFull last given → IsStop writes transactions points given
-full_stops writes transactions points last why.OutOfMemory low some full = tt
-full_stops writes transactions points last why.LogFull low some full = some
-full_stops writes transactions points last why.ShelfFull low some full = some
-full_stops writes transactions points last why.PointsFull low some full = omega (arith, low, full)
-full_stops writes transactions points last other low some full = absurd full
+-- the shelf has a file of each point that was taken, and there are fewer points than it has places
+pub few_files : (st : Setting) (before point : ℕ) (old new : History) (earlier later : Pass) (given : Refusal) → before + 1 ≡ point → point ≤ MOST_POINTS → HasCycled st before [] old
+    → HasBrokenOff st (whole_cycles (point_of old) 1) old new earlier later given → length (shelf st.run new) < MOST_FILES
+few_files st before point old new earlier later given next few cycled broken =
+    let was = points_of_cycles 0 before in
+    let due = points_of_cycles (point_of old) 1 in
+    let first = broken.first in
+    let all = ap (λ phases. length (done_among phases)) first.1 ∙ due in
+    let both = ap length (done_append broken.phases first.0) ∙ length-append (done_among broken.phases) (done_among first.0) in
+    let old_files = cycled.shelved in
+    let new_files = broken.reached.shelved in
+    let places : MOST_FILES ≡ 65536 = refl in
+    let points : MOST_POINTS ≡ 65535 = refl in
+    omega (arith, was, all, both, old_files, new_files, next, few, places, points)
+
+-- where the shelf has a place left
+pub full_stops : (st : Setting) (seen : History) (writes : Bool) (transactions points last : ℕ) (given : Refusal) → last ≤ points → 0 < points → length (shelf st.run seen) < MOST_FILES → IsFull st seen last given
+    → IsStop writes transactions points given
+full_stops st seen writes transactions points last why.OutOfMemory low some room full = tt
+full_stops st seen writes transactions points last why.LogFull low some room full = some
+full_stops st seen writes transactions points last why.ShelfFull low some room full = absurd (omega (arith, room, full))
+full_stops st seen writes transactions points last why.PointsFull low some room full = omega (arith, low, full)
+full_stops st seen writes transactions points last other low some room full = absurd full

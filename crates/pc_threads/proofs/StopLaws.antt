@@ -1,8 +1,8 @@
 -- What stops some of a client's transactions stops them all, and as many are given up at most as there are.
 use Rattle.std.proofs.Common.{◌≡◌, ◌⊎◌, ℕ, zero, suc, ◌+◌, ◌<◌, ◌≤◌, ◌^◌, ◌++◌, Bool, true, false, List, [], ◌∷◌, length, length-append, map, take, drop, get_or, refl, sym, ap, subst, ◌∙◌, inl, inr, arith}
 use Rattle.std.specs.List.{flat_map}
-use Rattle.std.specs.Prelude.{IsTrue, ◌||◌, All, Option, Result, Ok, Err, IfErr}
-use Rattle.std.proofs.lemmas.List.Elements.{All-head}
+use Rattle.std.specs.Prelude.{IsTrue, ◌||◌, All, Option, Some, None, is_some}
+use Rattle.std.proofs.lemmas.List.Elements.{All-head, All-tail}
 use Rattle.std.proofs.lemmas.List.{drop_more, take-append-drop}
 use Rattle.std.proofs.lemmas.List.Concat.{flat_map-append}
 use Rattle.pc_types.specs.declared.refusal.Refusal.{Refusal}
@@ -16,16 +16,19 @@ use Rattle.pc_jobs.specs.declared.works.Job.{Job}
 use Rattle.pc_jobs.specs.declared.works.ClientTask.{ClientTask}
 use Rattle.pc_jobs.specs.Jobs.{job_of}
 use Rattle.pc_shared.specs.Sitters.{Sitter}
-use Rattle.pc_texts.specs.declared.file_names.FileName.{FileName}
 use Rattle.pc_types.specs.declared.tally.Tally.{Tally}
 use Rattle.pc_board.specs.Passes.{Pass}
+use Rattle.pc_latch.specs.Tickets.{IsNoTicket}
 use Rattle.pc_workers.specs.Collapsing.{IsShown}
 use Rattle.pc_workers.specs.Collapsing as collapsing
-use Rattle.pc_workers.specs.Logging.{LogGoesOut}
 use Rattle.pc_threads.specs.declared.fault.ThreadsFault.{ThreadsFault}
 use Rattle.pc_threads.specs.declared.fault.ThreadsFault.TheVariants as fault
 use Rattle.pc_threads.specs.Clients.{HasDone, ClientHasStopped, HaveStopped, HaveWorked, clients_in, first_of, jobs_in, jobs_of, transactions_in}
-use Rattle.pc_threads.specs.Faults.{IsThreadsEnd, IsFileLost, IsStop}
+use Rattle.pc_threads.specs.declared.files.FileFault.{FileFault}
+use Rattle.pc_threads.specs.declared.files.FileFault.TheVariants as lost
+use Rattle.pc_threads.specs.declared.threads.LogFault.{LogFault}
+use Rattle.pc_threads.specs.declared.threads.CollapseFault.{CollapseFault}
+use Rattle.pc_threads.specs.Faults.{CollapserHasStopped, IsThreadsEnd, IsStop, LogHasStopped, fault_of}
 
 -- as many are given up at most as there are
 pub at_most : (way : ℕ → List Bool → History → History → Type 0) (jobs : List Job) (given_up : ℕ) (old new : Sitter) → HasDone way jobs given_up old new → given_up ≤ length jobs
@@ -110,11 +113,9 @@ module _ (has_log : Bool) where
 pub wider_stop : (a b : Bool) (m n p q : ℕ) (given : Refusal) → (IsTrue a → IsTrue b) → m ≤ n → p ≤ q → IsStop a m p given → IsStop b n q given
 wider_stop a b m n p q why.OutOfMemory on low few stop = tt
 wider_stop a b m n p q why.Device on low few stop = on stop
-wider_stop a b m n p q why.Full on low few (inl many) = inl (omega (arith, low, many))
-wider_stop a b m n p q why.Full on low few (inr past) = inr (omega (arith, few, past))
+wider_stop a b m n p q why.Full on low few stop = omega (arith, low, stop)
 wider_stop a b m n p q why.PointsFull on low few stop = omega (arith, few, stop)
 wider_stop a b m n p q why.LogFull on low few stop = omega (arith, few, stop)
-wider_stop a b m n p q why.ShelfFull on low few stop = omega (arith, few, stop)
 wider_stop a b m n p q why.NoFile on low few stop = omega (arith, few, stop)
 wider_stop a b m n p q other on low few stop = absurd stop
 
@@ -131,19 +132,15 @@ module _ (writes : Bool) (transactions points : ℕ) where
   device_stops given there is = subst (IsStop writes transactions points) (sym is) there
 
 -- a file that was lost ends it
-pub lost_ends : (name : FileName) (given : ThreadsFault) → IsFileLost name given → IsThreadsEnd true 0 0 given
-lost_ends name (fault.Refused why) lost = device_stops true 0 0 why refl lost
-lost_ends name (fault.Unmade file why) lost = refl
-lost_ends name fault.NoThread lost = absurd lost
-
-pub lost_device : (name : FileName) (given : ThreadsFault) (why : Refusal) → given ≡ fault.Refused why → why ≡ Device → IsFileLost name given
-lost_device name given why is device = subst (IsFileLost name) (sym is) device
+pub lost_ends : {T : Type 0} (given : FileFault T) → IsThreadsEnd true 0 0 (fault_of given)
+lost_ends (lost.Unmade file why) = refl
+lost_ends (lost.Failed file) = refl
 
 -- what clients stop for
 pub stopped_ends : (has_log : Bool) (clients : List Client) (given : Refusal) → HaveStopped has_log clients given → IsStop has_log (transactions_in clients) 0 given
 stopped_ends has_log clients given (inl memory) = memory_stops has_log (transactions_in clients) 0 given memory
 stopped_ends has_log clients given (inr (inl (device, there))) = device_stops has_log (transactions_in clients) 0 given there device
-stopped_ends has_log clients given (inr (inr (full, many))) = subst (IsStop has_log (transactions_in clients) 0) (sym full) (inl many)
+stopped_ends has_log clients given (inr (inr (full, many))) = subst (IsStop has_log (transactions_in clients) 0) (sym full) many
 
 -- the transactions of one worker's clients beside those of the workers before it
 pub of_worker : {X : Type 0} (f : X → List Client) (clients : List Client) (x : X) (rest all : List X) (whole : List Client) → all ≡ x ∷ rest → clients ++ clients_in (map f all) ≡ whole
@@ -160,7 +157,7 @@ of_worker f clients x rest all whole is was =
 -- more of two workers' transactions were given up than can be counted
 pub both_stop : (has_log : Bool) (transactions a b : ℕ) (given : Refusal) → a + b ≤ transactions → (given ≡ OutOfMemory) ⊎ ((given ≡ Full) × (2 ^ 64 ≤ a + b)) → IsStop has_log transactions 0 given
 both_stop has_log transactions a b given low (inl memory) = memory_stops has_log transactions 0 given memory
-both_stop has_log transactions a b given low (inr (full, many)) = subst (IsStop has_log transactions 0) (sym full) (inl (omega (arith, low, many)))
+both_stop has_log transactions a b given low (inr (full, many)) = subst (IsStop has_log transactions 0) (sym full) (omega (arith, low, many))
 
 pub left_true : (a b : Bool) → IsTrue a → IsTrue (a || b)
 left_true true b is = refl
@@ -175,25 +172,25 @@ from_none b is = absurd (cc (is))
 
 -- ---- what the other threads stop for
 
--- a logger
-pub log_stops : {T X : Type 0} (contents : T → Option (List ℕ)) (old new : Tally T) (result : Result X Refusal) (text : List ℕ) → LogGoesOut contents old new result text → IfErr result (IsStop true 0 0)
-log_stops contents old new (Ok x) text logged = tt
-log_stops contents old new (Err given) text (inl (memory, puts)) = memory_stops true 0 0 given memory
-log_stops contents old new (Err given) text (inr (inl puts)) = device_stops true 0 0 given refl puts.0
-log_stops contents old new (Err given) text (inr (inr behind)) = device_stops true 0 0 given refl behind.0
-
 -- a collapser, which has claimed a number of a point
-some_points : (points : ℕ) (pass : Pass) (earlier : List ℕ) (last : ℕ) → All (IsShown points pass) (earlier ++ last ∷ []) → 0 < points
-some_points points pass [] last shown = let low = (All-head (IsShown points pass) last [] shown).0 in omega (arith, low)
-some_points points pass (n ∷ more) last shown = let low = (All-head (IsShown points pass) n (more ++ last ∷ []) shown).0 in omega (arith, low)
+last_shown : (points : ℕ) (pass : Pass) (earlier : List ℕ) (last : ℕ) → All (IsShown points pass) (earlier ++ last ∷ []) → last < points
+last_shown points pass [] last shown = (All-head (IsShown points pass) last [] shown).0
+last_shown points pass (n ∷ more) last shown = last_shown points pass more last (All-tail (IsShown points pass) n (more ++ last ∷ []) shown)
 
-pub collapser_stops : (st : Setting) (points : ℕ) (seen : History) (before after : Pass) (given : Refusal) → collapsing.CollapserHasStopped st points seen before after given → (given ≡ why.NoFile) ⊎ (given ≡ OutOfMemory)
-    → IsStop false 0 points given
-collapser_stops st points seen before after given stopped (inr memory) = memory_stops false 0 points given memory
-collapser_stops st points seen before after given stopped (inl none) = elim stopped.cause [
-  | inl memory ↦ memory_stops false 0 points given memory
-  | inr it ↦ subst (IsStop false 0 points) (sym none) (some_points points after it.0 it.1 (subst (All (IsShown points after)) it.2 stopped.shown))
+pub collapser_stops : {N : Type 0} (st : Setting) (points : ℕ) (before after : Pass) (stop : CollapseFault N) → collapsing.CollapserHasStopped st points stop.seen before after stop.why → (stop.why ≡ why.NoFile) ⊎ (stop.why ≡ OutOfMemory)
+    → CollapserHasStopped st points stop
+collapser_stops st points before after stop stopped (inr memory) = inl memory
+collapser_stops st points before after stop stopped (inl none) = elim stopped.cause [
+  | inl memory ↦ inl memory
+  | inr it ↦
+      let low = last_shown points after it.0 it.1 (subst (All (IsShown points after)) it.2 stopped.shown) in
+      inr (none, it.3, (suc it.1, omega arith, omega (arith, low), subst (IsNoTicket st stop.seen (suc it.1)) none it.4))
 ]
+
+-- which ends a run of some points
+pub collapser_ends : {N : Type 0} (st : Setting) (points : ℕ) (stop : CollapseFault N) → CollapserHasStopped st points stop → IsStop false 0 points stop.why
+collapser_ends st points stop (inl memory) = memory_stops false 0 points stop.why memory
+collapser_ends st points stop (inr (none, legal, (point, some, low, lacks))) = subst (IsStop false 0 points) (sym none) (omega (arith, some, low))
 
 -- what the checkpointer stops for, who takes some of the points
 pub point_ends : (has_log there : Bool) (n some points : ℕ) (given : ThreadsFault) → some ≤ points → IsThreadsEnd there 0 some given → IsThreadsEnd (has_log || there) n points given
@@ -204,5 +201,7 @@ pub hands_end : (hands out : Bool) (n points : ℕ) (given : ThreadsFault) → I
 hands_end hands out n points given end = more_end hands (hands || out) n n points points given (left_true hands out) (omega arith) (omega arith) end
 
 -- and so is what the logger stops for
-pub logger_ends : (hands out : Bool) (n points : ℕ) (given : Refusal) → IsStop out 0 0 given → IsStop (hands || out) n points given
-logger_ends hands out n points given stop = wider_stop out (hands || out) 0 n 0 points given (right_true hands out) (omega arith) (omega arith) stop
+pub logger_ends : {T : Type 0} (hands : Bool) (log : Option (Tally T)) (n points : ℕ) (stop : LogFault T) → LogHasStopped log stop → IsStop (hands || is_some log) n points stop.why
+logger_ends hands None n points stop stopped = absurd stopped
+logger_ends hands (Some log) n points stop (inl memory) = memory_stops (hands || true) n points stop.why memory
+logger_ends hands (Some log) n points stop (inr (device, risen)) = device_stops (hands || true) n points stop.why (right_true hands true refl) device

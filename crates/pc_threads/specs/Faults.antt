@@ -1,28 +1,52 @@
 -- What ends a run before its end.
-use Rattle.std.specs.Prelude.{◌≡◌, ◌⊎◌, ◌≤◌, ◌<◌, ◌^◌, ⊤, ℕ, Bool, IsTrue}
+use Rattle.std.specs.Prelude.{◌≡◌, ◌⊎◌, ◌≤◌, ◌<◌, ◌^◌, ⊤, ℕ, Bool, IsTrue, Option, Some, None}
+use Rattle.pc_types.specs.Counted.{HasRisen}
 use Rattle.pc_types.specs.declared.limits.TheConstants.{MOST_POINTS}
 use Rattle.pc_types.specs.declared.refusal.Refusal.{Refusal}
 use Rattle.pc_types.specs.declared.refusal.Refusal.TheVariants as refusal
+use Rattle.pc_types.specs.declared.tally.Tally.{Tally}
+use Rattle.pc_model.specs.Replies.{Setting, IsLegalHistory}
+use Rattle.pc_latch.specs.Tickets.{HasNoFile}
 use Rattle.pc_texts.specs.declared.file_names.FileName.{FileName}
 use Rattle.pc_threads.specs.declared.fault.ThreadsFault.{ThreadsFault}
 use Rattle.pc_threads.specs.declared.fault.ThreadsFault.TheVariants as fault
+use Rattle.pc_threads.specs.declared.files.FileFault.{FileFault}
+use Rattle.pc_threads.specs.declared.files.FileFault.TheVariants as lost
+use Rattle.pc_threads.specs.declared.threads.CollapseFault.{CollapseFault}
+use Rattle.pc_threads.specs.declared.threads.LogFault.{LogFault}
 
--- the file of this name can't be made, or it can't be written
-abbrev pub IsFileLost : FileName → ThreadsFault → Type 0
-IsFileLost name (fault.Refused why) = why ≡ refusal.Device
-IsFileLost name (fault.Unmade file why) = file ≡ name
-IsFileLost name fault.NoThread = ⊥
+-- The file of this name can't be made; or the device failed in a call of the file, which is handed back: of its calls more have failed
+-- than these.
+abbrev pub IsFileLost : {T : Type 0} → FileName → ℕ → FileFault T → Type 0
+IsFileLost name failures (lost.Unmade file why) = file ≡ name
+IsFileLost name failures (lost.Failed file) = HasRisen failures file.failures
+
+-- the fault of the run that a lost file is
+abbrev pub fault_of : {T : Type 0} → FileFault T → ThreadsFault
+fault_of (lost.Unmade file why) = fault.Unmade file why
+fault_of (lost.Failed file) = fault.Refused refusal.Device
+
+-- The logger of this file, if there is one, has stopped before the end, and hands the file back: memory ran out, or the device failed in a
+-- call of the file, which was counted.
+abbrev pub LogHasStopped : {T : Type 0} → Option (Tally T) → LogFault T → Type 0
+LogHasStopped None stop = ⊥
+LogHasStopped (Some log) stop = (stop.why ≡ refusal.OutOfMemory) ⊎ ((stop.why ≡ refusal.Device) × HasRisen log.failures stop.out.failures)
+
+-- A collapser of so many points has stopped, and hands its witness back: memory ran out, or the shelf of the legal history that it has
+-- seen has no file of one of the points.
+abbrev pub CollapserHasStopped : {N : Type 0} → Setting → ℕ → CollapseFault N → Type 0
+CollapserHasStopped st points stop =
+    (stop.why ≡ refusal.OutOfMemory) ⊎ ((stop.why ≡ refusal.NoFile) × IsLegalHistory st stop.seen × ((point : ℕ) × (1 ≤ point) × (point ≤ points) × HasNoFile st stop.seen point))
 
 -- Why one of the threads of a run has stopped, where files are written or not, there are so many transactions, and so many points
--- are due: memory ran out; a file that is written was lost; more transactions were given up than 64 bits can count, or more points
--- are due than there can be; or, where points are due, the log or the shelf has no place left, or a point's file isn't there.
+-- are due: memory ran out; a file that is written was lost; more transactions were given up than 64 bits can count; more points are
+-- due than there can be; or, where points are due, the log has no place left, or a point's file isn't there.
 abbrev pub IsStop : Bool → ℕ → ℕ → Refusal → Type 0
 IsStop writes transactions points refusal.OutOfMemory = ⊤
 IsStop writes transactions points refusal.Device = IsTrue writes
-IsStop writes transactions points refusal.Full = (2 ^ 64 ≤ transactions) ⊎ (MOST_POINTS < points)
+IsStop writes transactions points refusal.Full = 2 ^ 64 ≤ transactions
 IsStop writes transactions points refusal.PointsFull = MOST_POINTS < points
 IsStop writes transactions points refusal.LogFull = 0 < points
-IsStop writes transactions points refusal.ShelfFull = 0 < points
 IsStop writes transactions points refusal.NoFile = 0 < points
 IsStop writes transactions points other = ⊥
 

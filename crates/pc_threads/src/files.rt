@@ -1,14 +1,15 @@
 //! The files that a run makes in a folder.
-ghost use Rattle.std.specs.Prelude.{◌≡◌, ℕ, List, IfErr, IfOk, OnOk, OnErr};
+ghost use Rattle.std.specs.Prelude.{◌≡◌, ℕ, List, true, false, IfErr, IfOk, OnOk};
 ghost use Rattle.std.specs.Io.KnownBytes.{Appends, Keeps};
-ghost use Rattle.pc_types.specs.Tallies.{inner_of};
-ghost use Rattle.pc_types.specs.declared.refusal.Refusal.TheVariants.{Device};
+ghost use Rattle.pc_types.specs.Counted.{HasRisen};
+ghost use Rattle.pc_types.specs.Tallies.{inner_of, failures_of};
+ghost use Rattle.pc_types.specs.declared.refusal.Refusal.{Refusal};
 ghost use Rattle.pc_model.specs.Sets as set;
 ghost use Rattle.pc_part.specs.Texts.{part_text};
 ghost use Rattle.pc_texts.specs.declared.file_names.FileName.TheVariants as file;
 ghost use Rattle.pc_threads.specs.Faults.{IsFileLost};
 ghost use Rattle.pc_threads.specs.Files.{KeepsOtherFiles};
-ghost use Rattle.pc_threads.specs.declared.fault.ThreadsFault.TheVariants as ThreadsFault;
+ghost use Rattle.pc_threads.specs.declared.files.FileFault.TheVariants as FileFault;
 
 use crate::fault::ThreadsFault;
 use pc_part::Part;
@@ -43,62 +44,90 @@ pub trait NewFiles<F: Write> {
         ensures others { KeepsOtherFiles (holds self.old) (holds self.new) name.now };
 }
 
+/// Why a file of a folder isn't whole.
+#[derive(Drop)]
+pub enum FileFault<F> {
+    /// The file can't be made, or it can't be made whole.
+    Unmade(FileName, Refusal),
+    /// The device failed in a call of this file, which has counted that.
+    Failed(Tally<F>),
+}
+
+impl<F: Drop> From<FileFault<F>> for ThreadsFault {
+    ghost use Rattle.std.specs.Prelude.{◌≡◌};
+    ghost use Rattle.pc_threads.specs.Faults.{fault_of};
+
+    ghost from_gives = { λ lost fault. fault ≡ fault_of lost };
+
+    fn from(lost: FileFault<F>) -> ThreadsFault {
+        match &lost {
+            FileFault::Unmade(name, why) => ThreadsFault::Unmade(*name, *why),
+            FileFault::Failed(_) => ThreadsFault::Refused(Refusal::Device),
+        }
+    }
+}
+
 /// Makes the file. It fails only where the file can't be made.
 pub fn make_file<F: Write, D: NewFiles<F>>(
     folder: &mut D,
     name: FileName,
-) -> Result<Tally<F>, ThreadsFault>
+) -> Result<Tally<F>, FileFault<F>>
     ensures blank { IfOk result (λ file. F.contents (inner_of file) ≡ D.blank) }
+    ensures fresh { IfOk result (λ file. failures_of file ≡ 0) }
     ensures others { KeepsOtherFiles (D.holds folder.old) (D.holds folder.new) name }
-    ensures lost { IfErr result (IsFileLost name) }
+    ensures unmade { IfErr result (λ lost. (why : Refusal) × (lost ≡ FileFault.Unmade name why)) }
 {
     match folder.make(&name) {
         Ok(file) => Ok(Tally::new(file)),
-        Err(why) => Err(ThreadsFault::Unmade(name, why)),
+        Err(why) => Err(FileFault::Unmade(name, why)),
     }
 }
 
-// What was written goes out of whatever keeps it.
-fn flush_file<F: Write>(file: &mut Tally<F>) -> Result<(), ThreadsFault>
+// What was written goes out of whatever keeps it. False exactly where the device failed in this call.
+fn flush_file<F: Write>(file: &mut Tally<F>) -> bool
     ensures stays { Keeps (F.contents (inner_of file.old)) (F.contents (inner_of file.new)) }
-    ensures device { IfErr result (λ fault. fault ≡ ThreadsFault.Refused Device) }
+    ensures failed { result ≡ false → HasRisen (failures_of file.old) (failures_of file.new) }
+    ensures sound { result ≡ true → failures_of file.new ≡ failures_of file.old }
 {
-    match file.flush() {
-        Ok(()) => Ok(()),
-        Err(_) => Err(ThreadsFault::Refused(Refusal::Device)),
-    }
+    file.flush().is_ok()
 }
 
-/// What was written goes out, and the file is whole. It fails only where the device failed or the file can't be made.
+/// What was written goes out, and the file is whole. It fails only where the device failed in this call or the file can't be made
+/// whole; a file of which a call failed is handed back.
 pub fn finish_file<F: Write + Drop, D: NewFiles<F>>(
     folder: &mut D,
     name: FileName,
     file: Tally<F>,
-) -> Result<(), ThreadsFault>
+) -> Result<(), FileFault<F>>
     ensures whole { OnOk result ((text : List ℕ) → Appends D.blank (F.contents (inner_of file)) text → D.holds folder.new name text) }
     ensures others { KeepsOtherFiles (D.holds folder.old) (D.holds folder.new) name }
-    ensures lost { IfErr result (IsFileLost name) }
+    ensures lost { IfErr result (IsFileLost name (failures_of file)) }
 {
     let mut file = file;
-    flush_file(&mut file)?;
+    if !flush_file(&mut file) {
+        return Err(FileFault::Failed(file));
+    }
     match folder.finish(&name, file.into_inner()) {
         Ok(()) => Ok(()),
-        Err(why) => Err(ThreadsFault::Unmade(name, why)),
+        Err(why) => Err(FileFault::Unmade(name, why)),
     }
 }
 
-/// Writes the file of the point, which is of it alone. It fails only where the device failed or the file can't be made.
+/// Writes the file of the point, which is of it alone. It fails only where the device failed in a call of the file, which is then
+/// handed back, or the file can't be made.
 pub fn write_part<F: Write + Drop, D: NewFiles<F>>(
     folder: &mut D,
     point: Point,
     part: &Part,
-) -> Result<(), ThreadsFault>
+) -> Result<(), FileFault<F>>
     requires { part.now.points ≡ set.insert set.empty point }
     ensures whole { OnOk result (D.holds folder.new (file.Part point) (part_text part.now)) }
     ensures others { KeepsOtherFiles (D.holds folder.old) (D.holds folder.new) (file.Part point) }
-    ensures lost { IfErr result (IsFileLost (file.Part point)) }
+    ensures lost { IfErr result (IsFileLost (file.Part point) 0) }
 {
     let mut file = make_file(folder, FileName::Part(point))?;
-    part.encode(&mut file)?;
-    finish_file(folder, FileName::Part(point), file)
+    match part.encode(&mut file) {
+        Ok(()) => finish_file(folder, FileName::Part(point), file),
+        Err(_) => Err(FileFault::Failed(file)),
+    }
 }

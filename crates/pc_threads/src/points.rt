@@ -1,6 +1,7 @@
 //! The points of a run: each is taken once enough was committed since the last one, and its file is written when it is there.
 ghost use Rattle.std.specs.Prelude.{◌≡◌, ◌+◌, ◌≤◌, ℕ, true, [], List, Option, IfErr, IfOk, OnOk, is_some, length};
 ghost use Rattle.pc_types.specs.declared.Phase.TheVariants.{Rest};
+ghost use Rattle.pc_types.specs.declared.limits.TheConstants.{MOST_POINTS};
 ghost use Rattle.pc_model.specs.History.{History, phase_of};
 ghost use Rattle.pc_workers.specs.Checkpointing.{HasCycled};
 ghost use Rattle.pc_texts.specs.declared.file_names.FileName.TheVariants as file;
@@ -83,7 +84,7 @@ impl<'a, N: StoreName, D: Drop> Checkpointer<'a, N, D> {
         ensures cycle { IfOk result (λ later. HasCycled N.name.setting 1 self.entry.at_store later.at_store) }
         ensures written { (first : Option D) (before : ℕ) → before + 1 ≡ point → HasWritten D.holds before first self.entry.folder self.entry.written.items → IfOk result (λ later. HasWritten D.holds point first later.folder later.written.items) }
         ensures there { IfOk result (λ later. is_some later.folder ≡ is_some self.entry.folder) }
-        ensures ended { (before : ℕ) → before + 1 ≡ point → HasCycled N.name.setting before [] self.entry.at_store → IfErr result (IsThreadsEnd (is_some self.entry.folder) 0 point) }
+        ensures ended { (before : ℕ) → before + 1 ≡ point → point ≤ MOST_POINTS → HasCycled N.name.setting before [] self.entry.at_store → IfErr result (IsThreadsEnd (is_some self.entry.folder) 0 point) }
     {
         let Checkpointer {
             mut at_store,
@@ -149,7 +150,7 @@ pub(crate) fn take_points<
     let mut checkpointer = checkpointer;
     for others in taken..last {
         let Ok(point) = u16::try_from(others + 1) else {
-            return Err(ThreadsFault::Refused(Refusal::Full));
+            return Err(ThreadsFault::Refused(Refusal::PointsFull));
         };
         checkpointer.await_commits(rt, room);
         checkpointer = checkpointer.take(rt, room, Point(point))?;

@@ -5,7 +5,7 @@ ghost use Rattle.pc_types.specs.declared.Phase.TheVariants.{Rest};
 ghost use Rattle.pc_model.specs.History.{phase_of};
 ghost use Rattle.pc_workers.specs.Covering.{HaveOnlyTo};
 ghost use Rattle.pc_threads.specs.Clients.{HaveWorked, clients_in, transactions_in};
-ghost use Rattle.pc_threads.specs.Faults.{IsThreadsEnd, IsStop};
+ghost use Rattle.pc_threads.specs.Faults.{CollapserHasStopped, IsThreadsEnd, LogHasStopped};
 ghost use Rattle.pc_threads.specs.Logs.{HasLogged};
 ghost use Rattle.pc_threads.specs.Rested.{IsLeftByHands, IsLeftByWorkers};
 
@@ -16,7 +16,7 @@ use crate::hands::{Collapser, Hands, Seat};
 use crate::points::{Checkpointer, take_points};
 use crate::room::Room;
 use pc_board::{Board, BoardPass};
-use pc_shared::{CheckpointerSeat, LogPass, PartTicket, Shared};
+use pc_shared::{CheckpointerSeat, LogPass, PartTicket, Shared, Witness};
 use pc_tie::StoreName;
 use pc_types::{Gate, Refusal, Tally};
 use pc_workers::{ClientGate, collapse_loop, log_loop};
@@ -58,11 +58,33 @@ pub struct Written<N: StoreName, F: Write> {
     pub out: Option<Tally<F>>,
 }
 
+/// Why a logger has stopped before the end, and its file.
+#[derive(Drop)]
+pub(crate) struct LogFault<F: Write> {
+    pub(crate) why: Refusal,
+    pub(crate) out: Tally<F>,
+}
+
+impl<F: Write + Drop> From<LogFault<F>> for ThreadsFault {
+    ghost use Rattle.std.specs.Prelude.{◌≡◌};
+    ghost use Rattle.pc_threads.specs.declared.fault.ThreadsFault.TheVariants.{Refused};
+
+    ghost from_gives = { λ stop fault. fault ≡ Refused stop.why };
+
+    fn from(stop: LogFault<F>) -> ThreadsFault {
+        ThreadsFault::Refused(stop.why)
+    }
+}
+
 impl<N: StoreName, F: Write + Drop> Logger<N, F> {
     // Writes the log until the end is marked, or its file is lost, and tells the others that no more is written.
-    fn run<R: Wait, G: Gate>(self, rt: &R, room: &Room<'_, N, G>) -> Result<Written<N, F>, Refusal>
+    fn run<R: Wait, G: Gate>(
+        self,
+        rt: &R,
+        room: &Room<'_, N, G>,
+    ) -> Result<Written<N, F>, LogFault<F>>
         ensures logged { IfOk result (λ written. HasLogged F.contents N.name.setting.run self.out written.out written.pass) }
-        ensures stopped { IfErr result (IsStop (is_some self.out) 0 0) }
+        ensures stopped { IfErr result (LogHasStopped self.out) }
     {
         let Logger { mut pass, out } = self;
         let Some(mut out) = out else {
@@ -75,21 +97,40 @@ impl<N: StoreName, F: Write + Drop> Logger<N, F> {
                 pass,
                 out: Some(out),
             }),
-            Err(why) => Err(why),
+            Err(why) => Err(LogFault { why, out }),
         }
     }
 }
 
-// The promise of a logger: what its pass has handed out was written to its file, or memory ran out or the file was lost.
+// The promise of a logger: what its pass has handed out was written to its file, or memory ran out, or the device failed in a call of
+// the file, which is handed back.
 #[derive(Drop)]
 struct LogOf<N: StoreName, F: Write>(Snapshot<Logger<N, F>>);
 
-impl<N: StoreName, F: Write> Promise<Result<Written<N, F>, Refusal>> for LogOf<N, F> {
-    ghost use Rattle.std.specs.Prelude.{IfErr, IfOk, is_some};
-    ghost use Rattle.pc_threads.specs.Faults.{IsStop};
+impl<N: StoreName, F: Write> Promise<Result<Written<N, F>, LogFault<F>>> for LogOf<N, F> {
+    ghost use Rattle.std.specs.Prelude.{IfErr, IfOk};
+    ghost use Rattle.pc_threads.specs.Faults.{LogHasStopped};
     ghost use Rattle.pc_threads.specs.Logs.{HasLogged};
 
-    ghost kept_by = { λ given written. IfOk written (λ w. HasLogged F.contents N.name.setting.run given.0.value.out w.out w.pass) × IfErr written (IsStop (is_some given.0.value.out) 0 0) };
+    ghost kept_by = { λ given written. IfOk written (λ w. HasLogged F.contents N.name.setting.run given.0.value.out w.out w.pass) × IfErr written (LogHasStopped given.0.value.out) };
+}
+
+/// Why a collapser has stopped before the end, and its witness.
+#[derive(Drop)]
+pub(crate) struct CollapseFault<N: StoreName> {
+    pub(crate) why: Refusal,
+    pub(crate) seen: Witness<N>,
+}
+
+impl<N: StoreName> From<CollapseFault<N>> for ThreadsFault {
+    ghost use Rattle.std.specs.Prelude.{◌≡◌};
+    ghost use Rattle.pc_threads.specs.declared.fault.ThreadsFault.TheVariants.{Refused};
+
+    ghost from_gives = { λ stop fault. fault ≡ Refused stop.why };
+
+    fn from(stop: CollapseFault<N>) -> ThreadsFault {
+        ThreadsFault::Refused(stop.why)
+    }
 }
 
 // Joins the files of points as they are published. The tickets that the collapser holds in the end. All that it is given stands
@@ -103,43 +144,38 @@ fn collapse<N: StoreName, R: Wait, G: Gate>(
     number: u8,
     points: u32,
     gate: &G,
-) -> Result<Vec<PartTicket<N>>, Refusal>
+) -> Result<Vec<PartTicket<N>>, CollapseFault<N>>
     requires { IsOfBoard pass board.now }
     ensures only { IfOk result (λ tickets. HaveOnlyTo points tickets.items) }
-    ensures stopped { IfErr result (IsStop false 0 points) }
+    ensures stopped { IfErr result (CollapserHasStopped N.name.setting points) }
 {
-    let mut witness = shared.witness(rt);
-    collapse_loop(
-        rt,
-        alloc,
-        shared,
-        &mut witness,
-        board,
-        &mut pass,
-        number,
-        points,
-        gate,
-    )
+    let mut seen = shared.witness(rt);
+    match collapse_loop(
+        rt, alloc, shared, &mut seen, board, &mut pass, number, points, gate,
+    ) {
+        Ok(held) => Ok(held),
+        Err(why) => Err(CollapseFault { why, seen }),
+    }
 }
 
-// The promise of tickets whose files have no points but those from 1 to this, or that memory ran out or one of their files isn't
-// there.
+// The promise of tickets whose files have no points but those from 1 to this, or that memory ran out, or one of their files isn't
+// there by what the witness has seen that is handed back.
 #[derive(Clone, Copy)]
 struct UpTo(u32);
 
-impl<N: StoreName> Promise<Result<Vec<PartTicket<N>>, Refusal>> for UpTo {
-    ghost use Rattle.std.specs.Prelude.{false, IfErr, IfOk};
+impl<N: StoreName> Promise<Result<Vec<PartTicket<N>>, CollapseFault<N>>> for UpTo {
+    ghost use Rattle.std.specs.Prelude.{IfErr, IfOk};
     ghost use Rattle.pc_workers.specs.Covering.{HaveOnlyTo};
-    ghost use Rattle.pc_threads.specs.Faults.{IsStop};
+    ghost use Rattle.pc_threads.specs.Faults.{CollapserHasStopped};
 
-    ghost kept_by = { λ most held. IfOk held (λ tickets. HaveOnlyTo most.0 tickets.items) × IfErr held (IsStop false 0 most.0) };
+    ghost kept_by = { λ most held. IfOk held (λ tickets. HaveOnlyTo most.0 tickets.items) × IfErr held (CollapserHasStopped N.name.setting most.0) };
 }
 
 // The tickets of all collapsers, once their threads have ended.
 fn join_collapsers<N: StoreName, R: Threads>(
     rt: &R,
     alloc: Global,
-    handles: Vec<PromisedHandle<Result<Vec<PartTicket<N>>, Refusal>, UpTo>>,
+    handles: Vec<PromisedHandle<Result<Vec<PartTicket<N>>, CollapseFault<N>>, UpTo>>,
 ) -> Result<Vec<PartTicket<N>>, ThreadsFault>
     ensures only { (points : ℕ) → All (λ handle. handle.promise.0 ≡ points) handles.items → IfOk result (λ held. HaveOnlyTo points held.items) }
     ensures ended { (points : ℕ) → All (λ handle. handle.promise.0 ≡ points) handles.items → IfErr result (IsThreadsEnd false 0 points) }

@@ -1,5 +1,5 @@
 -- The phases that a checkpointer enters, call after call.
-use Rattle.std.proofs.Common.{◌≡◌, ◌⊎◌, inl, inr, ℕ, Bool, true, false, List, [], ◌∷◌, ◌++◌, refl, ap, sym, ◌∙◌, subst, append_assoc}
+use Rattle.std.proofs.Common.{◌≡◌, ◌⊎◌, inl, inr, ℕ, Bool, true, false, List, [], ◌∷◌, ◌++◌, length, length-append, refl, ap, sym, ◌∙◌, subst, append_assoc, arith}
 use Rattle.std.specs.Prelude.{Some, None, MatchBool}
 use Rattle.std.specs.Prelude.{Result, Ok, Err, IfOk, IfErr}
 use Rattle.std.specs.Result.{IsErrAnd}
@@ -14,6 +14,7 @@ use Rattle.pc_types.specs.declared.Reply.TheVariants as told
 use Rattle.pc_types.specs.declared.Step.{Step}
 use Rattle.pc_model.specs.History.{History, Effect, effect, effect_of, effect_of_move, effect_of_take, effect_of_done, phase_by, phase_of, point_by, point_of}
 use Rattle.pc_model.specs.History.Effect.{Moves, Shelves, Nothing}
+use Rattle.pc_model.specs.Files.{File, shelf, shelved_by}
 use Rattle.pc_model.specs.Headline.{TakesPointValue}
 use Rattle.pc_model.specs.LegalEffects.{Fits, FitsMove}
 use Rattle.pc_model.specs.Replies.{Setting, IsLegal, IsLegalHistory}
@@ -23,8 +24,9 @@ use Rattle.pc_model.proofs.BeginningLaws.{beginning_self, beginning_trans}
 use Rattle.pc_model.proofs.LegalEffectLaws.{legal_fits}
 use Rattle.pc_model.proofs.ReplyKindLaws.{reply_kind}
 use Rattle.pc_board.specs.Passes.{Pass}
-use Rattle.pc_latch.specs.Cycles.{next_event, IsCalled, IsAdvance, IsTakeCalled, entered_by, phases_entered}
-use Rattle.pc_latch.proofs.CycleLaws.{phase_known, point_known, entered_known, right_before}
+use Rattle.pc_latch.specs.Cycles.{next_event, IsCalled, IsAdvance, IsTakeCalled, done_among, entered_by, phases_entered}
+use Rattle.pc_latch.proofs.CycleLaws.{phase_known, point_known, entered_known, shelf_known, right_before}
+use Rattle.pc_workers.proofs.BoardCalls.{done_append}
 use Rattle.pc_workers.specs.Checkpointing.{next_phase, next_point, HasReached, HasStood, HasTurned, IsHeldUp, HasPublished, HasBrokenOff, point_named}
 
 own_event : (phase : Phase) → session_of (next_event phase) ≡ 0
@@ -34,12 +36,12 @@ own_event Resolve = refl
 own_event Capture = refl
 own_event Complete = refl
 
--- an effect that enters no phase
+-- an effect that enters no phase, and shelves nothing
 abbrev Stays : Effect → Type 0
-Stays e = (entered_by e ≡ []) × ((p : Phase) → phase_by e p ≡ p) × ((n : ℕ) → point_by e n ≡ n)
+Stays e = (entered_by e ≡ []) × ((p : Phase) → phase_by e p ≡ p) × ((n : ℕ) → point_by e n ≡ n) × ((run : ℕ) (h : History) (files : List File) → length (shelved_by run e h files) ≡ 0)
 
 stays_nothing : Stays Nothing
-stays_nothing = (refl, (λ p. refl), (λ n. refl))
+stays_nothing = (refl, (λ p. refl), (λ n. refl), (λ run h files. refl))
 
 move_stays : (r : Reply) → point_named r ≡ None → Stays (effect_of_move r)
 move_stays (told.Phase phase point) none = cc
@@ -57,12 +59,12 @@ advance_stays Capture r none = done_stays r none
 advance_stays Complete r none = move_stays r none
 
 take_stays : (r : Reply) → Stays (effect_of_take r)
-take_stays (told.Took key content) = (refl, (λ p. refl), (λ n. refl))
+take_stays (told.Took key content) = (refl, (λ p. refl), (λ n. refl), (λ run h files. refl))
 take_stays other = stays_nothing
 
 -- nothing was called
 pub stood_still : (st : Setting) (h : History) → HasStood st h h
-stood_still st h = record { begins = beginning_self h; legal = λ l. l; values = λ v. v; entered = sym (append-nil (phases_entered h)); in_phase = refl; at_point = refl }
+stood_still st h = record { begins = beginning_self h; legal = λ l. l; values = λ v. v; entered = sym (append-nil (phases_entered h)); shelved = omega arith; in_phase = refl; at_point = refl }
 
 pub stood_same : (st : Setting) (before after : History) → after ≡ before → HasStood st before after
 stood_same st before after same = subst (HasStood st before) (sym same) (stood_still st before)
@@ -74,6 +76,7 @@ module _ (st : Setting) where
     legal = λ l. s.legal (r.legal l);
     values = λ v. s.values (r.values v);
     entered = s.entered ∙ (ap (λ l. l ++ ys) r.entered ∙ append_assoc (phases_entered a) xs ys);
+    shelved = let both = ap length (done_append xs ys) ∙ length-append (done_among xs) (done_among ys) in omega (arith, r.shelved, s.shelved, both);
     in_phase = s.in_phase;
     at_point = s.at_point;
   }
@@ -85,6 +88,7 @@ module _ (st : Setting) where
     legal = λ l. s.legal (r.legal l);
     values = λ v. s.values (r.values v);
     entered = s.entered ∙ (append-nil (phases_entered b) ∙ r.entered);
+    shelved = omega (arith, r.shelved, s.shelved);
     in_phase = s.in_phase ∙ r.in_phase;
     at_point = s.at_point ∙ r.at_point;
   }
@@ -98,7 +102,8 @@ module _ (st : Setting) where
   -- a call that counts
   went_on : (before after : History) (step : Step) (phases : List (Phase × ℕ)) (phase : Phase) (point : ℕ) → session_of step.event ≡ 0 → TakesPointValue st.base after → Extends st before step after
       → ((middle : History) → IsLegal st middle step.event step.reply → phase_of middle ≡ phase_of before → point_of middle ≡ point_of before →
-      (entered_by (effect step) ≡ phases) × (phase_by (effect step) (phase_of middle) ≡ phase) × (point_by (effect step) (point_of middle) ≡ point))
+      (entered_by (effect step) ≡ phases) × (phase_by (effect step) (phase_of middle) ≡ phase) × (point_by (effect step) (point_of middle) ≡ point)
+      × (length (shelved_by st.run (effect step) middle (shelf st.run middle)) ≡ length (done_among phases)))
       → HasReached st phases phase point before after
   went_on before after step phases phase point own values x does =
       let rb = right_before st before after step own x in
@@ -111,6 +116,12 @@ module _ (st : Setting) where
         legal = λ l. x.0;
         values = λ v. values;
         entered = ap phases_entered is ∙ ((λ i. entered_known middle before has i ++ d.0 i));
+        shelved =
+            let on = ap (λ (h : History). length (shelf st.run h)) is in
+            let both = length-append (shelf st.run middle) (shelved_by st.run (effect step) middle (shelf st.run middle)) in
+            let was = ap length (shelf_known st.run middle before has) in
+            let more = d.3 in
+            omega (arith, on, both, was, more);
         in_phase = ap phase_of is ∙ d.1;
         at_point = ap point_of is ∙ d.2;
       }
@@ -121,7 +132,7 @@ module _ (st : Setting) where
       by_case : (b : Bool) → MatchBool b (Extends st before (step_of event reply) after) (after ≡ before) → HasStood st before after
       by_case true x =
           went_on before after (step_of event reply) [] (phase_of before) (point_of before) own called.values x
-          (λ middle legal phase point. (stays.0, stays.1 (phase_of middle) ∙ phase, stays.2 (point_of middle) ∙ point))
+          (λ middle legal phase point. (stays.0, stays.1 (phase_of middle) ∙ phase, stays.2 (point_of middle) ∙ point, stays.3 st.run middle (shelf st.run middle)))
       by_case false same = stood_same st before after same
 
 -- a legal change of the phase is one to the next phase
@@ -132,9 +143,18 @@ next_of h Resolve n f = (sym (ap next_phase f.0), f.1 ∙ sym (ap (λ p. next_po
 next_of h Capture n f = (sym (ap next_phase f.0), f.1 ∙ sym (ap (λ p. next_point p (point_of h)) f.0))
 next_of h Complete n f = absurd f
 
--- an effect that enters this phase at this point
+-- the part of a point isn't done as such a phase is entered
+not_done : (h : History) (q : Phase) (n : ℕ) → FitsMove h q n → length (done_among ((q, n) ∷ [])) ≡ 0
+not_done h Rest n f = refl
+not_done h Prepare n f = refl
+not_done h Resolve n f = refl
+not_done h Capture n f = refl
+not_done h Complete n f = absurd f
+
+-- an effect that enters this phase at this point, and shelves the part that is done as it is
 abbrev Enters : Effect → Phase → ℕ → Type 0
 Enters e phase point = (entered_by e ≡ (phase, point) ∷ []) × ((p : Phase) → phase_by e p ≡ phase) × ((n : ℕ) → point_by e n ≡ point)
+    × ((run : ℕ) (h : History) (files : List File) → length (shelved_by run e h files) ≡ length (done_among ((phase, point) ∷ [])))
 
 move_named : (r : Reply) (n : ℕ) → IsMoveReply r → point_named r ≡ Some n → (q : Phase) × (effect_of_move r ≡ Moves q n)
 move_named (told.Phase phase point) n kind is = (phase, ap (Moves phase) (cc (is)))
@@ -170,13 +190,15 @@ module _ (st : Setting) where
             let from : p ≡ Capture = sym phase ∙ f.0 in
             let q : Complete ≡ next_phase p = sym (ap next_phase from) in
             let at : n ≡ next_point p m = f.1 ∙ (point ∙ sym (ap (λ k. next_point k m) from)) in
-            ((ap entered_by e ∙ (λ i. (q i, at i) ∷ []), (λ k. ap (λ x. phase_by x k) e ∙ q), (λ k. ap (λ x. point_by x k) e ∙ at)), at)
+            let one : 1 ≡ length (done_among ((next_phase p, next_point p m) ∷ [])) = (λ i. length (done_among ((q i, at i) ∷ []))) in
+            ((ap entered_by e ∙ (λ i. (q i, at i) ∷ []), (λ k. ap (λ x. phase_by x k) e ∙ q), (λ k. ap (λ x. point_by x k) e ∙ at), (λ run early files. ap (λ x. length (shelved_by run x early files)) e ∙ one)), at)
         | inr e ↦
             let f : FitsMove h e.0 n = subst (Fits st h) e.1 (legal_fits st h (next_event p) r legal) in
             let next = next_of h e.0 n f in
             let q : e.0 ≡ next_phase p = next.0 ∙ ap next_phase phase in
             let at : n ≡ next_point p m = next.1 ∙ (λ i. next_point (phase i) (point i)) in
-            ((ap entered_by e.1 ∙ (λ i. (q i, at i) ∷ []), (λ k. ap (λ x. phase_by x k) e.1 ∙ q), (λ k. ap (λ x. point_by x k) e.1 ∙ at)), at)
+            let none : 0 ≡ length (done_among ((next_phase p, next_point p m) ∷ [])) = sym (not_done h e.0 n f) ∙ (λ i. length (done_among ((q i, at i) ∷ []))) in
+            ((ap entered_by e.1 ∙ (λ i. (q i, at i) ∷ []), (λ k. ap (λ x. phase_by x k) e.1 ∙ q), (λ k. ap (λ x. point_by x k) e.1 ∙ at), (λ run early files. ap (λ x. length (shelved_by run x early files)) e.1 ∙ none)), at)
       ]
 
   module _ (before after : History) (reply : Reply) where
@@ -191,7 +213,7 @@ module _ (st : Setting) where
         let does = (λ (middle : History) (legal : IsLegal st middle (next_event p) reply) (phase : phase_of middle ≡ p) (point : point_of middle ≡ m). entering middle p m reply n legal is phase point) in
         let reached : HasTurned st before after =
         went_on st before after step ((next_phase p, next_point p m) ∷ []) (next_phase p) (next_point p m) own called.values x
-        (λ middle legal phase point. let e = (does middle legal phase point).0 in (e.0, e.1 (phase_of middle), e.2 (point_of middle))) in
+        (λ middle legal phase point. let e = (does middle legal phase point).0 in (e.0, e.1 (phase_of middle), e.2 (point_of middle), e.3 st.run middle (shelf st.run middle))) in
         let rb = right_before st before after step own x in
         let legal : IsLegalHistory st (step ∷ rb.0) = subst (IsLegalHistory st) rb.1 x.0 in
         (reached, (does rb.0 legal.0 (phase_known rb.0 before rb.2) (point_known rb.0 before rb.2)).1 ∙ sym reached.at_point)

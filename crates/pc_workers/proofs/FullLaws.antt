@@ -18,18 +18,18 @@ use Rattle.pc_model.specs.Points.{taken}
 use Rattle.pc_model.specs.Replies.{Setting, IsLegal, TakesFirst, active_in, closed_set, first_refusal, is_empty, log_is_full, not_yet, or_else}
 use Rattle.pc_model.specs.Calls.{IsAnswered}
 use Rattle.pc_latch.specs.Cycles.{next_event}
-use Rattle.pc_latch.proofs.CycleLaws.{phase_known, point_known}
+use Rattle.pc_latch.proofs.CycleLaws.{phase_known, point_known, shelf_known}
 use Rattle.pc_workers.specs.Checkpointing.{IsFull, IsRefusal}
 
--- the refusals that are left, and where the last of them is told
-abbrev IsFullAt : History → Refusal → Type 0
-IsFullAt seen why.OutOfMemory = ⊤
-IsFullAt seen why.LogFull = ⊤
-IsFullAt seen why.ShelfFull = ⊤
-IsFullAt seen why.PointsFull = (phase_of seen ≡ Rest) × (point_of seen ≡ MOST_POINTS)
-IsFullAt seen other = ⊥
+-- the refusals that are left, and where the last two of them are told
+abbrev IsFullAt : Setting → History → Refusal → Type 0
+IsFullAt st seen why.OutOfMemory = ⊤
+IsFullAt st seen why.LogFull = ⊤
+IsFullAt st seen why.ShelfFull = length (shelf st.run seen) ≡ MOST_FILES
+IsFullAt st seen why.PointsFull = (phase_of seen ≡ Rest) × (point_of seen ≡ MOST_POINTS)
+IsFullAt st seen other = ⊥
 
-module _ (seen : History) (given : Refusal) where
+module _ (st : Setting) (seen : History) (given : Refusal) where
   -- the refusal is a reply that is due, or the answer, or want of memory
   abbrev Told : Option Reply → Type 0 → Type 0
   Told due answer = MatchOption due (answer ⊎ (told.Refused given ≡ told.Refused why.OutOfMemory)) (λ reply. told.Refused given ≡ reply)
@@ -37,30 +37,30 @@ module _ (seen : History) (given : Refusal) where
   same : (other : Refusal) → told.Refused given ≡ told.Refused other → given ≡ other
   same other is = cc
 
-  it_is : (other : Refusal) → IsFullAt seen other → told.Refused given ≡ told.Refused other → IsFullAt seen given
-  it_is other full is = subst (IsFullAt seen) (sym (same other is)) full
+  it_is : (other : Refusal) → IsFullAt st seen other → told.Refused given ≡ told.Refused other → IsFullAt st seen given
+  it_is other full is = subst (IsFullAt st seen) (sym (same other is)) full
 
-  memory : (answer : Type 0) → (answer → ⊥) → Told None answer → IsFullAt seen given
+  memory : (answer : Type 0) → (answer → ⊥) → Told None answer → IsFullAt st seen given
   memory answer none (inl a) = absurd (none a)
   memory answer none (inr is) = it_is why.OutOfMemory tt is
 
-  log : (c : Bool) (answer : Type 0) → (answer → ⊥) → Told (first_refusal ((c, why.LogFull) ∷ [])) answer → IsFullAt seen given
+  log : (c : Bool) (answer : Type 0) → (answer → ⊥) → Told (first_refusal ((c, why.LogFull) ∷ [])) answer → IsFullAt st seen given
   log true answer none is = it_is why.LogFull tt is
   log false answer none is = memory answer none is
 
-  waits : (z : Bool) (n : ℕ) (rest : Option Reply) (answer : Type 0) → (Told rest answer → IsFullAt seen given) → Told (or_else (cond z None (Some (told.NotYet n))) rest) answer → IsFullAt seen given
+  waits : (z : Bool) (n : ℕ) (rest : Option Reply) (answer : Type 0) → (Told rest answer → IsFullAt st seen given) → Told (or_else (cond z None (Some (told.NotYet n))) rest) answer → IsFullAt st seen given
   waits true n rest answer on is = on is
   waits false n rest answer on is = cc
 
-  shelf_then_log : (b c : Bool) (answer : Type 0) → (answer → ⊥) → Told (first_refusal ((b, why.ShelfFull) ∷ (c, why.LogFull) ∷ [])) answer → IsFullAt seen given
-  shelf_then_log true c answer none is = it_is why.ShelfFull tt is
-  shelf_then_log false c answer none is = log c answer none is
+  shelf_then_log : (b c : Bool) (answer : Type 0) → (b ≡ true → length (shelf st.run seen) ≡ MOST_FILES) → (answer → ⊥) → Told (first_refusal ((b, why.ShelfFull) ∷ (c, why.LogFull) ∷ [])) answer → IsFullAt st seen given
+  shelf_then_log true c answer last none is = it_is why.ShelfFull (last refl) is
+  shelf_then_log false c answer last none is = log c answer none is
 
-  points_then_log : (b c : Bool) (answer : Type 0) → (b ≡ true → (phase_of seen ≡ Rest) × (point_of seen ≡ MOST_POINTS)) → (answer → ⊥) → Told (first_refusal ((b, why.PointsFull) ∷ (c, why.LogFull) ∷ [])) answer → IsFullAt seen given
+  points_then_log : (b c : Bool) (answer : Type 0) → (b ≡ true → (phase_of seen ≡ Rest) × (point_of seen ≡ MOST_POINTS)) → (answer → ⊥) → Told (first_refusal ((b, why.PointsFull) ∷ (c, why.LogFull) ∷ [])) answer → IsFullAt st seen given
   points_then_log true c answer last none is = it_is why.PointsFull (last refl) is
   points_then_log false c answer last none is = log c answer none is
 
-  left : (b : Bool) (answer : Type 0) → (answer → ⊥) → Told (cond b (Some told.NoneLeft) None) answer → IsFullAt seen given
+  left : (b : Bool) (answer : Type 0) → (answer → ⊥) → Told (cond b (Some told.NoneLeft) None) answer → IsFullAt st seen given
   left true answer none is = cc
   left false answer none is = memory answer none is
 
@@ -73,80 +73,80 @@ module _ (seen : History) (given : Refusal) where
   takes_none [] takes = takes
   takes_none (key ∷ keys) (content, is) = cc
 
-  module _ (st : Setting) (h : History) where
+  module _ (h : History) where
     -- ---- each event in its phase
 
-    at_rest : phase_of h ≡ Rest → phase_of h ≡ phase_of seen → point_of h ≡ point_of seen → IsLegal st h asked.StartPoint (told.Refused given) → IsFullAt seen given
+    at_rest : phase_of h ≡ Rest → phase_of h ≡ phase_of seen → point_of h ≡ point_of seen → IsLegal st h asked.StartPoint (told.Refused given) → IsFullAt st seen given
     at_rest phase own point legal =
         let answer : Type 0 = told.Refused given ≡ told.Phase Prepare (point_of h + 1) in
         points_then_log (point_of h == MOST_POINTS) (log_is_full h) answer (λ last. let all : point_of h ≡ MOST_POINTS = grind (arith, nat_tests) in (sym own ∙ phase, sym point ∙ all)) (λ is. cc)
         (phase_is h Rest (first_refusal ((point_of h == MOST_POINTS, why.PointsFull) ∷ (log_is_full h, why.LogFull) ∷ [])) answer phase legal)
 
-    at_prepare : phase_of h ≡ Prepare → IsLegal st h asked.Seal (told.Refused given) → IsFullAt seen given
+    at_prepare : phase_of h ≡ Prepare → IsLegal st h asked.Seal (told.Refused given) → IsFullAt st seen given
     at_prepare phase legal =
         let answer : Type 0 = told.Refused given ≡ told.Phase Resolve (point_of h) in
         let n = active_in st Before h in
         waits (n == 0) n (first_refusal ((log_is_full h, why.LogFull) ∷ [])) answer (log (log_is_full h) answer (λ is. cc))
         (phase_is h Prepare (or_else (not_yet n) (first_refusal ((log_is_full h, why.LogFull) ∷ []))) answer phase legal)
 
-    at_resolve : phase_of h ≡ Resolve → IsLegal st h asked.OpenCapture (told.Refused given) → IsFullAt seen given
+    at_resolve : phase_of h ≡ Resolve → IsLegal st h asked.OpenCapture (told.Refused given) → IsFullAt st seen given
     at_resolve phase legal =
         let answer : Type 0 = told.Refused given ≡ told.Phase Capture (point_of h) in
         let n = active_in st During h in
         waits (n == 0) n (first_refusal ((log_is_full h, why.LogFull) ∷ [])) answer (log (log_is_full h) answer (λ is. cc))
         (phase_is h Resolve (or_else (not_yet n) (first_refusal ((log_is_full h, why.LogFull) ∷ []))) answer phase legal)
 
-    at_complete : phase_of h ≡ Complete → IsLegal st h asked.Rest (told.Refused given) → IsFullAt seen given
+    at_complete : phase_of h ≡ Complete → IsLegal st h asked.Rest (told.Refused given) → IsFullAt st seen given
     at_complete phase legal =
         let answer : Type 0 = told.Refused given ≡ told.Phase Rest (point_of h) in
         let n = active_in st After h in
         waits (n == 0) n (first_refusal ((log_is_full h, why.LogFull) ∷ [])) answer (log (log_is_full h) answer (λ is. cc))
         (phase_is h Complete (or_else (not_yet n) (first_refusal ((log_is_full h, why.LogFull) ∷ []))) answer phase legal)
 
-    at_capture : phase_of h ≡ Capture → IsLegal st h asked.Done (told.Refused given) → IsFullAt seen given
-    at_capture phase legal =
+    at_capture : phase_of h ≡ Capture → shelf st.run h ≡ shelf st.run seen → IsLegal st h asked.Done (told.Refused given) → IsFullAt st seen given
+    at_capture phase files legal =
         let answer : Type 0 = told.Refused given ≡ told.PartDone (point_of h) (length (shelf st.run h) + 1) (length (taken h)) in
         let n = length (closed_set h) in
         let full : Bool = length (shelf st.run h) == MOST_FILES in
         let rest : Option Reply = first_refusal ((full, why.ShelfFull) ∷ (log_is_full h, why.LogFull) ∷ []) in
-        waits (n == 0) n rest answer (shelf_then_log full (log_is_full h) answer (λ is. cc)) (phase_is h Capture (or_else (not_yet n) rest) answer phase legal)
+        waits (n == 0) n rest answer (shelf_then_log full (log_is_full h) answer (λ last. let all : length (shelf st.run h) ≡ MOST_FILES = grind (arith, nat_tests) in sym (ap length files) ∙ all) (λ is. cc)) (phase_is h Capture (or_else (not_yet n) rest) answer phase legal)
 
-    of_take : phase_of h ≡ Capture → IsLegal st h asked.Take (told.Refused given) → IsFullAt seen given
+    of_take : phase_of h ≡ Capture → IsLegal st h asked.Take (told.Refused given) → IsFullAt st seen given
     of_take phase legal =
         let answer : Type 0 = TakesFirst (closed_set h) (told.Refused given) in
         let none : Bool = is_empty (closed_set h) in
         left none answer (takes_none (closed_set h)) (phase_is h Capture (cond none (Some told.NoneLeft) None) answer phase legal)
 
-    of_next : (phase : Phase) → phase_of h ≡ phase → phase_of h ≡ phase_of seen → point_of h ≡ point_of seen → IsLegal st h (next_event phase) (told.Refused given) → IsFullAt seen given
-    of_next Rest is own point legal = at_rest is own point legal
-    of_next Prepare is own point legal = at_prepare is legal
-    of_next Resolve is own point legal = at_resolve is legal
-    of_next Capture is own point legal = at_capture is legal
-    of_next Complete is own point legal = at_complete is legal
+    of_next : (phase : Phase) → phase_of h ≡ phase → phase_of h ≡ phase_of seen → point_of h ≡ point_of seen → shelf st.run h ≡ shelf st.run seen → IsLegal st h (next_event phase) (told.Refused given) → IsFullAt st seen given
+    of_next Rest is own point files legal = at_rest is own point legal
+    of_next Prepare is own point files legal = at_prepare is legal
+    of_next Resolve is own point files legal = at_resolve is legal
+    of_next Capture is own point files legal = at_capture is files legal
+    of_next Complete is own point files legal = at_complete is legal
 
-full_at : (st : Setting) (seen : History) (given : Refusal) → IsRefusal st seen given → IsFullAt seen given
-full_at st seen given (inl (h, legal, has, answered)) = of_next seen given st h (phase_of seen) (phase_known h seen has) (phase_known h seen has) (point_known h seen has) answered
-full_at st seen given (inr (capture, (h, legal, has, answered))) = of_take seen given st h (phase_known h seen has ∙ capture) answered
+full_at : (st : Setting) (seen : History) (given : Refusal) → IsRefusal st seen given → IsFullAt st seen given
+full_at st seen given (inl (h, legal, has, answered)) = of_next st seen given h (phase_of seen) (phase_known h seen has) (phase_known h seen has) (point_known h seen has) (shelf_known st.run h seen has) answered
+full_at st seen given (inr (capture, (h, legal, has, answered))) = of_take st seen given h (phase_known h seen has ∙ capture) answered
 
-at_last : (seen : History) (last : ℕ) (given : Refusal) → (phase_of seen ≡ Rest → point_of seen < last) → IsFullAt seen given → IsFull last given
-at_last seen last why.OutOfMemory before full = tt
-at_last seen last why.LogFull before full = tt
-at_last seen last why.ShelfFull before full = tt
-at_last seen last why.PointsFull before (rest, full) = let low : point_of seen < last = before rest in omega (arith, low, full)
-at_last seen last other before full = absurd full
+at_last : (st : Setting) (seen : History) (last : ℕ) (given : Refusal) → (phase_of seen ≡ Rest → point_of seen < last) → IsFullAt st seen given → IsFull st seen last given
+at_last st seen last why.OutOfMemory before full = tt
+at_last st seen last why.LogFull before full = tt
+at_last st seen last why.ShelfFull before full = full
+at_last st seen last why.PointsFull before (rest, full) = let low : point_of seen < last = before rest in omega (arith, low, full)
+at_last st seen last other before full = absurd full
 
 -- where the store refuses a checkpointer, for which at rest the point before the last of those due has come at most
-pub is_full : (st : Setting) (seen : History) (last : ℕ) (given : Refusal) → (phase_of seen ≡ Rest → point_of seen < last) → IsRefusal st seen given → IsFull last given
-is_full st seen last given before refused = at_last seen last given before (full_at st seen given refused)
+pub is_full : (st : Setting) (seen : History) (last : ℕ) (given : Refusal) → (phase_of seen ≡ Rest → point_of seen < last) → IsRefusal st seen given → IsFull st seen last given
+is_full st seen last given before refused = at_last st seen last given before (full_at st seen given refused)
 
 -- it is as full where more points are due
-pub full_to : (last more : ℕ) (given : Refusal) → last ≤ more → IsFull last given → IsFull more given
-full_to last more why.OutOfMemory low full = tt
-full_to last more why.LogFull low full = tt
-full_to last more why.ShelfFull low full = tt
-full_to last more why.PointsFull low full = omega (arith, low, full)
-full_to last more other low full = absurd full
+pub full_to : (st : Setting) (seen : History) (last more : ℕ) (given : Refusal) → last ≤ more → IsFull st seen last given → IsFull st seen more given
+full_to st seen last more why.OutOfMemory low full = tt
+full_to st seen last more why.LogFull low full = tt
+full_to st seen last more why.ShelfFull low full = full
+full_to st seen last more why.PointsFull low full = omega (arith, low, full)
+full_to st seen last more other low full = absurd full
 
 -- in a cycle's other phases
-pub is_full_in : (st : Setting) (seen : History) (phase : Phase) (last : ℕ) (given : Refusal) → (phase ≡ Rest → ⊥) → phase_of seen ≡ phase → IsRefusal st seen given → IsFull last given
+pub is_full_in : (st : Setting) (seen : History) (phase : Phase) (last : ℕ) (given : Refusal) → (phase ≡ Rest → ⊥) → phase_of seen ≡ phase → IsRefusal st seen given → IsFull st seen last given
 is_full_in st seen phase last given other is refused = is_full st seen last given (λ rest. absurd (other (sym is ∙ rest))) refused

@@ -1,5 +1,5 @@
 pub mod LoggingLaws
-mod BoardCalls
+pub mod BoardCalls
 mod ClientJobs
 mod Cycling
 mod FullLaws

@@ -1,14 +1,15 @@
 -- What a checkpointer has seen and published since, and why it stops.
-use Rattle.std.specs.Prelude.{◌≡◌, ◌⊎◌, ◌<◌, ⊤, ℕ, zero, suc, ◌+◌, List, [], ◌∷◌, ◌++◌, Option, Some, None}
+use Rattle.std.specs.Prelude.{◌≡◌, ◌⊎◌, ◌<◌, ⊤, ℕ, zero, suc, ◌+◌, List, [], ◌∷◌, ◌++◌, Option, Some, None, length}
 use mathlib.Core.List.{IsPrefix}
 use Rattle.pc_types.specs.declared.Event.TheVariants.{Take}
 use Rattle.pc_types.specs.declared.Phase.{Phase}
 use Rattle.pc_types.specs.declared.Phase.TheVariants.{Rest, Prepare, Resolve, Capture, Complete}
 use Rattle.pc_types.specs.declared.Refusal.{Refusal}
 use Rattle.pc_types.specs.declared.Refusal.TheVariants as refusal
-use Rattle.pc_types.specs.declared.limits.TheConstants.{MOST_POINTS}
+use Rattle.pc_types.specs.declared.limits.TheConstants.{MOST_FILES, MOST_POINTS}
 use Rattle.pc_types.specs.declared.Reply.{Reply}
 use Rattle.pc_types.specs.declared.Reply.TheVariants as told
+use Rattle.pc_model.specs.Files.{shelf}
 use Rattle.pc_model.specs.History.{History, phase_of, point_of}
 use Rattle.pc_model.specs.Headline.{TakesPointValue}
 use Rattle.pc_model.specs.Replies.{Setting, IsLegalHistory}
@@ -41,12 +42,13 @@ whole_cycles point (suc count) = whole_cycles point count ++ whole_cycle (point 
 
 -- The checkpointer has seen a history that goes on from what it had seen; if that was legal, and each of its takes carried what
 -- its key had at the point, so is this one, and so has each of its takes. Just these phases were entered since, each with its
--- point; and the phase and the point are now these.
+-- point, and for each part that was done as they were the shelf has one more file; and the phase and the point are now these.
 pub record HasReached (st : Setting) (phases : List (Phase × ℕ)) (phase : Phase) (point : ℕ) (before after : History) : Type 0 where
   pub begins : IsBeginning before after
   pub legal : IsLegalHistory st before → IsLegalHistory st after
   pub values : TakesPointValue st.base before → TakesPointValue st.base after
   pub entered : phases_entered after ≡ phases_entered before ++ phases
+  pub shelved : length (shelf st.run after) ≡ length (shelf st.run before) + length (done_among phases)
   pub in_phase : phase_of after ≡ phase
   pub at_point : point_of after ≡ point
 
@@ -68,14 +70,14 @@ HasCycled st count before after = HasReached st (whole_cycles (point_of before) 
 abbrev pub IsRefusal : Setting → History → Refusal → Type 0
 IsRefusal st seen why = IsAnswered st 0 seen (next_event (phase_of seen)) (told.Refused why) ⊎ ((phase_of seen ≡ Capture) × IsAnswered st 0 seen Take (told.Refused why))
 
--- What such a refusal is, where the points up to this one are due: memory ran out, the log or the shelf has no place left, or
--- there can't be so many points.
-abbrev pub IsFull : ℕ → Refusal → Type 0
-IsFull last refusal.OutOfMemory = ⊤
-IsFull last refusal.LogFull = ⊤
-IsFull last refusal.ShelfFull = ⊤
-IsFull last refusal.PointsFull = MOST_POINTS < last
-IsFull last other = ⊥
+-- What such a refusal is, where the points up to this one are due and the checkpointer has seen this: memory ran out, the log has
+-- no place left; by what it has seen the shelf has none; or there can't be so many points.
+abbrev pub IsFull : Setting → History → ℕ → Refusal → Type 0
+IsFull st seen last refusal.OutOfMemory = ⊤
+IsFull st seen last refusal.LogFull = ⊤
+IsFull st seen last refusal.ShelfFull = length (shelf st.run seen) ≡ MOST_FILES
+IsFull st seen last refusal.PointsFull = MOST_POINTS < last
+IsFull st seen last other = ⊥
 
 -- it stopped at a refusal, and no phase was entered
 abbrev pub IsHeldUp : Setting → History → History → Refusal → Type 0

@@ -172,7 +172,7 @@ fn take_point<N: StoreName, R: Wait, G: Gate>(
     ensures reached { IfOk result (λ _. HasReached N.name.setting (whole_cycle (point_of seat.old + 1)) Rest (point_of seat.old + 1) seat.old seat.new) }
     ensures published { IfOk result (λ _. HasPublished (whole_cycle (point_of seat.old + 1)) pass.old pass.new) }
     ensures broken_off { IfErr result (HasBrokenOff N.name.setting (whole_cycle (point_of seat.old + 1)) seat.old seat.new pass.old pass.new) }
-    ensures full { IfErr result (IsFull (point_of seat.old + 1)) }
+    ensures full { IfErr result (IsFull N.name.setting seat.new (point_of seat.old + 1)) }
 {
     enter(rt, shared, seat, Phase::Prepare, gate)?;
     enter(rt, shared, seat, Phase::Resolve, gate)?;
@@ -188,8 +188,9 @@ fn take_point<N: StoreName, R: Wait, G: Gate>(
 /// after each change of the phase, and after each key. It publishes each point with the pass once its part is on the shelf, before
 /// it asks for the rest that ends the point's cycle; it makes no other call on the board. The first refusal ends it: one that the
 /// store may answer, after some legal history with all that the checkpointer has seen, to the event that ends the phase or to a
-/// take: `OutOfMemory`, `LogFull`, `ShelfFull`, or `PointsFull` where more than 65,535 points are due. What was put on the shelf until then was
-/// published.
+/// take: `OutOfMemory`, `LogFull`, `ShelfFull` where the shelf has 65,536 files by what the checkpointer has seen, or `PointsFull` where
+/// more than 65,535 points are due. What was put on the shelf until then was published. Each point that it takes puts one file on the
+/// shelf.
 pub fn checkpoint_loop<N: StoreName, R: Wait, G: Gate>(
     rt: &R,
     shared: &Shared<N>,
@@ -205,7 +206,7 @@ pub fn checkpoint_loop<N: StoreName, R: Wait, G: Gate>(
     ensures cycled { IfOk result (λ n. HasCycled N.name.setting n seat.old seat.new) }
     ensures published { IfOk result (λ n. HasPublished (whole_cycles (point_of seat.old) n) pass.old pass.new) }
     ensures broken_off { IfErr result (HasBrokenOff N.name.setting (whole_cycles (point_of seat.old) points) seat.old seat.new pass.old pass.new) }
-    ensures full { IfErr result (IsFull (point_of seat.old + points)) }
+    ensures full { IfErr result (IsFull N.name.setting seat.new (point_of seat.old + points)) }
 {
     for _ in 0..points {
         take_point(rt, shared, seat, board, pass, gate)?;

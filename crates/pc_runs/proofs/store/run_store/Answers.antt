@@ -15,8 +15,7 @@ use Rattle.pc_runs.specs.Folders.{LeavesFiles, base_of}
 use Rattle.pc_runs.proofs.HistoryLaws.{behind_first, first_ones, left_after}
 use Rattle.std.proofs.lemmas.Result.{err_from_is_err_and}
 use Rattle.std.proofs.lemmas.List.Elements.{All-drop}
-use Rattle.pc_texts.specs.declared.file_names.FileName.TheVariants.{Log}
-use Rattle.pc_runs.proofs.FaultLaws.{folder_there, log_there, lost_ends, no_memory, of_threads, one_there, same_transactions, untold_ends}
+use Rattle.pc_runs.proofs.FaultLaws.{folder_there, log_lost_there, log_there, lost_ends, no_memory, of_threads, one_there, same_transactions, untold_ends}
 use Rattle.pc_runs.proofs.NewPasses.{as_many, some_passes}
 use Rattle.pc_runs.proofs.SeatingLaws.{all_back, dealt_seats}
 use Rattle.pc_runs.proofs.WorkLaws.{all_fresh, have_run}
@@ -128,7 +127,7 @@ returns-in_err-folder-clause-ended g c =
     let ended = c.in_ok-ended.ended in
     let there = folder_there g.D.NewFiles.holds c.args.workload.points c.args.folder ended.folder ended.written.items c.in_ok-ended.ensures.written in
     rw (p.1, p.2)
-    (lost_ends g.N.StoreName.name.setting c.args.workload (is_some c.args.folder) Log c.in_err-folder.field-0.0 (subst IsTrue there c.in_err-folder.ensures.lost.0) c.in_err-folder.ensures.lost.1)
+    (lost_ends g.N.StoreName.name.setting c.args.workload (is_some c.args.folder) c.in_err-folder.field-0.0 (subst IsTrue there (log_lost_there ended.folder c.in_ok-ended.logged.out c.in_err-folder.field-0.0 c.in_err-folder.ensures.lost)))
 
 pub returns-in_err-left-clause-ended : goal.returns-in_err-left-clause-ended
 returns-in_err-left-clause-ended g c =

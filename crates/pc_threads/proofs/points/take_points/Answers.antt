@@ -1,6 +1,7 @@
-use Rattle.std.proofs.Common.{◌≡◌, ◌+◌, [], Bool, rules, refl, sym, ap, subst, ◌∙◌, inr, arith}
+use Rattle.std.proofs.Common.{◌≡◌, ◌+◌, ◌≤◌, [], Bool, rules, refl, sym, ap, subst, ◌∙◌, inr, arith}
 use Rattle.std.specs.Prelude.{IsTrue, is_some}
 use Rattle.std.proofs.lemmas.Result.{err_from_is_err_and}
+use Rattle.pc_types.specs.declared.limits.TheConstants.{MOST_POINTS}
 use Rattle.pc_model.specs.History.{History}
 use Rattle.pc_workers.specs.Checkpointing.{HasCycled}
 use Rattle.pc_workers.proofs.WholeCycles.{cycled_on}
@@ -29,5 +30,6 @@ returns-in_err-checkpointer-clause-ended g c cycled =
     let before : HasCycled st old.others [] seat = subst (HasCycled st old.others []) (sym c.await_commits.ensures.seat) (old.invariant.cycles [] cycled) in
     let there : is_some c.await_commits.new.self.folder ≡ is_some c.args.checkpointer.folder = ap is_some c.await_commits.ensures.folder ∙ old.invariant.there in
     let next : old.others + 1 ≡ c.in-Ok.point = search rules in
+    let few : c.in-Ok.point ≤ MOST_POINTS = search rules in
     rw (p.1, p.2)
-    (more_end _ _ 0 0 c.in-Ok.point c.args.last c.in_err-checkpointer.field-0.0 (subst IsTrue there) (omega arith) (omega (arith, next, c.loop-others-test.true)) (c.in_err-checkpointer.ensures.ended old.others next before))
+    (more_end _ _ 0 0 c.in-Ok.point c.args.last c.in_err-checkpointer.field-0.0 (subst IsTrue there) (omega arith) (omega (arith, next, c.loop-others-test.true)) (c.in_err-checkpointer.ensures.ended old.others next few before))

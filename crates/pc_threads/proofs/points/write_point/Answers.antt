@@ -1,7 +1,6 @@
 use Rattle.std.proofs.Common.{◌+◌, true, [], length, refl, ap, arith}
 use Rattle.std.proofs.lemmas.Result.{err_from_is_err_and}
 use Rattle.pc_types.specs.declared.Phase.TheVariants.{Rest}
-use Rattle.pc_texts.specs.declared.file_names.FileName.TheVariants.{Part}
 use Rattle.pc_workers.specs.Checkpointing.{whole_cycles}
 use Rattle.pc_workers.proofs.WholeCycles.{done_since, only_memory, points_of_cycles}
 use Rattle.pc_threads.proofs.StopLaws.{lost_ends, memory_stops}
@@ -25,4 +24,4 @@ returns-in_err-ticket-clause-ended g c some cycled =
 pub returns-in_err-write_part-clause-ended : goal.returns-in_err-write_part-clause-ended
 returns-in_err-write_part-clause-ended g c some cycled =
     let p = err_from_is_err_and c.from_residual-in_err-write_part.result c.from_residual-in_err-write_part.ensures.1 in
-    rw (p.1, p.2) (lost_ends (Part c.args.point) _ c.in_err-write_part.ensures.lost)
+    rw (p.1, p.2) (lost_ends c.in_err-write_part.field-0.0)

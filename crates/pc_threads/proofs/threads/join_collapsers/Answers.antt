@@ -1,10 +1,10 @@
 use Rattle.std.proofs.Common.{◌≡◌, All, subst, sym}
 use Rattle.std.proofs.lemmas.List.Elements.{All-head, All-tail}
-use Rattle.std.specs.Prelude.{false}
 use Rattle.std.proofs.lemmas.Result.{err_from_is_err_and}
-use Rattle.pc_threads.specs.Faults.{IsStop}
+use Rattle.pc_threads.specs.Faults.{CollapserHasStopped}
 use Rattle.pc_workers.specs.Covering.{HaveOnlyTo}
 use Rattle.pc_workers.proofs.CoverLaws.{both_to}
+use Rattle.pc_threads.proofs.StopLaws.{collapser_ends}
 use Rattle.pc_threads.proofs.threads.join_collapsers.Goals as goal
 
 pub loop-handle-preserved : goal.loop-handle-preserved
@@ -26,4 +26,6 @@ returns-in_err-tickets-clause-ended g c points promised =
     let first = c.in-Some.handle in
     let rest = subst (All (λ handle. handle.promise.0 ≡ points)) c.in-Some.ensures.steps.0 was.0 in
     let its : first.promise.0 ≡ points = All-head (λ handle. handle.promise.0 ≡ points) first c.next.new.self.rest.items rest in
-    rw (p.1, p.2) (subst (λ most. IsStop false 0 most c.in_err-tickets.field-0.0) its c.in_err-tickets.ensures.1)
+    let st = g.N.StoreName.name.setting in
+    let stop = c.in_err-tickets.field-0.0 in
+    rw (p.1, p.2) (collapser_ends st points stop (subst (λ most. CollapserHasStopped st most stop) its c.in_err-tickets.ensures.1))

@@ -17,5 +17,5 @@ returns-in_err-run-clause-ended g c fresh =
     let p = err_from_is_err_and c.from_residual-in_err-run.result c.from_residual-in_err-run.ensures.1 in
     let hands = c.args.hands in
     rw (p.1, p.2)
-    (logger_ends (is_some c.args.room.now.lag || is_some hands.checkpointer.folder) (is_some c.args.logger.out) (transactions_in (clients_in hands.workers.items)) c.args.room.now.points c.in_err-run.field-0.0
+    (logger_ends (is_some c.args.room.now.lag || is_some hands.checkpointer.folder) c.args.logger.out (transactions_in (clients_in hands.workers.items)) c.args.room.now.points c.in_err-run.field-0.0
     c.in_err-run.ensures.stopped)

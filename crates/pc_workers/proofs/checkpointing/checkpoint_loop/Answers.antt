@@ -35,8 +35,8 @@ pub returns-in_err-take_point-clause-full : goal.returns-in_err-take_point-claus
 returns-in_err-take_point-clause-full g c =
     let m = point_of c.args.seat.now in
     let before : point_of c.loop.seat ≡ m + c.loop.counter = c.loop.invariant.0.at_point in
-    of_refusal (IsFull (m + c.args.points)) c.from_residual.result _ c.from_residual.ensures.1
-    (full_to (point_of c.loop.seat + 1) (m + c.args.points) _ (omega (arith, before, c.loop-test.true)) c.in_err-take_point.ensures.full)
+    of_refusal (IsFull g.N.StoreName.name.setting c.take_point.new.seat (m + c.args.points)) c.from_residual.result _ c.from_residual.ensures.1
+    (full_to g.N.StoreName.name.setting c.take_point.new.seat (point_of c.loop.seat + 1) (m + c.args.points) _ (omega (arith, before, c.loop-test.true)) c.in_err-take_point.ensures.full)
 
 pub returns-clause-cycled : goal.returns-clause-cycled
 returns-clause-cycled g c =

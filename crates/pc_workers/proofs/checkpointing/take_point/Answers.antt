@@ -86,14 +86,14 @@ returns-in_err-enter-clause-full g c =
     let a = c.args.seat.now in
     let held = c.in_err-enter.ensures.held_up in
     let same : point_of c.enter.new.seat ≡ point_of a = held.0.at_point in
-    of_refusal (IsFull (point_of a + 1)) c.from_residual.result _ c.from_residual.ensures.1 (is_full st c.enter.new.seat (point_of a + 1) _ (λ rest. omega (arith, same)) held.1)
+    of_refusal (IsFull st c.enter.new.seat (point_of a + 1)) c.from_residual.result _ c.from_residual.ensures.1 (is_full st c.enter.new.seat (point_of a + 1) _ (λ rest. omega (arith, same)) held.1)
 
 pub returns-in_err-enter-2-clause-full : goal.returns-in_err-enter-2-clause-full
 returns-in_err-enter-2-clause-full g c =
     let st = g.N.StoreName.name.setting in
     let a = c.args.seat.now in
     let held = c.in_err-enter-2.ensures.held_up in
-    of_refusal (IsFull (point_of a + 1)) c.from_residual-in_err-enter-2.result _ c.from_residual-in_err-enter-2.ensures.1
+    of_refusal (IsFull st c.enter-2.new.seat (point_of a + 1)) c.from_residual-in_err-enter-2.result _ c.from_residual-in_err-enter-2.ensures.1
     (is_full_in st c.enter-2.new.seat Prepare (point_of a + 1) _ (λ e. cc) (held.0.in_phase ∙ (to_prepare st a c.enter.new.seat c.requires.rest c.in_ok-enter.ensures.turned).in_phase) held.1)
 
 pub returns-in_err-enter-3-clause-full : goal.returns-in_err-enter-3-clause-full
@@ -101,7 +101,7 @@ returns-in_err-enter-3-clause-full g c =
     let st = g.N.StoreName.name.setting in
     let a = c.args.seat.now in
     let held = c.in_err-enter-3.ensures.held_up in
-    of_refusal (IsFull (point_of a + 1)) c.from_residual-in_err-enter-3.result _ c.from_residual-in_err-enter-3.ensures.1
+    of_refusal (IsFull st c.enter-3.new.seat (point_of a + 1)) c.from_residual-in_err-enter-3.result _ c.from_residual-in_err-enter-3.ensures.1
     (is_full_in st c.enter-3.new.seat Resolve (point_of a + 1) _ (λ e. cc) (held.0.in_phase ∙ (to_resolve st a c.enter.new.seat c.enter-2.new.seat c.requires.rest c.in_ok-enter.ensures.turned c.in_ok-enter-2.ensures.turned).in_phase) held.1)
 
 pub returns-in_err-take_keys-clause-full : goal.returns-in_err-take_keys-clause-full
@@ -109,7 +109,7 @@ returns-in_err-take_keys-clause-full g c =
     let st = g.N.StoreName.name.setting in
     let a = c.args.seat.now in
     let held = c.in_err-take_keys.ensures.held_up in
-    of_refusal (IsFull (point_of a + 1)) c.from_residual-in_err-take_keys.result _ c.from_residual-in_err-take_keys.ensures.1
+    of_refusal (IsFull st c.take_keys.new.seat (point_of a + 1)) c.from_residual-in_err-take_keys.result _ c.from_residual-in_err-take_keys.ensures.1
     (is_full_in st c.take_keys.new.seat Capture (point_of a + 1) _ (λ e. cc) (held.0.in_phase ∙ (to_capture st a c.enter.new.seat c.enter-2.new.seat c.enter-3.new.seat c.requires.rest c.in_ok-enter.ensures.turned c.in_ok-enter-2.ensures.turned c.in_ok-enter-3.ensures.turned).in_phase) held.1)
 
 pub returns-in_err-complete-clause-full : goal.returns-in_err-complete-clause-full
@@ -117,7 +117,7 @@ returns-in_err-complete-clause-full g c =
     let st = g.N.StoreName.name.setting in
     let a = c.args.seat.now in
     let held = c.in_err-complete.ensures.held_up in
-    of_refusal (IsFull (point_of a + 1)) c.from_residual-in_err-complete.result _ c.from_residual-in_err-complete.ensures.1
+    of_refusal (IsFull st c.complete.new.seat (point_of a + 1)) c.from_residual-in_err-complete.result _ c.from_residual-in_err-complete.ensures.1
     (is_full_in st c.complete.new.seat Capture (point_of a + 1) _ (λ e. cc) (held.0.in_phase ∙ c.in_ok-take_keys.ensures.stood.in_phase ∙ (to_capture st a c.enter.new.seat c.enter-2.new.seat c.enter-3.new.seat c.requires.rest c.in_ok-enter.ensures.turned c.in_ok-enter-2.ensures.turned c.in_ok-enter-3.ensures.turned).in_phase) held.1)
 
 pub returns-in_err-enter-4-clause-full : goal.returns-in_err-enter-4-clause-full
@@ -125,7 +125,7 @@ returns-in_err-enter-4-clause-full g c =
     let st = g.N.StoreName.name.setting in
     let a = c.args.seat.now in
     let held = c.in_err-enter-4.ensures.held_up in
-    of_refusal (IsFull (point_of a + 1)) c.from_residual-in_err-enter-4.result _ c.from_residual-in_err-enter-4.ensures.1
+    of_refusal (IsFull st c.enter-4.new.seat (point_of a + 1)) c.from_residual-in_err-enter-4.result _ c.from_residual-in_err-enter-4.ensures.1
     (is_full_in st c.enter-4.new.seat Complete (point_of a + 1) _ (λ e. cc) (held.0.in_phase ∙ (to_complete st a c.enter-3.new.seat c.take_keys.new.seat c.complete.new.seat (to_capture st a c.enter.new.seat c.enter-2.new.seat c.enter-3.new.seat c.requires.rest c.in_ok-enter.ensures.turned c.in_ok-enter-2.ensures.turned c.in_ok-enter-3.ensures.turned) c.in_ok-take_keys.ensures.stood c.in_ok-complete.ensures.turned).in_phase) held.1)
 
 pub returns-clause-reached : goal.returns-clause-reached

@@ -4,19 +4,22 @@ use Rattle.std.proofs.lemmas.Result.{err_from_is_err_and}
 use Rattle.pc_model.specs.History.{History, point_of}
 use Rattle.pc_workers.specs.Checkpointing.{HasCycled}
 use Rattle.pc_workers.proofs.WholeCycles.{cycled_on}
-use Rattle.pc_threads.proofs.FullLaws.{full_stops}
+use Rattle.pc_threads.proofs.FullLaws.{few_files, full_stops}
 use Rattle.pc_threads.proofs.StopLaws.{more_end}
 use Rattle.pc_threads.proofs.points.Checkpointer.take.Goals as goal
 
 pub returns-in_err-checkpoint_loop-clause-ended : goal.returns-in_err-checkpoint_loop-clause-ended
-returns-in_err-checkpoint_loop-clause-ended g c before next cycled =
+returns-in_err-checkpoint_loop-clause-ended g c before next few cycled =
+    let st = g.N.StoreName.name.setting in
+    let broken = c.in_err-checkpoint_loop.ensures.broken_off in
     let p = err_from_is_err_and c.from_residual.result c.from_residual.ensures.1 in
     let at : point_of c.args.self.at_store ≡ 0 + before = cycled.at_point in
     rw (p.1, p.2)
-    (full_stops (is_some c.args.self.folder) 0 c.args.point (point_of c.args.self.at_store + 1) _ (omega (arith, at, next)) (omega (arith, next)) c.in_err-checkpoint_loop.ensures.full)
+    (full_stops st c.checkpoint_loop.new.seat (is_some c.args.self.folder) 0 c.args.point (point_of c.args.self.at_store + 1) _ (omega (arith, at, next)) (omega (arith, next))
+    (few_files st before c.args.point c.args.self.at_store c.checkpoint_loop.new.seat _ _ _ next few cycled broken) c.in_err-checkpoint_loop.ensures.full)
 
 pub returns-in_err-write_point-in-Some-clause-ended : goal.returns-in_err-write_point-in-Some-clause-ended
-returns-in_err-write_point-in-Some-clause-ended g c before next cycled =
+returns-in_err-write_point-in-Some-clause-ended g c before next few cycled =
     let st = g.N.StoreName.name.setting in
     let p = err_from_is_err_and c.from_residual-in_err-write_point-in-Some.result c.from_residual-in_err-write_point-in-Some.ensures.1 in
     let seat : History = c.checkpoint_loop.new.seat in
