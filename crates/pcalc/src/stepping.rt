@@ -66,7 +66,15 @@ fn step<R: Read + Drop, E: Write>(
     let rt = explainer.rt;
     let mut out = Tally::new(output_before(rt, explainer.causes, io::writer(rt))?);
     let setup = setup_of(options);
-    Ok(run_script(rt.alloc(), setup, seed, options.script, opened, &mut out, errors))
+    Ok(run_script(
+        rt.alloc(),
+        setup,
+        seed,
+        options.script,
+        opened,
+        &mut out,
+        errors,
+    ))
 }
 
 // The same; then it is told of each bad line why it is one. The script is read before, since it may be a pipe.
