@@ -145,3 +145,8 @@ returns-in_err-left-clause-ended g c =
     rw (p.1, p.2, untold.1)
     (untold_ends st c.args.workload (is_some c.args.folder) closed.world.log (drop c.in_ok-tickets.singles closed.parts.items) untold.0 worth
     (subst (HaveJustTo c.args.workload.points) (sym joined) c.in_ok-ended.ensures.cover) untold.2)
+
+pub returns-in_err-folder-clause-run : goal.returns-in_err-folder-clause-run
+returns-in_err-folder-clause-run g c =
+    let p = err_from_is_err_and c.from_residual-in_err-folder.result c.from_residual-in_err-folder.ensures.1 in
+    rw p.1 tt
