@@ -3,7 +3,7 @@ use Rattle.std.specs.Prelude.{◌||◌, is_some}
 use Rattle.std.proofs.lemmas.Result.{err_from_is_err_and}
 use Rattle.pc_threads.specs.Clients.{clients_in, transactions_in}
 use Rattle.pc_threads.specs.Faults.{LogHasStopped}
-use Rattle.pc_threads.proofs.StopLaws.{hands_end, logger_ends}
+use Rattle.pc_threads.proofs.StopLaws.{logger_ends}
 use Rattle.pc_threads.proofs.threads.fn.run_threads.scope.Goals as goal
 
 pub returns-in_err-written : goal.returns-in_err-written
