@@ -10,3 +10,4 @@ mod ExamplesOfRefusals
 mod ExamplesOfAdds
 mod ExamplesOfIllegalReplies
 mod ExamplesOfRules
+mod KeyByKeyLaws

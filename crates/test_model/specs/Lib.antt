@@ -9,3 +9,4 @@ pub mod ExamplesOfRefusals
 pub mod ExamplesOfAdds
 pub mod ExamplesOfIllegalReplies
 pub mod ExamplesOfRules
+pub mod KeyByKey

@@ -10,6 +10,7 @@ ghost use Rattle.test_model.specs.ExamplesOfRefusals.{ExamplesOfRefusals};
 ghost use Rattle.test_model.specs.ExamplesOfAdds.{ExamplesOfAdds};
 ghost use Rattle.test_model.specs.ExamplesOfIllegalReplies.{ExamplesOfIllegalReplies};
 ghost use Rattle.test_model.specs.ExamplesOfRules.{LockRules, FileRules, KeyRules, LimitRules, RefusalRules, ReadRules};
+ghost use Rattle.test_model.specs.KeyByKey.{KeyByKey};
 
 /// Transactions: what they read, and what their commits leave.
 pub fn worked_examples_of_transactions()
@@ -64,4 +65,9 @@ pub fn worked_examples_of_rules()
     ensures limits { LimitRules }
     ensures refusals { RefusalRules }
     ensures reads { ReadRules }
+{}
+
+/// What parts, joins and layings come to of each key, whatever the sets.
+pub fn definitions_key_by_key()
+    ensures { KeyByKey }
 {}

@@ -5,7 +5,7 @@
 mod examples;
 
 pub use examples::{
-    illegal_replies, worked_examples_of_adds, worked_examples_of_capacity,
+    definitions_key_by_key, illegal_replies, worked_examples_of_adds, worked_examples_of_capacity,
     worked_examples_of_files, worked_examples_of_headlines, worked_examples_of_locks,
     worked_examples_of_points, worked_examples_of_refusals, worked_examples_of_rules,
     worked_examples_of_transactions,
