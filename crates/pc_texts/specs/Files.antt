@@ -1,13 +1,16 @@
 -- Files that may have been opened: what they hold, and what is told of a fault.
-use Rattle.std.specs.Prelude.{◌≡◌, ◌⊎◌, ℕ, List, ◌++◌, codes, Option, MatchResult, Some, Ok, Err, IsOk}
+use Rattle.std.specs.Prelude.{◌≡◌, ℕ, List, ◌++◌, codes, Option, Some, Ok, Err, IsOk}
 use Rattle.std.specs.declared.result.Result.{Result}
 use Rattle.pc_types.specs.Names.{name_of}
 use Rattle.pc_types.specs.declared.refusal.Refusal.{Refusal}
 use Rattle.pc_types.specs.declared.refusal.Refusal.TheVariants.{OutOfMemory, Device}
-use Rattle.pc_types.specs.Tallies.{Puts}
+use Rattle.pc_types.specs.Counted.{HasRisen}
+use Rattle.pc_types.specs.Tallies.{Puts, failures_of}
 use Rattle.pc_types.specs.declared.tally.Tally.{Tally}
 use Rattle.std.specs.List.{All}
 use Rattle.pc_texts.specs.declared.files.NamedFile.{NamedFile}
+use Rattle.pc_texts.specs.declared.files.Unread.{Unread}
+use Rattle.pc_texts.specs.declared.files.Unread.TheVariants as unread
 use Rattle.pc_texts.specs.Texts.{printed_name}
 
 -- the line that tells something of a file, by its name as printed
@@ -18,9 +21,18 @@ line_about name words = (codes "pcalc: " ++ printed_name name) ++ (codes ": " ++
 abbrev pub report_text : List ℕ → Refusal → List ℕ
 report_text name why = line_about name (name_of why)
 
--- why there is no status of the script's own: it isn't there, or else it couldn't be read or memory ran out
-abbrev pub IsScriptFault : {R : Type 0} → Result R Refusal → Refusal → Type 0
-IsScriptFault opened why = MatchResult opened (λ reader. (why ≡ OutOfMemory) ⊎ (why ≡ Device)) (λ absent. why ≡ absent)
+-- The bytes of a file can't be had for this: it wasn't opened, and just why; or it was, and memory ran out; or the device failed in a
+-- read of it, which the reader that is handed back has counted, from 0.
+abbrev pub IsUnread : {R : Type 0} → Result R Refusal → Unread R → Type 0
+IsUnread opened (unread.Absent why) = opened ≡ Err why
+IsUnread opened unread.NoMemory = IsOk opened
+IsUnread opened (unread.Failed reader) = IsOk opened × HasRisen 0 (failures_of reader)
+
+-- the refusal by which it is told
+abbrev pub refusal_of : {R : Type 0} → Unread R → Refusal
+refusal_of (unread.Absent why) = why
+refusal_of unread.NoMemory = OutOfMemory
+refusal_of (unread.Failed reader) = Device
 
 -- a file that was opened holds these bytes
 abbrev pub HoldsBytes : {R : Type 0} → (R → Option (List ℕ)) → Result R Refusal → List ℕ → Type 0

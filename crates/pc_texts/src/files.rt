@@ -3,7 +3,7 @@ ghost use Rattle.std.specs.Prelude.{◌≡◌, ◌++◌, codes, IsOk, IfOk, IfEr
 ghost use Rattle.std.specs.declared.result.Result.{Result};
 ghost use Rattle.pc_types.specs.declared.refusal.Refusal.{Refusal};
 ghost use Rattle.pc_types.specs.Tallies.{Puts};
-ghost use Rattle.pc_texts.specs.Files.{IsScriptFault, line_about, report_text};
+ghost use Rattle.pc_texts.specs.Files.{IsUnread, line_about, refusal_of, report_text};
 ghost use Rattle.pc_texts.specs.Texts.{printed_name};
 
 use crate::texts::put_name;
@@ -18,22 +18,51 @@ pub struct NamedFile<R> {
     pub opened: Result<R, Refusal>,
 }
 
-/// All bytes of a file, or why they can't be had: it can't be opened or read, or memory ran out.
+/// Why the bytes of a file can't be had.
+#[derive(Drop)]
+pub enum Unread<R> {
+    /// It can't be opened, for this reason.
+    Absent(Refusal),
+    /// Memory ran out.
+    NoMemory,
+    /// The device failed in a read of the file, which has counted that.
+    Failed(Tally<R>),
+}
+
+impl<R> Unread<R> {
+    /// The refusal by which it is told.
+    pub fn refusal(&self) -> Refusal
+        ensures { result ≡ refusal_of self.now }
+    {
+        match self {
+            Unread::Absent(why) => *why,
+            Unread::NoMemory => Refusal::OutOfMemory,
+            Unread::Failed(_) => Refusal::Device,
+        }
+    }
+}
+
+/// All bytes of a file, or why they can't be had: it can't be opened or read, or memory ran out. Of a file that can't be read the
+/// reader is handed back, which has counted the read that failed.
 pub fn read_opened<R: Read + Drop>(
     alloc: Global,
     opened: Result<R, Refusal>,
-) -> Result<Vec<u8>, Refusal>
+) -> Result<Vec<u8>, Unread<R>>
     ensures opened { OnOk result (IsOk opened) }
     ensures script { IfOk result (λ bytes. IfOk opened (λ reader. IfSome (R.remaining reader) (λ script. bytes.items ≡ script))) }
-    ensures unopened { IfErr opened (λ why. result ≡ Err why) }
-    ensures cause { IfErr result (IsScriptFault opened) }
+    ensures unopened { IfErr opened (λ why. result ≡ Err (Unread.Absent why)) }
+    ensures cause { IfErr result (IsUnread opened) }
 {
     match opened {
         Ok(reader) => {
             let mut reader = Tally::new(reader);
-            read_all(alloc, &mut reader)
+            match read_all(alloc, &mut reader) {
+                Ok(bytes) => Ok(bytes),
+                Err(Refusal::Device) => Err(Unread::Failed(reader)),
+                Err(_) => Err(Unread::NoMemory),
+            }
         }
-        Err(why) => Err(why),
+        Err(why) => Err(Unread::Absent(why)),
     }
 }
 

@@ -8,7 +8,7 @@ mod output;
 mod texts;
 
 pub use file_names::{FileName, part_name};
-pub use files::{NamedFile, read_opened, report, report_words};
+pub use files::{NamedFile, Unread, read_opened, report, report_words};
 pub use output::end_output;
 pub use texts::{
     put_check, put_collapsed, put_joined, put_name, put_pairs, put_reason, put_reply, put_state,
