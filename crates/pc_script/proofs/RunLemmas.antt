@@ -16,8 +16,11 @@ use Rattle.pc_script.specs.Runs.{AnswersInPart}
 use Rattle.pc_lines.specs.Lines.{lines_in}
 use Rattle.pc_script.specs.Scripts.{IsScriptAnswered, IsAnsweredInPart}
 use Rattle.pc_script.specs.Scripts.ScriptStage.{Reading}
-use Rattle.pc_texts.specs.Files.{IsScriptFault}
 use Rattle.pc_texts.specs.Outputs.{IsUnprinted}
+use Rattle.pc_texts.specs.declared.files.Unread.{Unread}
+use Rattle.pc_texts.specs.declared.files.Unread.TheVariants as unread
+use Rattle.pc_script.specs.declared.run.ScriptFault.{ScriptFault}
+use Rattle.pc_script.specs.declared.run.ScriptFault.TheVariants as fault
 use Rattle.pc_texts.proofs.Begun.{appends_kept, begins_kept, whole_begins}
 
 -- a beginning of what some first lines print went out
@@ -98,14 +101,8 @@ module _ {T : Type 0} (a b c : Tally T) where
   output_failed (Err e) (inl memory) device sound (inr both) = omega (arith, both.1, sound (λ (is : Err e ≡ Err Device). cc))
   output_failed (Err e) (inr is) device sound (inr both) = omega (arith, both.1, device (ap Err is))
 
-  -- for another reason memory ran out
-  pub memory_failed : (answered : Result Status Refusal) (why : Refusal) → IfErr answered (λ e. (e ≡ OutOfMemory) ⊎ (e ≡ Device)) → why ≢ Device → IsUnprinted answered b c why → why ≡ OutOfMemory
-  memory_failed (Ok status) why refusals other (inl both) = absurd (let no : Ok status ≡ Err why = both.0 in cc)
-  memory_failed (Err e) why (inl memory) other (inl both) = let is : Err e ≡ Err why = both.0 in cc
-  memory_failed (Err e) why (inr device) other (inl both) = absurd (other (let is : Err e ≡ Err why = both.0 in cc))
-  memory_failed answered why refusals other (inr both) = absurd (other both.0)
-
--- memory may run out for any script that was opened
-pub memory_faults : {R : Type 0} (opened : Result R Refusal) (why : Refusal) → IsOk opened → why ≡ OutOfMemory → IsScriptFault opened why
-memory_faults (Ok reader) why is memory = inl memory
-memory_faults (Err absent) why is memory = absurd (let no : false ≡ true = is in cc)
+-- what keeps a script's bytes from being had keeps its run from a status of its own
+pub unopened_faults : {R T X : Type 0} (opened : Result R Refusal) (read : Result X (Unread R)) (why : Unread R) (answered : Result Status (ScriptFault R)) (out : Tally T) → read ≡ Err why → answered ≡ Err (fault.Script why)
+    → IfErr opened (λ absent. read ≡ Err (unread.Absent absent)) → IfErr opened (λ absent. (answered ≡ Err (fault.Script (unread.Absent absent))) × (out ≡ out))
+unopened_faults (Ok reader) read why answered out is faults unopened = tt
+unopened_faults (Err absent) read why answered out is faults unopened = (cc, refl)

@@ -1,9 +1,8 @@
 -- The exit status of a run, and what it tells of a fault.
-use Rattle.std.specs.Prelude.{◌≡◌, ◌⊎◌, ℕ, List, Option, IsOk, IfOk, IfSome}
+use Rattle.std.specs.Prelude.{◌≡◌, ◌⊎◌, ℕ, List, Option, IsOk, IfOk, IfSome, MatchOption}
 use Rattle.std.specs.declared.result.Result.{Result}
 use Rattle.std.specs.Io.KnownBytes.{Appends}
 use Rattle.pc_types.specs.declared.refusal.Refusal.{Refusal}
-use Rattle.pc_types.specs.declared.refusal.Refusal.TheVariants.{OutOfMemory}
 use Rattle.pc_types.specs.Counted.{HasRisen, AppendsBeginning}
 use Rattle.pc_types.specs.Tallies.{inner_of, failures_of}
 use Rattle.pc_types.specs.declared.tally.Tally.{Tally}
@@ -13,7 +12,9 @@ use Rattle.pc_script.specs.declared.run.ScriptFault.TheVariants as fault
 use Rattle.pc_script.specs.declared.script.Status.{Status}
 use Rattle.pc_script.specs.declared.script.Status.TheVariants as status
 use Rattle.pc_script.specs.Scripts.{IsScriptAnswered, IsAnsweredInPart}
-use Rattle.pc_texts.specs.Files.{IsScriptFault}
+use Rattle.pc_texts.specs.Files.{IsUnread, refusal_of}
+use Rattle.pc_texts.specs.declared.files.Unread.{Unread}
+use Rattle.pc_texts.specs.declared.files.Unread.TheVariants as unread
 
 -- the exit status of a script that was answered
 abbrev pub exit_of : Status → ℕ
@@ -23,11 +24,11 @@ exit_of status.NoStore = 1
 
 -- A script has no status of its own for this reason. Where it isn't there or couldn't be read, the output is as it was; else
 -- memory ran out for a line of it.
-abbrev pub IsScriptUnanswered : {R T : Type 0} → Result R Refusal → Tally T → Tally T → Refusal → Type 0
-IsScriptUnanswered opened old new why = IsScriptFault opened why × ((new ≡ old) ⊎ (why ≡ OutOfMemory))
+abbrev pub IsScriptUnanswered : {R T : Type 0} → Result R Refusal → Tally T → Tally T → Unread R → Type 0
+IsScriptUnanswered opened old new why = IsUnread opened why × ((new ≡ old) ⊎ (why ≡ unread.NoMemory))
 
 -- a run ended without a status of the script's own, for a fault of the script, or for one of the output, which was counted
-abbrev pub IsFault : {R T : Type 0} → Result R Refusal → Tally T → Tally T → ScriptFault → Type 0
+abbrev pub IsFault : {R T : Type 0} → Result R Refusal → Tally T → Tally T → ScriptFault R → Type 0
 IsFault opened old new (fault.Script why) = IsScriptUnanswered opened old new why
 IsFault opened old new fault.Output = HasRisen (failures_of old) (failures_of new)
 
@@ -43,7 +44,7 @@ AnswersInPart remaining contents setup opened old new = IfOk opened (λ reader. 
     (text : List ℕ) × AppendsBeginning (contents (inner_of old)) (contents (inner_of new)) text × IsAnsweredInPart setup script text))
 
 -- Why the status is 1, and what is told of it: the output failed, which was counted, or the store couldn't be made, and nothing is told;
--- or there is a reason, which is.
-abbrev pub IsCause : {R T : Type 0} → (R → Option (List ℕ)) → (T → Option (List ℕ)) → Setup → Result R Refusal → Tally T → Tally T → Type 0 → (Refusal → Type 0) → Type 0
-IsCause remaining contents setup opened old new Quiet Told = (HasRisen (failures_of old) (failures_of new) × Quiet)
-    ⊎ (((why : Refusal) × IsScriptUnanswered opened old new why × Told why) ⊎ (Quiet × AnswersAll remaining contents setup opened old new status.NoStore))
+-- or there is a reason, which is handed back, and by its refusal is told.
+abbrev pub IsCause : {R T : Type 0} → (R → Option (List ℕ)) → (T → Option (List ℕ)) → Setup → Result R Refusal → Tally T → Tally T → Option (Unread R) → Type 0 → (Refusal → Type 0) → Type 0
+IsCause remaining contents setup opened old new handed Quiet Told = (HasRisen (failures_of old) (failures_of new) × Quiet)
+    ⊎ (MatchOption handed ⊥ (λ why. IsScriptUnanswered opened old new why × Told (refusal_of why)) ⊎ (Quiet × AnswersAll remaining contents setup opened old new status.NoStore))

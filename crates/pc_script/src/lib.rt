@@ -6,6 +6,6 @@ mod script;
 mod setup;
 mod views;
 
-pub use run::run_script;
+pub use run::{EndedScript, run_script};
 pub use script::Status;
 pub use setup::Setup;

@@ -7,10 +7,11 @@ ghost use Rattle.pc_types.specs.Counted.{HasRisen};
 ghost use Rattle.pc_script.specs.declared.script.Status.{Status};
 ghost use Rattle.pc_script.specs.Runs.{exit_of, AnswersAll, AnswersInPart, IsCause, IsFault};
 ghost use Rattle.pc_texts.specs.Files.{TellsOf};
+ghost use Rattle.pc_texts.specs.declared.files.Unread.TheVariants as Unread;
 
 use crate::script::{Status, answer_script};
 use crate::setup::Setup;
-use pc_texts::{end_output, read_opened, report};
+use pc_texts::{Unread, end_output, read_opened, report};
 use pc_types::{Refusal, Tally};
 use std::alloc::Global;
 use std::hash::RandomState;
@@ -18,11 +19,19 @@ use std::io::{Read, Write};
 
 /// Why a run ended without a status of the script's own.
 #[derive(Drop)]
-enum ScriptFault {
+enum ScriptFault<R> {
     /// The script isn't there, can't be read, or is too large for memory.
-    Script(Refusal),
+    Script(Unread<R>),
     /// The output failed.
     Output,
+}
+
+/// How the run of a script has ended.
+#[derive(Drop)]
+pub struct EndedScript<R> {
+    pub status: u8,
+    /// Why the script isn't answered to its end, where that is told: it isn't there, can't be read, or is too large for memory.
+    pub unread: Option<Unread<R>>,
 }
 
 /// Reads a script, answers its lines and gives the exit status: 0 where each line was answered, 3 where some line is a
@@ -40,20 +49,30 @@ pub fn run_script<R: Read + Drop, W: Write, E: Write>(
     opened: Result<R, Refusal>,
     out: &mut Tally<W>,
     errors: &mut Tally<E>,
-) -> u8
-    ensures answered { ¬ (result ≡ 1) → (status : Status) × (result ≡ exit_of status) × AnswersAll R.remaining W.contents setup opened out.old out.new status }
-    ensures quiet { ¬ (result ≡ 1) → Keeps (E.contents (inner_of errors.old)) (E.contents (inner_of errors.new)) }
-    ensures told { IfErr opened (λ why. (result ≡ 1) × (out.new ≡ out.old) × TellsOf E.contents errors.old errors.new name.now why) }
-    ensures in_part { result ≡ 1 → AnswersInPart R.remaining W.contents setup opened out.old out.new }
-    ensures cause { result ≡ 1 → IsCause R.remaining W.contents setup opened out.old out.new (errors.new ≡ errors.old) (TellsOf E.contents errors.old errors.new name.now) }
+) -> EndedScript<R>
+    ensures answered { ¬ (result.status ≡ 1) → (status : Status) × (result.status ≡ exit_of status) × AnswersAll R.remaining W.contents setup opened out.old out.new status }
+    ensures quiet { ¬ (result.status ≡ 1) → Keeps (E.contents (inner_of errors.old)) (E.contents (inner_of errors.new)) }
+    ensures told { IfErr opened (λ why. (result.status ≡ 1) × (out.new ≡ out.old) × TellsOf E.contents errors.old errors.new name.now why) }
+    ensures in_part { result.status ≡ 1 → AnswersInPart R.remaining W.contents setup opened out.old out.new }
+    ensures cause { result.status ≡ 1 → IsCause R.remaining W.contents setup opened out.old out.new result.unread (errors.new ≡ errors.old) (TellsOf E.contents errors.old errors.new name.now) }
 {
     match answer_opened(alloc, setup, seed, opened, out) {
-        Ok(status) => exit_code(status),
-        Err(ScriptFault::Script(why)) => {
-            let _ = report(name.as_bytes(), why, errors);
-            1
+        Ok(status) => {
+            let status = exit_code(status);
+            EndedScript {
+                status,
+                unread: None,
+            }
         }
-        Err(ScriptFault::Output) => 1,
+        Err(ScriptFault::Script(why)) => {
+            let _ = report(name.as_bytes(), why.refusal(), errors);
+            let unread = Some(why);
+            EndedScript { status: 1, unread }
+        }
+        Err(ScriptFault::Output) => EndedScript {
+            status: 1,
+            unread: None,
+        },
     }
 }
 
@@ -73,9 +92,9 @@ fn answer_opened<R: Read + Drop, W: Write>(
     seed: RandomState,
     opened: Result<R, Refusal>,
     out: &mut Tally<W>,
-) -> Result<Status, ScriptFault>
+) -> Result<Status, ScriptFault<R>>
     ensures answered { IfOk result (AnswersAll R.remaining W.contents setup opened out.old out.new) }
-    ensures unopened { IfErr opened (λ why. (result ≡ Err (ScriptFault.Script why)) × (out.new ≡ out.old)) }
+    ensures unopened { IfErr opened (λ why. (result ≡ Err (ScriptFault.Script (Unread.Absent why))) × (out.new ≡ out.old)) }
     ensures in_part { AnswersInPart R.remaining W.contents setup opened out.old out.new }
     ensures cause { IfErr result (IsFault opened out.old out.new) }
 {
@@ -87,6 +106,6 @@ fn answer_opened<R: Read + Drop, W: Write>(
     match end_output(answered, out) {
         Ok(status) => Ok(status),
         Err(Refusal::Device) => Err(ScriptFault::Output),
-        Err(why) => Err(ScriptFault::Script(why)),
+        Err(_) => Err(ScriptFault::Script(Unread::NoMemory)),
     }
 }

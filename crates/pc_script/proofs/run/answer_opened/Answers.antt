@@ -1,6 +1,5 @@
-use Rattle.std.proofs.Common.{◌≡◌, ◌∙◌, inr, rules}
-use Rattle.pc_types.specs.declared.refusal.Refusal.TheVariants.{Device}
-use Rattle.pc_script.proofs.RunLemmas.{all_of_read, part_of_read, in_part_of_none, not_lost, output_failed, memory_failed, memory_faults}
+use Rattle.std.proofs.Common.{◌∙◌, inl, inr, refl}
+use Rattle.pc_script.proofs.RunLemmas.{all_of_read, part_of_read, in_part_of_none, not_lost, output_failed, unopened_faults}
 use Rattle.pc_script.proofs.run.answer_opened.Goals as goal
 
 pub returns-in-Err-clause-in_part : goal.returns-in-Err-clause-in_part
@@ -30,7 +29,11 @@ pub returns-clause-in_part : goal.returns-clause-in_part
 returns-clause-in_part g c =
     part_of_read g.R.Read.remaining g.W.Write.contents c.args.setup c.args.out.now c.answer_script-answered.new.out c.end_output.new.out c.args.opened c.in-Ok.script.items c.in-Ok.ensures.script c.answer_script-answered.result (rw c.deref.ensures.value at c.answer_script-answered.ensures.answered) c.in-Err-end_output.ensures.stays (rw c.deref.ensures.value at c.answer_script-answered.ensures.in_part)
 
+pub returns-in-Err-clause-unopened : goal.returns-in-Err-clause-unopened
+returns-in-Err-clause-unopened g c = unopened_faults c.args.opened c.read_opened.result c.in-Err.why _ c.args.out.now c.in-Err.is refl c.read_opened.ensures.unopened
+
+pub returns-in-Err-clause-cause : goal.returns-in-Err-clause-cause
+returns-in-Err-clause-cause g c = (c.in-Err.ensures.cause, inl refl)
+
 pub returns-clause-cause : goal.returns-clause-cause
-returns-clause-cause g c =
-    let memory = memory_failed c.args.out.now c.answer_script-answered.new.out c.end_output.new.out c.answer_script-answered.result c.in-Err-end_output.why c.answer_script-answered.ensures.refusals (λ (is : c.in-Err-end_output.why ≡ Device). search rules) c.in-Err-end_output.ensures.unprinted in
-    (memory_faults c.args.opened c.in-Err-end_output.why c.in-Ok.ensures.opened memory, inr memory)
+returns-clause-cause g c = (c.in-Ok.ensures.opened, inr refl)
