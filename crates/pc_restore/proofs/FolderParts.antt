@@ -5,10 +5,10 @@ use Rattle.std.proofs.lemmas.List.{append-nil}
 use Rattle.std.proofs.lemmas.List.Elements.{All-nil, All-push}
 use Rattle.pc_texts.specs.declared.files.NamedFile.{NamedFile}
 use Rattle.pc_restore.specs.declared.recovery.PartBytes.{PartBytes}
-use Rattle.pc_types.specs.declared.refusal.Refusal.{Refusal}
 use Rattle.pc_restore.specs.declared.recovery.Lost.{Lost}
 use Rattle.pc_restore.specs.declared.recovery.Lost.TheVariants.{Part}
-use Rattle.pc_texts.specs.Files.{IsScriptFault, HoldsBytes, AreOpened}
+use Rattle.pc_texts.specs.Files.{IsUnread, HoldsBytes, AreOpened}
+use Rattle.pc_texts.specs.declared.files.Unread.{Unread}
 use Rattle.pc_restore.specs.Recoveries.{HoldEach, IsEachLost, names_of, bytes_of}
 
 -- what all files hold is what was read and what the files left hold
@@ -67,5 +67,5 @@ pub all_opened : {R : Type 0} (files left : List (NamedFile R)) → left ≡ [] 
 all_opened files left none are = subst AreOpened (sym (are.1 ∙ ap (λ xs. are.0 ++ xs) none ∙ append-nil are.0)) are.2
 
 -- the first one left that can't be read is the first of the files
-pub part_lost : {R : Type 0} (files left : List (NamedFile R)) (file : NamedFile R) (why : Refusal) (lost : Lost) → AreLeft files (file ∷ left) → lost ≡ Part file.name why → IsScriptFault file.opened why → IsEachLost files lost
+pub part_lost : {R : Type 0} (files left : List (NamedFile R)) (file : NamedFile R) (why : Unread R) (lost : Lost R) → AreLeft files (file ∷ left) → lost ≡ Part file.name why → IsUnread file.opened why → IsEachLost files lost
 part_lost files left file why lost are is fault = subst (IsEachLost files) (sym is) (are.0, file, left, are.1, are.2, refl, fault)

@@ -26,7 +26,7 @@ pub same_lacks : (is_there other_is_there : Bool) (log other_log : List ℕ) (fo
 same_lacks is_there other_is_there log other_log found lacks a b is = rw (← a, ← b) is
 
 -- where it isn't the output that failed, nothing went out
-pub nothing_out : {R T : Type 0} (remaining : R → Option (List ℕ)) (contents : T → Option (List ℕ)) (folder : Folder R) (out : Tally T) (cause : Lost) → cause ≢ lost.Output → GoesOutUnrecovered remaining contents folder out out cause
+pub nothing_out : {R T : Type 0} (remaining : R → Option (List ℕ)) (contents : T → Option (List ℕ)) (folder : Folder R) (out : Tally T) (cause : Lost R) → cause ≢ lost.Output → GoesOutUnrecovered remaining contents folder out out cause
 nothing_out remaining contents folder out (lost.Base why) other = refl
 nothing_out remaining contents folder out (lost.Part name why) other = refl
 nothing_out remaining contents folder out (lost.Log why) other = refl

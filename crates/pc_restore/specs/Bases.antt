@@ -54,7 +54,7 @@ pub record IsRefusedAsDamaged {R T : Type 0} (remaining : R → Option (List ℕ
       (run : ℕ) × (found : Recovery) × AreBytesWorth base parts log run found × ¬ HasNoNext run found × (is_damaged (lacks_of (is_ok folder.log) log found) ≡ true) × TellsDamage contents old new names found
 
 -- Why no base is made of a folder: nothing is recovered, or there is no base of it, and nothing was told; or it is damaged.
-abbrev pub IsBaseUnmade : {R T : Type 0} → (R → Option (List ℕ)) → (T → Option (List ℕ)) → Folder R → Bool → Tally T → Tally T → Lost → Type 0
+abbrev pub IsBaseUnmade : {R T : Type 0} → (R → Option (List ℕ)) → (T → Option (List ℕ)) → Folder R → Bool → Tally T → Tally T → Lost R → Type 0
 IsBaseUnmade remaining contents folder accepts_damage old new cause =
     ((new ≡ old) × ((IsLost remaining folder cause × (cause ≢ lost.Output)) ⊎ ((cause ≡ lost.Folder Full) × AreAllOpened folder × IsPastLimits remaining folder)))
     ⊎ ((cause ≡ lost.Damaged) × IsRefusedAsDamaged remaining contents folder accepts_damage old new)

@@ -17,7 +17,9 @@ use Rattle.pc_restore.specs.declared.recovery.Lost.TheVariants as lost
 use Rattle.pc_restore.specs.declared.lacks.Lacks.{Lacks}
 use Rattle.pc_restore.specs.Lacks.{lacks_of}
 use Rattle.pc_restore.specs.Reports.{recovery_text}
-use Rattle.pc_texts.specs.Files.{IsScriptFault, HoldsBytes, AreOpened, TellsOf, line_about}
+use Rattle.pc_texts.specs.Files.{IsUnread, HoldsBytes, AreOpened, TellsOf, line_about, refusal_of}
+use Rattle.pc_texts.specs.declared.files.Unread.{Unread}
+use Rattle.pc_texts.specs.declared.files.Unread.TheVariants as unread
 
 -- the names of the parts, in their order
 abbrev pub names_of : List PartBytes → List (List ℕ)
@@ -63,23 +65,23 @@ abbrev pub AreAllOpened : {R : Type 0} → Folder R → Type 0
 AreAllOpened folder = IsOk folder.base × ArePartsOpened folder.parts × IsLogOpened folder.log
 
 -- why a log can't be had: it can't be opened or read; that it isn't there is no fault
-abbrev pub IsLogFault : {R : Type 0} → Result R Refusal → Refusal → Type 0
-IsLogFault opened why = IsScriptFault opened why × (why ≢ NoFile)
+abbrev pub IsLogFault : {R : Type 0} → Result R Refusal → Unread R → Type 0
+IsLogFault opened why = IsUnread opened why × (why ≢ unread.Absent NoFile)
 
 -- the first of the files that can't be had has this name: each before it was opened, and it can't be opened or read
-abbrev pub IsFirstLost : {R : Type 0} → List (NamedFile R) → List ℕ → Refusal → Type 0
+abbrev pub IsFirstLost : {R : Type 0} → List (NamedFile R) → List ℕ → Unread R → Type 0
 IsFirstLost {R} files name why =
     (before : List (NamedFile R)) × (file : NamedFile R) × (behind : List (NamedFile R))
-    × (files ≡ before ++ file ∷ behind) × AreOpened before × (file.name.items ≡ name) × IsScriptFault file.opened why
+    × (files ≡ before ++ file ∷ behind) × AreOpened before × (file.name.items ≡ name) × IsUnread file.opened why
 
 -- reading the files fails at one of them, or for want of memory
-abbrev pub IsEachLost : {R : Type 0} → List (NamedFile R) → Lost → Type 0
+abbrev pub IsEachLost : {R : Type 0} → List (NamedFile R) → Lost R → Type 0
 IsEachLost files (lost.Part name why) = IsFirstLost files name.items why
 IsEachLost files (lost.Folder why) = why ≡ OutOfMemory
 IsEachLost files other = ⊥
 
 -- the same of files that may not have been listed
-abbrev pub IsListLost : {R : Type 0} → Result (Vec (NamedFile R)) Refusal → Lost → Type 0
+abbrev pub IsListLost : {R : Type 0} → Result (Vec (NamedFile R)) Refusal → Lost R → Type 0
 IsListLost (Ok files) cause = IsEachLost files.items cause
 IsListLost (Err why) cause = cause ≡ lost.Folder why
 
@@ -91,8 +93,8 @@ IsRecoveryRefused remaining folder why =
 -- Why nothing was recovered. The files are read in order, and a fault is told only where all before it were opened: first the
 -- base can't be had; then the parts can't be listed, or one of them can't be had; then the log; then the rules refuse what all of
 -- them hold; and last the output fails. That the folder is damaged keeps nothing from being recovered.
-abbrev pub IsLost : {R : Type 0} → (R → Option (List ℕ)) → Folder R → Lost → Type 0
-IsLost remaining folder (lost.Base why) = IsScriptFault folder.base why
+abbrev pub IsLost : {R : Type 0} → (R → Option (List ℕ)) → Folder R → Lost R → Type 0
+IsLost remaining folder (lost.Base why) = IsUnread folder.base why
 IsLost remaining folder (lost.Part name why) = IsOk folder.base × IsListLost folder.parts (lost.Part name why)
 IsLost remaining folder (lost.Log why) = IsOk folder.base × ArePartsOpened folder.parts × IsLogFault folder.log why
 IsLost remaining folder (lost.Folder why) = (IsOk folder.base × IsListLost folder.parts (lost.Folder why)) ⊎ (AreAllOpened folder × IsRecoveryRefused remaining folder why)
@@ -115,7 +117,7 @@ PrintsInPart remaining contents folder old new = (base : List ℕ) (names parts 
     (found : Recovery) × (recovery base parts log ≡ Ok found) × AppendsBeginning (contents (inner_of old)) (contents (inner_of new)) (recovery_text names found)
 
 -- what went out where nothing was recovered: a beginning where the output failed, which was counted, and else nothing
-abbrev pub GoesOutUnrecovered : {R T : Type 0} → (R → Option (List ℕ)) → (T → Option (List ℕ)) → Folder R → Tally T → Tally T → Lost → Type 0
+abbrev pub GoesOutUnrecovered : {R T : Type 0} → (R → Option (List ℕ)) → (T → Option (List ℕ)) → Folder R → Tally T → Tally T → Lost R → Type 0
 GoesOutUnrecovered remaining contents folder old new lost.Output = HasRisen (failures_of old) (failures_of new) × PrintsInPart remaining contents folder old new
 GoesOutUnrecovered remaining contents folder old new other = new ≡ old
 
@@ -129,10 +131,10 @@ TellsReason contents old new name reason = (told : Result (Unit {0}) Refusal) ×
 
 -- what is told on the error writer, where the folder has this name: the name of the file or the folder, and the reason; of a
 -- fault of the output nothing
-abbrev pub IsRecoveryTold : {T : Type 0} → (T → Option (List ℕ)) → Tally T → Tally T → List ℕ → Lost → Type 0
-IsRecoveryTold contents old new dir (lost.Base why) = TellsOf contents old new (codes "base.pcb") why
-IsRecoveryTold contents old new dir (lost.Part name why) = TellsOf contents old new name.items why
-IsRecoveryTold contents old new dir (lost.Log why) = TellsOf contents old new (codes "log.pcl") why
+abbrev pub IsRecoveryTold : {R T : Type 0} → (T → Option (List ℕ)) → Tally T → Tally T → List ℕ → Lost R → Type 0
+IsRecoveryTold contents old new dir (lost.Base why) = TellsOf contents old new (codes "base.pcb") (refusal_of why)
+IsRecoveryTold contents old new dir (lost.Part name why) = TellsOf contents old new name.items (refusal_of why)
+IsRecoveryTold contents old new dir (lost.Log why) = TellsOf contents old new (codes "log.pcl") (refusal_of why)
 IsRecoveryTold contents old new dir (lost.Folder why) = TellsOf contents old new dir why
 IsRecoveryTold contents old new dir lost.Damaged = TellsReason contents old new dir (codes "Damaged")
 IsRecoveryTold contents old new dir lost.Output = new ≡ old

@@ -29,7 +29,7 @@ pub fn recover_base<R: Read + Drop, E: Write>(
     folder: Folder<R>,
     accepts_damage: bool,
     errors: &mut Tally<E>,
-) -> Result<Base, Lost>
+) -> Result<Base, Lost<R>>
     ensures made { IfOk result (IsBaseMade R.remaining E.contents folder accepts_damage errors.old errors.new) }
     ensures cause { IfErr result (IsBaseUnmade R.remaining E.contents folder accepts_damage errors.old errors.new) }
 {

@@ -1,5 +1,5 @@
 //! A recovery of a folder, from its readers to how it has ended.
-ghost use Rattle.std.specs.Prelude.{◌≡◌, ◌≢◌, ◌⊎◌, ◌++◌, [], ◌∷◌, ℕ, List, Some, map, is_ok, IsOk, IfOk, IfErr, IfSome, OnOk};
+ghost use Rattle.std.specs.Prelude.{◌≡◌, ◌≢◌, ◌⊎◌, ◌++◌, [], ◌∷◌, ℕ, List, Some, map, is_ok, IsOk, IfOk, IfErr, IfSome, MatchOption, OnOk};
 ghost use Rattle.std.specs.declared.result.Result.{Result};
 ghost use Rattle.std.specs.Io.KnownBytes.{Keeps};
 ghost use Rattle.pc_types.specs.declared.refusal.Refusal.{Refusal};
@@ -9,13 +9,14 @@ ghost use Rattle.pc_model.specs.Database.{KeysRise};
 ghost use Rattle.pc_recover.specs.Recovery.{IsOfRun, recovery, recovery_of};
 ghost use Rattle.pc_restore.specs.declared.recovery.Lost.{Lost};
 ghost use Rattle.pc_restore.specs.Lacks.{lacks_of, status_of};
-ghost use Rattle.pc_texts.specs.Files.{IsScriptFault, HoldsBytes, AreOpened};
+ghost use Rattle.pc_texts.specs.Files.{IsUnread, HoldsBytes, AreOpened};
+ghost use Rattle.pc_texts.specs.declared.files.Unread.{Unread};
 ghost use Rattle.pc_restore.specs.Recoveries.{AreAllOpened, ArePartsOpened, GoesOutUnrecovered, HoldsLog, HoldEach, HoldParts, HoldsAll, IsEachLost, IsLacking, IsListLost, IsLogFault, IsLogOpened, IsLost, IsRecoveryTold, PrintsAll, bytes_of, names_of, reason_text};
 
 use crate::lacks::{Lacks, lacks_of};
 use crate::reports::put_recovered;
 use pc_recover::{Recovered, recover};
-use pc_texts::{NamedFile, end_output, read_opened, report, report_words};
+use pc_texts::{NamedFile, Unread, end_output, read_opened, report, report_words};
 use pc_types::{Refusal, Tally};
 use std::alloc::{AllocError, Global};
 use std::io::{Read, Write};
@@ -45,15 +46,15 @@ struct FolderBytes {
     log: Vec<u8>,
 }
 
-/// Why nothing is recovered.
+/// Why nothing is recovered. A file whose device failed is handed back, and has counted that.
 #[derive(Drop)]
-pub enum Lost {
+pub enum Lost<R> {
     /// The base isn't there, or can't be read.
-    Base(Refusal),
+    Base(Unread<R>),
     /// The part of this name can't be read.
-    Part(Vec<u8>, Refusal),
+    Part(Vec<u8>, Unread<R>),
     /// The log can't be read.
-    Log(Refusal),
+    Log(Unread<R>),
     /// The folder can't be listed, or its files are refused.
     Folder(Refusal),
     /// The folder is damaged, which is not accepted.
@@ -64,10 +65,12 @@ pub enum Lost {
 
 /// How a recovery has ended.
 #[derive(Drop)]
-pub struct EndedRecovery {
+pub struct EndedRecovery<R> {
     pub status: u8,
     /// What it did without, where all of it went out.
     pub lacks: Option<Lacks>,
+    /// Why not all of it went out, where it didn't.
+    pub lost: Option<Lost<R>>,
 }
 
 // The status of a strict recovery that did without something.
@@ -77,7 +80,8 @@ const LACKING: u8 = 4;
 /// rest where it was not only cut off, a line for each part that was skipped, and the pairs. Where all of that went out it tells
 /// what was lacking, and gives the status 0, or 4 where it is strict and the folder isn't whole. Else the status is 1: a file can't
 /// be opened or read, the folder can't be listed, its files are refused, or memory ran out, which a line on the error writer
-/// tells; or the output failed, of which nothing is told there.
+/// tells; or the output failed, of which nothing is told there. Then it is handed back why; a file of which `Device` is told, and
+/// that was opened, has counted the read that failed.
 pub fn run_recover<R: Read + Drop, W: Write, E: Write>(
     alloc: Global,
     dir: &str,
@@ -85,27 +89,32 @@ pub fn run_recover<R: Read + Drop, W: Write, E: Write>(
     is_strict: bool,
     out: &mut Tally<W>,
     errors: &mut Tally<E>,
-) -> EndedRecovery
+) -> EndedRecovery<R>
     ensures status { result.status ≡ status_of is_strict result.lacks }
     ensures lacks { IfSome result.lacks (IsLacking R.remaining folder) }
     ensures statuses { (result.status ≡ 0) ⊎ (result.status ≡ 1) ⊎ (result.status ≡ 4) }
     ensures recovered { ¬ (result.status ≡ 1) → PrintsAll R.remaining W.contents folder out.old out.new }
     ensures sound { ¬ (result.status ≡ 1) → failures_of out.new ≡ failures_of out.old }
     ensures quiet { ¬ (result.status ≡ 1) → Keeps (E.contents (inner_of errors.old)) (E.contents (inner_of errors.new)) }
-    ensures cause { result.status ≡ 1 → (lost : Lost) × IsLost R.remaining folder lost × GoesOutUnrecovered R.remaining W.contents folder out.old out.new lost
-        × IsRecoveryTold E.contents errors.old errors.new dir.now lost }
+    ensures cause { result.status ≡ 1 → MatchOption result.lost ⊥ (λ lost. IsLost R.remaining folder lost × GoesOutUnrecovered R.remaining W.contents folder out.old out.new lost
+        × IsRecoveryTold E.contents errors.old errors.new dir.now lost) }
 {
     match recover_folder(alloc, folder, out) {
         Ok(lacks) => {
             let status = status_of(is_strict, &lacks);
             let lacks = Some(lacks);
-            EndedRecovery { status, lacks }
+            EndedRecovery {
+                status,
+                lacks,
+                lost: None,
+            }
         }
         Err(lost) => {
             tell_lost(dir.as_bytes(), &lost, errors);
             EndedRecovery {
                 status: 1,
                 lacks: None,
+                lost: Some(lost),
             }
         }
     }
@@ -127,7 +136,7 @@ fn recover_folder<R: Read + Drop, W: Write>(
     alloc: Global,
     folder: Folder<R>,
     out: &mut Tally<W>,
-) -> Result<Lacks, Lost>
+) -> Result<Lacks, Lost<R>>
     ensures lacks { IfOk result (IsLacking R.remaining folder) }
     ensures recovered { OnOk result (PrintsAll R.remaining W.contents folder out.old out.new) }
     ensures sound { OnOk result (failures_of out.new ≡ failures_of out.old) }
@@ -155,7 +164,10 @@ pub(crate) struct Worth {
 }
 
 /// Reads all files of the folder, and recovers what they are worth.
-pub(crate) fn recover_read<R: Read + Drop>(alloc: Global, folder: Folder<R>) -> Result<Worth, Lost>
+pub(crate) fn recover_read<R: Read + Drop>(
+    alloc: Global,
+    folder: Folder<R>,
+) -> Result<Worth, Lost<R>>
     ensures worth { (base : List ℕ) (names parts : List (List ℕ)) (log : List ℕ) → HoldsAll R.remaining folder base names parts log → IfOk result (λ worth.
         (names_of worth.parts.items ≡ names) × (recovery base parts log ≡ Ok (recovery_of worth.recovered)) × IsOfRun base worth.recovered.run
         × (worth.lacks ≡ lacks_of (is_ok folder.log) log (recovery_of worth.recovered))) }
@@ -187,13 +199,13 @@ pub(crate) fn recover_read<R: Read + Drop>(alloc: Global, folder: Folder<R>) -> 
 
 /// Writes the line that tells why nothing is recovered of the folder of this name: by the name of the file or the folder. Of a
 /// fault of the output it tells nothing.
-pub fn tell_lost<E: Write>(dir: &[u8], lost: &Lost, errors: &mut Tally<E>)
+pub fn tell_lost<R, E: Write>(dir: &[u8], lost: &Lost<R>, errors: &mut Tally<E>)
     ensures { IsRecoveryTold E.contents errors.old errors.new dir.now lost.now }
 {
     let _ = match lost {
-        Lost::Base(why) => report(b"base.pcb", *why, errors),
-        Lost::Part(name, why) => report(name, *why, errors),
-        Lost::Log(why) => report(b"log.pcl", *why, errors),
+        Lost::Base(why) => report(b"base.pcb", why.refusal(), errors),
+        Lost::Part(name, why) => report(name, why.refusal(), errors),
+        Lost::Log(why) => report(b"log.pcl", why.refusal(), errors),
         Lost::Folder(why) => report(dir, *why, errors),
         Lost::Damaged => tell_reason(dir, b"Damaged", errors),
         Lost::Output => Ok(()),
@@ -233,7 +245,7 @@ fn slices_of<'a>(alloc: Global, parts: &'a [PartBytes]) -> Result<Vec<&'a [u8]>,
 }
 
 // The base first, then the parts, and the log last.
-fn read_folder<R: Read + Drop>(alloc: Global, folder: Folder<R>) -> Result<FolderBytes, Lost>
+fn read_folder<R: Read + Drop>(alloc: Global, folder: Folder<R>) -> Result<FolderBytes, Lost<R>>
     ensures held { (base : List ℕ) (names parts : List (List ℕ)) (log : List ℕ) → HoldsAll R.remaining folder base names parts log → IfOk result (λ files.
         (files.base.items ≡ base) × (names_of files.parts.items ≡ names) × (bytes_of files.parts.items ≡ parts) × (files.log.items ≡ log)) }
     ensures logged { IfOk result (λ files. files.is_logged ≡ is_ok folder.log) }
@@ -260,7 +272,7 @@ fn read_folder<R: Read + Drop>(alloc: Global, folder: Folder<R>) -> Result<Folde
 }
 
 // The log's bytes, none where it isn't there.
-fn read_log<R: Read + Drop>(alloc: Global, opened: Result<R, Refusal>) -> Result<Vec<u8>, Refusal>
+fn read_log<R: Read + Drop>(alloc: Global, opened: Result<R, Refusal>) -> Result<Vec<u8>, Unread<R>>
     ensures held { (held : List ℕ) → HoldsLog R.remaining opened held → IfOk result (λ bytes. bytes.items ≡ held) }
     ensures opened { OnOk result (IsLogOpened opened) }
     ensures cause { IfErr result (IsLogFault opened) }
@@ -274,7 +286,7 @@ fn read_log<R: Read + Drop>(alloc: Global, opened: Result<R, Refusal>) -> Result
 fn read_listed<R: Read + Drop>(
     alloc: Global,
     listed: Result<Vec<NamedFile<R>>, Refusal>,
-) -> Result<Vec<PartBytes>, Lost>
+) -> Result<Vec<PartBytes>, Lost<R>>
     ensures held { (names parts : List (List ℕ)) → HoldParts R.remaining listed names parts → IfOk result (λ read. (names_of read.items ≡ names) × (bytes_of read.items ≡ parts)) }
     ensures opened { OnOk result (ArePartsOpened listed) }
     ensures cause { IfErr result (IsListLost listed) }
@@ -288,7 +300,7 @@ fn read_listed<R: Read + Drop>(
 fn read_parts<R: Read + Drop>(
     alloc: Global,
     files: Vec<NamedFile<R>>,
-) -> Result<Vec<PartBytes>, Lost>
+) -> Result<Vec<PartBytes>, Lost<R>>
     ensures held { (names parts : List (List ℕ)) → HoldEach R.remaining files.items names parts → IfOk result (λ read. (names_of read.items ≡ names) × (bytes_of read.items ≡ parts)) }
     ensures opened { OnOk result (AreOpened files.items) }
     ensures cause { IfErr result (IsEachLost files.items) }
@@ -301,7 +313,7 @@ fn read_parts<R: Read + Drop>(
     Ok(read)
 }
 
-fn push_part(read: &mut Vec<PartBytes>, part: PartBytes) -> Result<(), Lost>
+fn push_part<R>(read: &mut Vec<PartBytes>, part: PartBytes) -> Result<(), Lost<R>>
     ensures ok { OnOk result (read.new.items ≡ read.old.items ++ part ∷ []) }
     ensures err { IfErr result (λ lost. lost ≡ Lost.Folder Refusal.OutOfMemory) }
 {
@@ -311,10 +323,10 @@ fn push_part(read: &mut Vec<PartBytes>, part: PartBytes) -> Result<(), Lost>
     }
 }
 
-fn read_part<R: Read + Drop>(alloc: Global, file: NamedFile<R>) -> Result<PartBytes, Lost>
+fn read_part<R: Read + Drop>(alloc: Global, file: NamedFile<R>) -> Result<PartBytes, Lost<R>>
     ensures held { (held : List ℕ) → HoldsBytes R.remaining file.opened held → IfOk result (λ part. (part.name.items ≡ file.name.items) × (part.bytes.items ≡ held)) }
     ensures opened { OnOk result (IsOk file.opened) }
-    ensures cause { IfErr result (λ lost. (why : Refusal) × (lost ≡ Lost.Part file.name why) × IsScriptFault file.opened why) }
+    ensures cause { IfErr result (λ lost. (why : Unread R) × (lost ≡ Lost.Part file.name why) × IsUnread file.opened why) }
 {
     let NamedFile { name, opened } = file;
     match read_opened(alloc, opened) {
