@@ -23,3 +23,4 @@ mod Within
 mod Counted
 mod Held
 mod Stands
+pub mod WaitingLaws

@@ -12,3 +12,4 @@ pub mod Checks
 pub mod Laws
 pub mod Asking
 pub mod Adds
+pub mod Waiting

@@ -16,6 +16,7 @@ ghost use Rattle.pc_engine.specs.Store.{active_of, setting_of};
 ghost use Rattle.pc_engine.specs.Stands.{Stands, Follows, IfRefused};
 ghost use Rattle.pc_engine.specs.Checks.{IsStoreSound};
 ghost use Rattle.pc_engine.specs.Runs.{starting, IsRun};
+ghost use Rattle.pc_engine.specs.Waiting.{waits_after};
 
 use crate::sessions::Sessions;
 use crate::shelving::{file_at, shared_at};
@@ -163,9 +164,10 @@ impl World {
     }
 
     /// Whether a request of the session's open transaction waits for a lock; false where it has none open, and where no session
-    /// has this number, as 0.
+    /// has this number, as 0. After every history it is what that says.
     pub fn is_waiting(&self, session: SessionNo) -> bool
-        ensures { result ≡ waits_in self.now.kept.rows (active_of self.now session) }
+        ensures row { result ≡ waits_in self.now.kept.rows (active_of self.now session) }
+        ensures told { (history : History) → Stands self.now history → result ≡ waits_after (setting_of self.now) session history }
     {
         session.0 != 0 && self.sessions.has_waiting(session)
     }

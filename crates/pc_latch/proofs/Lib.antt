@@ -5,4 +5,3 @@ mod Growing
 mod Passing
 mod Worths
 pub mod OwnReading
-mod WaitingLaws

@@ -13,7 +13,7 @@ use Rattle.pc_engine.specs.Stands.{Stands}
 use Rattle.pc_tie.specs.declared.sight.Sitting.{Sitting}
 use Rattle.pc_tie.specs.Seats.{IsSession}
 use Rattle.pc_latch.specs.OwnReads.{reads_one_of}
-use Rattle.pc_latch.proofs.WaitingLaws.{one_there}
+use Rattle.pc_engine.proofs.WaitingLaws.{one_there}
 
 -- a session's number is one of the store's
 pub is_known : (st : Setting) (s : Sitting) → IsSession st s → no_session st s.number ≡ false

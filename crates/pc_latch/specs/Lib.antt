@@ -2,4 +2,3 @@ pub mod Cycles
 pub mod Tickets
 pub mod Batches
 pub mod OwnReads
-pub mod Waiting

@@ -16,7 +16,7 @@ ghost use Rattle.pc_engine.specs.Stands.{Stands, Follows};
 ghost use Rattle.pc_tie.specs.Seats.{MovesOn};
 ghost use Rattle.pc_latch.specs.OwnReads.{reads_one_of};
 ghost use Rattle.pc_latch.specs.Batches.{batch, HasEntries, IsNext};
-ghost use Rattle.pc_latch.specs.Waiting.{waits_after};
+ghost use Rattle.pc_engine.specs.Waiting.{waits_after};
 ghost use Rattle.pc_latch.specs.Cycles.{next_event, IsCalled, IsAdvance, IsTakeCalled};
 ghost use Rattle.pc_model.specs.Sets as set;
 ghost use Rattle.pc_latch.specs.Tickets.{HasNoFile, IsNoTicket};

@@ -11,7 +11,7 @@ use Rattle.pc_records.proofs.WaitingLaws.{waiting_now}
 use Rattle.pc_engine.specs.Store.{Active, Store, setting_of, active, active_of}
 use Rattle.pc_engine.specs.Sessions.{waits_in}
 use Rattle.pc_engine.specs.Stands.{Stands}
-use Rattle.pc_latch.specs.Waiting.{waits_after}
+use Rattle.pc_engine.specs.Waiting.{waits_after}
 
 -- a session's open transaction is the one that its number has
 pub one_there : (w : Store) (s : ℕ) → no_session (setting_of w) s ≡ false → active_of w s ≡ active w s
