@@ -2,4 +2,3 @@ mod Calling
 mod Keeping
 mod Lending
 mod Settling
-mod SleepingLaws

@@ -4,6 +4,5 @@ pub mod Finds
 pub mod Sitters
 pub mod Written
 pub mod Lent
-pub mod Sleeping
 pub mod Waking
 pub mod Granted

@@ -1,11 +1,10 @@
 //! Who waits at a store's latch, and how often the store has changed.
 ghost use Rattle.std.specs.Prelude.{◌≡◌, ◌↔◌, ◌==◌, ◌||◌, ◌&&◌, ◌+◌, ◌-◌, ◌^◌, not, nat_lt, min, if◌then◌else◌, ℕ, true, false};
 ghost use Rattle.pc_shared.specs.Asked.{is_wait};
-ghost use Rattle.pc_shared.specs.Sleeping.{is_number, bit_of, is_asleep};
 ghost use Rattle.pc_shared.specs.Waking.{come, is_awaited, one_more, one_less, of_news, with_news, none_due, woken_by, noted, woken_by_end};
 
-use pc_types::{Lsn, MOST_SESSIONS, Refusal, Reply, SessionNo};
-use std::marker::Model;
+use pc_sessions::SessionSet;
+use pc_types::{Lsn, Refusal, Reply};
 
 /// What a thread may wait for, beside locks.
 #[derive(Clone, Copy, Debug, PartialEq, Eq)]
@@ -58,75 +57,12 @@ impl Awaited {
     }
 }
 
-/// The sessions whose calls sleep until their request is granted: a bit for each number, the lowest for session 1.
-#[derive(Drop)]
-pub(crate) struct Sleepers {
-    bits: u64,
-}
-
-impl Model for Sleepers {
-    ghost use Rattle.std.specs.Prelude.{ℕ};
-
-    ghost Value = { ℕ };
-
-    ghost view = { λ s. s.bits };
-}
-
-impl Sleepers {
-    // No call sleeps.
-    fn new() -> Sleepers
-        ensures { result ≡ 0 }
-    {
-        Sleepers { bits: 0 }
-    }
-
-    // Its call sleeps.
-    pub(crate) fn add(&mut self, session: SessionNo)
-        ensures { (s : ℕ) → is_asleep self.new s ≡ (is_asleep self.old s || (is_number session && (s == session))) }
-    {
-        self.bits |= bit_of(session);
-    }
-
-    // Its call sleeps no more.
-    pub(crate) fn remove(&mut self, session: SessionNo)
-        ensures { (s : ℕ) → is_asleep self.new s ≡ (is_asleep self.old s && not (s == session)) }
-    {
-        self.bits &= !bit_of(session);
-    }
-
-    // Whether its call sleeps.
-    pub(crate) fn has(&self, session: SessionNo) -> bool
-        ensures { result ≡ is_asleep self.now session }
-    {
-        self.bits & bit_of(session) != 0
-    }
-
-    // Whether no call sleeps.
-    pub(crate) fn is_empty(&self) -> bool
-        ensures bits { result ≡ (self.now == 0) }
-        ensures nobody { (result ≡ true) ↔ ((s : ℕ) → is_asleep self.now s ≡ false) }
-    {
-        self.bits == 0
-    }
-}
-
-// The bit of the session; none where no session has this number.
-fn bit_of(session: SessionNo) -> u64
-    ensures { result ≡ bit_of session }
-{
-    let place = session.0.wrapping_sub(1);
-    if place < u32::from(MOST_SESSIONS) {
-        1 << place
-    } else {
-        0
-    }
-}
-
 /// Which sessions wait for a lock, how often the store and its phase have changed and how many calls wait for that, which entry of
 /// the log is waited for first, and whether the last commit was marked.
 #[derive(Drop)]
 pub struct Waits {
-    pub(crate) for_locks: Sleepers,
+    // The sessions whose calls sleep until their request is granted.
+    pub(crate) for_locks: SessionSet,
     changes: Awaited,
     phases: Awaited,
     due: u32,
@@ -166,7 +102,7 @@ impl Waits {
     // Nobody waits, and nothing has changed.
     pub(crate) fn new() -> Waits {
         Waits {
-            for_locks: Sleepers::new(),
+            for_locks: SessionSet::new(),
             changes: Awaited::new(),
             phases: Awaited::new(),
             due: NONE_DUE,
