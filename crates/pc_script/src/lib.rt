@@ -7,5 +7,5 @@ mod setup;
 mod views;
 
 pub use run::{EndedScript, run_script};
-pub use script::Status;
+pub use script::{LineAnswer, Status, answer_stored, put_answer};
 pub use setup::Setup;

@@ -249,8 +249,8 @@ fn start(alloc: Global, setup: Setup, seed: RandomState, pairs: Pairs) -> Option
     }
 }
 
-// Answers a line by the store.
-fn answer_stored(alloc: Global, world: &mut World, line: Line) -> LineAnswer
+/// Answers a line by a store that stands. A line of the base is refused with `WrongPhase`.
+pub fn answer_stored(alloc: Global, world: &mut World, line: Line) -> LineAnswer
     ensures setting { setting_of world.new ≡ setting_of world.old }
     ensures answer { (history : History) → Stands world.old history
         → (next : History) × Stands world.new next × AnswersLine (setting_of world.old) history line result next }
@@ -273,7 +273,8 @@ fn say<W: Write>(out: &mut Tally<W>, answer: LineAnswer) -> Result<(), Refusal>
     put_answer(out, &answer)
 }
 
-fn put_answer<W: Write>(out: &mut Tally<W>, answer: &LineAnswer) -> Result<(), Refusal>
+/// Writes an answer, with the end of its line. `Device` is answered exactly where the device failed in this call.
+pub fn put_answer<W: Write>(out: &mut Tally<W>, answer: &LineAnswer) -> Result<(), Refusal>
     ensures { Puts W.contents out.old out.new result (answer_text answer.now) }
 {
     match answer {

@@ -1,0 +1,2 @@
+mod SweepLaws
+mod AnswerLaws

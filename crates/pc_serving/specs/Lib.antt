@@ -1,0 +1,4 @@
+pub mod Requests
+pub mod Points
+pub mod Serving
+pub mod Sweeps

@@ -1,0 +1,10 @@
+//! A store that is served: what its lines ask, and the points that are taken between them.
+#![tactic(auto)]
+
+mod answers;
+mod pace;
+mod request;
+
+pub use answers::Served;
+pub use pace::{Pace, Turned};
+pub use request::{Request, read_request};

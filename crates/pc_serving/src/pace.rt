@@ -1,0 +1,94 @@
+//! Points that are taken between the lines of a store that is served.
+ghost use Rattle.std.specs.Prelude.{◌≡◌, IfSome, true};
+ghost use Rattle.pc_model.specs.History.{History};
+ghost use Rattle.pc_engine.specs.Stands.{Stands};
+ghost use Rattle.pc_engine.specs.Store.{setting_of};
+ghost use Rattle.pc_serving.specs.Points.{AreCheckpoints, is_checkpoint, IsShelvedAs};
+
+use pc_engine::World;
+use pc_types::{Event, FileNo, Phase, Refusal, Reply};
+
+/// What the checkpointer has done at its turn.
+#[derive(Clone, Copy, Debug, PartialEq, Eq)]
+pub enum Turned {
+    /// Nothing was due, or what was asked isn't to be had yet.
+    Nothing,
+    /// It has gone on.
+    On,
+    /// The point's file is on the shelf, under this number.
+    Shelved(FileNo),
+}
+
+/// When the points of a store that is served are taken: after so many commits one begins, and goes on by an event at each turn.
+#[derive(Drop)]
+pub struct Pace {
+    every: u64,
+    commits: u64,
+    // In capture, keys of the point are left.
+    has_left: bool,
+}
+
+impl Pace {
+    /// A point begins after so many commits; with 0 none does.
+    pub fn new(every: u64) -> Pace {
+        Pace {
+            every,
+            commits: 0,
+            has_left: true,
+        }
+    }
+
+    /// A transaction was committed.
+    pub fn note_commit(&mut self) {
+        self.commits = self.commits.saturating_add(1);
+    }
+
+    // What ends the phase, or takes a key in capture; nothing where no point is due.
+    fn due(&self, phase: Phase) -> Option<Event>
+        ensures { IfSome result (λ event. is_checkpoint event ≡ true) }
+    {
+        match phase {
+            Phase::Rest if self.every == 0 || self.commits < self.every => None,
+            Phase::Rest => Some(Event::StartPoint),
+            Phase::Prepare => Some(Event::Seal),
+            Phase::Resolve => Some(Event::OpenCapture),
+            Phase::Capture if self.has_left => Some(Event::Take),
+            Phase::Capture => Some(Event::Done),
+            Phase::Complete => Some(Event::Rest),
+        }
+    }
+
+    // Notes how the event was answered.
+    fn note(&mut self, reply: &Reply) -> Result<Turned, Refusal>
+        ensures { IsShelvedAs reply.now result }
+    {
+        match reply {
+            Reply::Refused(why) => Err(*why),
+            Reply::NotYet(_) => Ok(Turned::Nothing),
+            Reply::PartDone(_, file, _) => Ok(Turned::Shelved(*file)),
+            Reply::NoneLeft => {
+                self.has_left = false;
+                Ok(Turned::On)
+            }
+            Reply::Phase(Phase::Prepare, _) => {
+                self.commits = 0;
+                self.has_left = true;
+                Ok(Turned::On)
+            }
+            _ => Ok(Turned::On),
+        }
+    }
+
+    /// Asks the next event of the point's cycle, where one is due: of whatever history the store stands after, it then stands after
+    /// that history and at most one event of the checkpointer behind it. Refuses as the event is refused.
+    pub fn go_on(&mut self, world: &mut World) -> Result<Turned, Refusal>
+        ensures setting { setting_of world.new ≡ setting_of world.old }
+        ensures steps { (history : History) → Stands world.old history → (next : History) × Stands world.new next × AreCheckpoints history next }
+    {
+        let Some(event) = self.due(world.phase()) else {
+            return Ok(Turned::Nothing);
+        };
+        let reply = world.step(&event);
+        self.note(&reply)
+    }
+}
