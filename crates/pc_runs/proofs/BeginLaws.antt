@@ -1,18 +1,14 @@
 -- A workload that can be run, and why nothing is printed of it.
-use Rattle.std.proofs.Common.{◌≡◌, ℕ, List, Option, Some, None, Result, Ok, Err, sym, ◌∙◌, inl, inr}
-use Rattle.std.proofs.lemmas.Bool.{false≢true}
+use Rattle.std.proofs.Common.{◌≡◌, ℕ, List, Option, Some, None, Result, Ok, Err, sym, ◌∙◌}
 use Rattle.std.specs.Prelude.{IfOk, IfSome, IsOk, is_some}
 use Rattle.pc_types.specs.declared.refusal.Refusal.{Refusal}
-use Rattle.pc_types.specs.declared.refusal.Refusal.TheVariants.{OutOfMemory}
 use Rattle.pc_types.specs.declared.tally.Tally.{Tally}
 use Rattle.pc_model.specs.Replies.{Setting}
 use Rattle.pc_jobs.specs.Workloads.{reading_of}
 use Rattle.pc_jobs.specs.declared.works.Workload.{Workload}
 use Rattle.pc_jobs.specs.declared.workloads.WorkloadReading.{WorkloadReading}
 use Rattle.pc_jobs.specs.declared.workloads.WorkloadReading.TheVariants as reading
-use Rattle.pc_texts.specs.Files.{IsScriptFault}
 use Rattle.pc_threads.specs.declared.fault.ThreadsFault.{ThreadsFault}
-use Rattle.pc_threads.specs.declared.fault.ThreadsFault.TheVariants as fault
 use Rattle.pc_runs.specs.declared.failure.RunFailure.{RunFailure}
 use Rattle.pc_runs.specs.declared.failure.RunFailure.TheVariants as failure
 use Rattle.pc_runs.specs.declared.files.RunFolder.{RunFolder}
@@ -33,31 +29,22 @@ read_as remaining (Ok reader) bytes text some worth script same reads is =
     if_some (remaining reader) (λ (held : List ℕ). bytes ≡ held) (λ (held : List ℕ). reading_of held ≡ worth)
     (λ held has. (λ k. reading_of (sym (same ∙ has) k)) ∙ (sym reads ∙ is)) script
 
--- memory ran out for what was read
-pub out_of_memory : {R : Type 0} (opened : Result R Refusal) (why : Refusal) → IsOk opened → why ≡ OutOfMemory → IsScriptFault opened why
-out_of_memory (Ok reader) why there is = inl is
-out_of_memory (Err absent) why there is = absurd (false≢true there)
-
-module _ {R D : Type 0} (remaining : R → Option (List ℕ)) (folder : Option (RunFolder D)) (begins : Beginning → Type 0) where
-  -- the workload couldn't be read
-  pub unread : (opened : Result R Refusal) (why : Refusal) → IsScriptFault opened why → begins NotBegun → IsRunUnanswered remaining opened folder begins (failure.Run (fault.Refused why))
-  unread opened why fault none = inl (fault, none)
-
+module _ {R S D : Type 0} (remaining : R → Option (List ℕ)) (folder : Option (RunFolder D)) (begins : Beginning R S → Type 0) where
   -- the run has begun, and failed
   pub run_failed : (opened : Result R Refusal) (workload : Workload) (why : ThreadsFault) (st : Setting) → IsOk opened → IsWorkloadReadAs remaining opened (reading.Runs workload) → IsUsable folder → begins (Begun st)
       → EndsRun st workload (is_some folder) why → IsRunUnanswered remaining opened folder begins (failure.Run why)
-  run_failed opened workload (fault.Refused why) st there read usable begun ends = inr (there, usable, (workload, read, (st, begun, ends)))
-  run_failed opened workload (fault.Unmade name why) st there read usable begun ends = (there, usable, (workload, read, (st, begun, ends)))
-  run_failed opened workload fault.NoThread st there read usable begun ends = (there, usable, (workload, read, (st, begun, ends)))
+  run_failed opened workload why st there read usable begun ends = (there, usable, (workload, read, (st, begun, ends)))
 
   -- it has nothing to start from
-  pub not_started : {S T : Type 0} (theirs : S → Option (List ℕ)) (contents : T → Option (List ℕ)) (opened : Result R Refusal) (first : Start S) (old new : Tally T) (why : RunFailure) → CanRun remaining opened → IsUsable folder
+  pub not_started : {T : Type 0} (theirs : S → Option (List ℕ)) (contents : T → Option (List ℕ)) (opened : Result R Refusal) (first : Start S) (old new : Tally T) (why : RunFailure R S) → CanRun remaining opened → IsUsable folder
       → IsUnstarted theirs contents first old new why → begins (Unstarted why) → IsRunUnanswered remaining opened folder begins why
   not_started theirs contents opened (start.Folder old_run) old new (failure.Start name lost) can usable is begun = (can, usable, begun)
+  not_started theirs contents opened (start.Folder old_run) old new (failure.Unread why) can usable is begun = absurd is
   not_started theirs contents opened (start.Folder old_run) old new (failure.Run why) can usable is begun = absurd is
   not_started theirs contents opened (start.Folder old_run) old new (failure.Folder name why) can usable is begun = absurd is
   not_started theirs contents opened (start.Folder old_run) old new failure.Output can usable is begun = absurd is
   not_started theirs contents opened (start.Empty run) old new (failure.Start name lost) can usable is begun = absurd is
+  not_started theirs contents opened (start.Empty run) old new (failure.Unread why) can usable is begun = absurd is
   not_started theirs contents opened (start.Empty run) old new (failure.Run why) can usable is begun = absurd is
   not_started theirs contents opened (start.Empty run) old new (failure.Folder name why) can usable is begun = absurd is
   not_started theirs contents opened (start.Empty run) old new failure.Output can usable is begun = absurd is

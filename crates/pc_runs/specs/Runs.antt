@@ -1,6 +1,6 @@
 -- A run of a workload: what its store starts from, what its text is read as, what is printed, why it may fail, and what is told of
 -- that.
-use Rattle.std.specs.Prelude.{◌≡◌, ◌⊎◌, ℕ, Bool, List, Option, Result, Err, [], is_some, IsOk, IfOk, IfSome, MatchOption, codes}
+use Rattle.std.specs.Prelude.{◌≡◌, ℕ, Bool, List, Option, Result, Err, [], is_some, IsOk, IfOk, IfSome, MatchOption, codes}
 use Rattle.std.specs.Io.KnownBytes.{Appends}
 use Rattle.pc_types.specs.Counted.{HasRisen, AppendsBeginning}
 use Rattle.pc_types.specs.Tallies.{inner_of, failures_of}
@@ -16,7 +16,7 @@ use Rattle.pc_jobs.specs.declared.works.Workload.{Workload}
 use Rattle.pc_jobs.specs.declared.workloads.WorkloadReading.{WorkloadReading}
 use Rattle.pc_jobs.specs.declared.workloads.WorkloadReading.TheVariants as reading
 use Rattle.pc_restore.specs.Bases.{IsBaseMade, IsBaseUnmade}
-use Rattle.pc_texts.specs.Files.{TellsOf, IsScriptFault}
+use Rattle.pc_texts.specs.Files.{TellsOf, IsUnread, refusal_of}
 use Rattle.pc_restore.specs.Recoveries as recoveries
 use Rattle.pc_threads.specs.declared.fault.ThreadsFault.{ThreadsFault}
 use Rattle.pc_threads.specs.declared.fault.ThreadsFault.TheVariants as fault
@@ -51,19 +51,19 @@ IsStart remaining contents (start.Folder old_run) old new base = IsBaseMade rema
 
 -- A run was to start from the folder of this name, and there is no base of it for this reason: nothing was told yet, or, where the
 -- folder is damaged and that is not accepted, what is damaged there.
-abbrev pub IsUnstarted : {S T : Type 0} → (S → Option (List ℕ)) → (T → Option (List ℕ)) → Start S → Tally T → Tally T → RunFailure → Type 0
+abbrev pub IsUnstarted : {R S T : Type 0} → (S → Option (List ℕ)) → (T → Option (List ℕ)) → Start S → Tally T → Tally T → RunFailure R S → Type 0
 IsUnstarted remaining contents (start.Folder old_run) old new (failure.Start name lost) = (name ≡ old_run.name) × IsBaseUnmade remaining contents old_run.folder old_run.accepts_damage old new lost
 IsUnstarted remaining contents other old new why = ⊥
 
 -- how far a run has come: nothing was begun; it has nothing to start from, for this reason; or its store was to be opened so
-pub data Beginning : Type 0 where
-  NotBegun : Beginning
-  Unstarted : (why : RunFailure) → Beginning
-  Begun : (st : Setting) → Beginning
+pub data Beginning (R S : Type 0) : Type 0 where
+  NotBegun : Beginning R S
+  Unstarted : (why : RunFailure R S) → Beginning R S
+  Begun : (st : Setting) → Beginning R S
 
 -- A run has come so far, and this was told till then: what is damaged of the folder that it starts from, once it has begun or for
 -- this was refused.
-abbrev pub RunBegins : {S T : Type 0} → (S → Option (List ℕ)) → (T → Option (List ℕ)) → Origin S → Tally T → Tally T → Beginning → Type 0
+abbrev pub RunBegins : {R S T : Type 0} → (S → Option (List ℕ)) → (T → Option (List ℕ)) → Origin S → Tally T → Tally T → Beginning R S → Type 0
 RunBegins remaining contents origin old new NotBegun = new ≡ old
 RunBegins remaining contents origin old new (Unstarted why) = IsUnstarted remaining contents origin.start old new why
 RunBegins remaining contents origin old new (Begun st) = (base : BaseFile) × IsStart remaining contents origin.start old new base × (st ≡ run_setting base origin.capacity)
@@ -91,7 +91,7 @@ abbrev pub IsUsable : {D : Type 0} → Option (RunFolder D) → Type 0
 IsUsable folder = IfSome folder (λ f. IsOk f.files)
 
 -- there is a folder of this name, and this keeps files from being made there
-abbrev pub IsUnusable : {D : Type 0} → Option (RunFolder D) → RunFailure → Type 0
+abbrev pub IsUnusable : {R S D : Type 0} → Option (RunFolder D) → RunFailure R S → Type 0
 IsUnusable folder (failure.Folder name why) = MatchOption folder ⊥ (λ f. (name ≡ f.name) × (f.files ≡ Err why))
 IsUnusable folder other = ⊥
 
@@ -101,21 +101,21 @@ CanRun remaining opened = IsOk opened × ((workload : Workload) × IsWorkloadRea
 
 -- The workload that the file holds was run, where the folder is usable, over a store with which the run has begun; and this fault has
 -- ended it.
-abbrev pub RunHasFailed : {R D : Type 0} → (R → Option (List ℕ)) → Result R Refusal → Option (RunFolder D) → (Beginning → Type 0) → ThreadsFault → Type 0
+abbrev pub RunHasFailed : {R S D : Type 0} → (R → Option (List ℕ)) → Result R Refusal → Option (RunFolder D) → (Beginning R S → Type 0) → ThreadsFault → Type 0
 RunHasFailed remaining opened folder begins why = IsOk opened × IsUsable folder
     × ((workload : Workload) × IsWorkloadReadAs remaining opened (reading.Runs workload)
     × ((st : Setting) × begins (Begun st) × EndsRun st workload (is_some folder) why))
 
 -- It is printed of the workload that the file holds, and this is left of the folder: of a bad line, before anything is begun; else
 -- the workload was run, of a setting with which it has begun, and only where the folder is usable.
-abbrev pub IsAnswer : {R D : Type 0} → (R → Option (List ℕ)) → (D → FileName → List ℕ → Type 0) → Result R Refusal → Option (RunFolder D) → (Beginning → Type 0) → Option D → Printed → Type 0
+abbrev pub IsAnswer : {R S D : Type 0} → (R → Option (List ℕ)) → (D → FileName → List ℕ → Type 0) → Result R Refusal → Option (RunFolder D) → (Beginning R S → Type 0) → Option D → Printed → Type 0
 IsAnswer remaining holds opened folder begins left (printed.BadLine line) = IsWorkloadReadAs remaining opened (reading.BadLine line) × begins NotBegun
 IsAnswer remaining holds opened folder begins left (printed.Whole outcome) = IsUsable folder
     × ((workload : Workload) × IsWorkloadReadAs remaining opened (reading.Runs workload)
     × ((st : Setting) × begins (Begun st) × IsWorkloadRun holds st workload (is_some folder) left outcome))
 
 -- what is printed of the workload that the file holds went out, all of it, and this is its status, and what is left of the folder
-abbrev pub GoesOut : {R D T : Type 0} → (R → Option (List ℕ)) → (D → FileName → List ℕ → Type 0) → (T → Option (List ℕ)) → Result R Refusal → Option (RunFolder D) → (Beginning → Type 0) → Tally T → Tally T
+abbrev pub GoesOut : {R S D T : Type 0} → (R → Option (List ℕ)) → (D → FileName → List ℕ → Type 0) → (T → Option (List ℕ)) → Result R Refusal → Option (RunFolder D) → (Beginning R S → Type 0) → Tally T → Tally T
     → Option D → ℕ → Type 0
 GoesOut remaining holds contents opened folder begins old new left status = (some : Printed) × IsAnswer remaining holds opened folder begins left some × (status ≡ status_of some)
     × Appends (contents (inner_of old)) (contents (inner_of new)) (printed_text some) × (failures_of new ≡ failures_of old)
@@ -123,23 +123,24 @@ GoesOut remaining holds contents opened folder begins old new left status = (som
 -- Why nothing is printed: where the file wasn't opened, the reason for that; where it was, that it couldn't be read, or that memory
 -- ran out; where its workload can be run, and the folder can't be used, the reason for this; where it can be used, and there is
 -- nothing to start from, that; and else the fault that has ended the run.
-abbrev pub IsRunUnanswered : {R D : Type 0} → (R → Option (List ℕ)) → Result R Refusal → Option (RunFolder D) → (Beginning → Type 0) → RunFailure → Type 0
-IsRunUnanswered remaining opened folder begins (failure.Run (fault.Refused why)) = (IsScriptFault opened why × begins NotBegun) ⊎ RunHasFailed remaining opened folder begins (fault.Refused why)
-IsRunUnanswered remaining opened folder begins (failure.Run other) = RunHasFailed remaining opened folder begins other
-IsRunUnanswered remaining opened folder begins (failure.Folder name why) = CanRun remaining opened × IsUnusable folder (failure.Folder name why) × begins NotBegun
+abbrev pub IsRunUnanswered : {R S D : Type 0} → (R → Option (List ℕ)) → Result R Refusal → Option (RunFolder D) → (Beginning R S → Type 0) → RunFailure R S → Type 0
+IsRunUnanswered remaining opened folder begins (failure.Unread why) = IsUnread opened why × begins NotBegun
+IsRunUnanswered remaining opened folder begins (failure.Run why) = RunHasFailed remaining opened folder begins why
+IsRunUnanswered {R} {S} remaining opened folder begins (failure.Folder name why) = CanRun remaining opened × IsUnusable {R = R} {S = S} folder (failure.Folder name why) × begins NotBegun
 IsRunUnanswered remaining opened folder begins (failure.Start name why) = CanRun remaining opened × IsUsable folder × begins (Unstarted (failure.Start name why))
 IsRunUnanswered remaining opened folder begins failure.Output = ⊥
 
 -- Why not all was printed: the output failed, which was counted, and a beginning of what is printed went out; or there is nothing
 -- to print.
-abbrev pub IsCauseOfUnprinted : {R D T : Type 0} → (R → Option (List ℕ)) → (D → FileName → List ℕ → Type 0) → (T → Option (List ℕ)) → Result R Refusal → Option (RunFolder D) → (Beginning → Type 0) → Tally T → Tally T
-    → RunFailure → Type 0
-IsCauseOfUnprinted {R} {D} remaining holds contents opened folder begins old new failure.Output = HasRisen (failures_of old) (failures_of new)
+abbrev pub IsCauseOfUnprinted : {R S D T : Type 0} → (R → Option (List ℕ)) → (D → FileName → List ℕ → Type 0) → (T → Option (List ℕ)) → Result R Refusal → Option (RunFolder D) → (Beginning R S → Type 0) → Tally T → Tally T
+    → RunFailure R S → Type 0
+IsCauseOfUnprinted {R} {S} {D} remaining holds contents opened folder begins old new failure.Output = HasRisen (failures_of old) (failures_of new)
     × ((left : Option D) × (some : Printed) × IsAnswer remaining holds opened folder begins left some × AppendsBeginning (contents (inner_of old)) (contents (inner_of new)) (printed_text some))
 IsCauseOfUnprinted remaining holds contents opened folder begins old new other = (new ≡ old) × IsRunUnanswered remaining opened folder begins other
 
 -- what is told of a failure, where the workload has this name; of an output that failed nothing
-abbrev pub IsRunTold : {T : Type 0} → (T → Option (List ℕ)) → Tally T → Tally T → List ℕ → RunFailure → Type 0
+abbrev pub IsRunTold : {R S T : Type 0} → (T → Option (List ℕ)) → Tally T → Tally T → List ℕ → RunFailure R S → Type 0
+IsRunTold contents old new name (failure.Unread why) = TellsOf contents old new name (refusal_of why)
 IsRunTold contents old new name (failure.Run (fault.Refused why)) = TellsOf contents old new name why
 IsRunTold contents old new name (failure.Run (fault.Unmade file why)) = TellsOf contents old new (name_of file) why
 IsRunTold contents old new name (failure.Run fault.NoThread) = recoveries.TellsReason contents old new name (codes "NoThread")
@@ -148,6 +149,6 @@ IsRunTold contents old new name (failure.Folder folder (unusable.Unlisted why)) 
 IsRunTold contents old new name (failure.Start folder lost) = recoveries.IsRecoveryTold contents old new folder.items lost
 IsRunTold contents old new name failure.Output = new ≡ old
 
--- there is a cause by what was told till then, and it was told behind that
-abbrev pub IsFailed : {T : Type 0} → (T → Option (List ℕ)) → List ℕ → Tally T → (Tally T → RunFailure → Type 0) → Type 0
-IsFailed {T} contents name new cause = (why : RunFailure) × (between : Tally T) × cause between why × IsRunTold contents between new name why
+-- it is handed back why, which is a cause by what was told till then, and was told behind that
+abbrev pub IsFailed : {R S T : Type 0} → (T → Option (List ℕ)) → List ℕ → Tally T → Option (RunFailure R S) → (Tally T → RunFailure R S → Type 0) → Type 0
+IsFailed {R} {S} {T} contents name new handed cause = MatchOption handed ⊥ (λ why. (between : Tally T) × cause between why × IsRunTold contents between new name why)

@@ -9,47 +9,49 @@ ghost use Rattle.pc_runs.specs.Runs.{IsRunTold, IsUsable, IsUnusable};
 use crate::files::{RunFolder, Unusable, report_unmade};
 use pc_outcomes::Printed;
 use pc_restore::{Lost, tell_lost, tell_reason};
-use pc_texts::{end_output, report};
+use pc_texts::{Unread, end_output, report};
 use pc_threads::ThreadsFault;
-use pc_types::{Refusal, Tally};
+use pc_types::Tally;
 use std::io::Write;
 
-/// Why nothing, or not all, is printed of a workload.
+/// Why nothing, or not all, is printed of a workload. A file that was to be read, and whose device failed, is handed back, and has
+/// counted that.
 #[derive(Drop)]
-pub enum RunFailure {
+pub enum RunFailure<R, S> {
+    /// It was not run: it isn't there, can't be read, or is too large for memory.
+    Unread(Unread<R>),
     /// Its run failed.
     Run(ThreadsFault),
     /// It was not run: the folder of this name can't be used for its files.
     Folder(Vec<u8>, Unusable),
     /// It was not run: of the folder of this name, which it was to start from, nothing can be recovered, or it is damaged.
-    Start(Vec<u8>, Lost),
+    Start(Vec<u8>, Lost<S>),
     /// The output failed.
     Output,
 }
 
-impl From<ThreadsFault> for RunFailure {
+impl<R, S> From<ThreadsFault> for RunFailure<R, S> {
     ghost use Rattle.pc_runs.specs.declared.failure.RunFailure.TheVariants.{Run};
 
     ghost from_gives = { λ fault failure. failure ≡ Run fault };
 
-    fn from(fault: ThreadsFault) -> RunFailure {
+    fn from(fault: ThreadsFault) -> RunFailure<R, S> {
         RunFailure::Run(fault)
     }
 }
 
-impl From<Refusal> for RunFailure {
-    ghost use Rattle.pc_threads.specs.declared.fault.ThreadsFault.TheVariants.{Refused};
-    ghost use Rattle.pc_runs.specs.declared.failure.RunFailure.TheVariants.{Run};
+impl<R, S> From<Unread<R>> for RunFailure<R, S> {
+    ghost use Rattle.pc_runs.specs.declared.failure.RunFailure.TheVariants.{Unread};
 
-    ghost from_gives = { λ why failure. failure ≡ Run (Refused why) };
+    ghost from_gives = { λ why failure. failure ≡ Unread why };
 
-    fn from(why: Refusal) -> RunFailure {
-        RunFailure::Run(ThreadsFault::Refused(why))
+    fn from(why: Unread<R>) -> RunFailure<R, S> {
+        RunFailure::Unread(why)
     }
 }
 
 /// What makes the files of the folder, where there is one.
-pub fn usable<D: Drop>(folder: Option<RunFolder<D>>) -> Result<Option<D>, RunFailure>
+pub fn usable<R, S, D: Drop>(folder: Option<RunFolder<D>>) -> Result<Option<D>, RunFailure<R, S>>
     ensures usable { OnOk result (IsUsable folder) }
     ensures there { IfOk result (λ files. is_some files ≡ is_some folder) }
     ensures unusable { IfErr result (IsUnusable folder) }
@@ -64,7 +66,7 @@ pub fn usable<D: Drop>(folder: Option<RunFolder<D>>) -> Result<Option<D>, RunFai
 }
 
 /// Writes the lines out, or else the output has failed, and a beginning went out.
-pub fn print<W: Write>(printed: &Printed, out: &mut Tally<W>) -> Result<(), RunFailure>
+pub fn print<R, S, W: Write>(printed: &Printed, out: &mut Tally<W>) -> Result<(), RunFailure<R, S>>
     ensures printed { OnOk result (Appends (W.contents (inner_of out.old)) (W.contents (inner_of out.new)) (printed_text printed.now) × (failures_of out.new ≡ failures_of out.old)) }
     ensures failed { IfErr result (λ why. (why ≡ RunFailure.Output) × HasRisen (failures_of out.old) (failures_of out.new)
         × AppendsBeginning (W.contents (inner_of out.old)) (W.contents (inner_of out.new)) (printed_text printed.now)) }
@@ -76,23 +78,24 @@ pub fn print<W: Write>(printed: &Printed, out: &mut Tally<W>) -> Result<(), RunF
     }
 }
 
-impl RunFailure {
+impl<R, S> RunFailure<R, S> {
     /// Writes the line that tells why, by the name of the workload, of a file or of a folder; of an output that failed nothing.
-    pub fn report<E: Write>(self, workload: &[u8], errors: &mut Tally<E>)
-        ensures { IsRunTold E.contents errors.old errors.new workload.now self }
+    pub fn report<E: Write>(&self, workload: &[u8], errors: &mut Tally<E>)
+        ensures { IsRunTold E.contents errors.old errors.new workload.now self.now }
     {
         let _ = match self {
+            RunFailure::Unread(why) => report(workload, why.refusal(), errors),
             RunFailure::Run(fault) => match fault {
-                ThreadsFault::Refused(why) => report(workload, why, errors),
-                ThreadsFault::Unmade(file, why) => report_unmade(file, why, errors),
+                ThreadsFault::Refused(why) => report(workload, *why, errors),
+                ThreadsFault::Unmade(file, why) => report_unmade(*file, *why, errors),
                 ThreadsFault::NoThread => tell_reason(workload, b"NoThread", errors),
             },
             RunFailure::Folder(folder, unusable) => match unusable {
-                Unusable::NotEmpty => tell_reason(&folder, b"NotEmpty", errors),
-                Unusable::Unlisted(why) => report(&folder, why, errors),
+                Unusable::NotEmpty => tell_reason(folder, b"NotEmpty", errors),
+                Unusable::Unlisted(why) => report(folder, *why, errors),
             },
             RunFailure::Start(old, lost) => {
-                tell_lost(&old, &lost, errors);
+                tell_lost(old, lost, errors);
                 Ok(())
             }
             RunFailure::Output => Ok(()),

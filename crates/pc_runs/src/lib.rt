@@ -11,6 +11,7 @@ mod starting;
 mod store;
 
 pub use crew::Crew;
+pub use failure::RunFailure;
 pub use files::{RunFolder, Unusable};
 pub use origin::{NamedFolder, Origin, Start};
 pub use pc_threads::NewFiles;

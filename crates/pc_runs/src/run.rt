@@ -17,7 +17,7 @@ use pc_jobs::{Workload, WorkloadReading, read_workload};
 use pc_outcomes::{Printed, RunReport};
 use pc_part::Base;
 use pc_shared::Opened;
-use pc_texts::{NamedFile, read_opened};
+use pc_texts::{NamedFile, Unread, read_opened};
 use pc_threads::{FileFault, NewFiles, ThreadsFault};
 use pc_types::{MOST_SESSIONS, Refusal, Tally};
 use pc_workers::ClientGate;
@@ -30,10 +30,12 @@ use std::thread::Threads;
 
 /// How a run has ended.
 #[derive(Drop)]
-pub struct Finished<D> {
+pub struct Finished<R, S, D> {
     pub status: u8,
     /// What makes the files of the folder, where there is one and the workload was run.
     pub folder: Option<D>,
+    /// Why nothing, or not all, was printed, where that is so.
+    pub failure: Option<RunFailure<R, S>>,
 }
 
 /// Reads a workload, runs its clients on threads beside a checkpointer and collapsers, over a store without pairs or with those that
@@ -46,7 +48,8 @@ pub struct Finished<D> {
 ///   file of the folder can't be made or written, a thread can't be started, or a call was refused; or, by the folder's name, the
 ///   folder can't be used, or by the names that a recovery tells, nothing can be recovered of the one that the store was to start
 ///   from, or it is damaged and that isn't accepted: then nothing is run, and no file is made. Of an output that fails nothing is
-///   told.
+///   told. It is handed back why; where `Device` is told of the workload or of a file of that folder, and the file was opened, its
+///   reader is handed back too, which has counted the read that failed.
 ///
 /// What is damaged or lacks of the files that the store starts from is told on the error writer before the run begins. Where there
 /// is a folder for files, the base, the log and the file of each point are written to it, the log as it grows, and the folder is handed
@@ -73,11 +76,11 @@ pub fn run_workload<
     folder: Option<RunFolder<D>>,
     out: &mut Tally<W>,
     errors: &mut Tally<E>,
-) -> Finished<D>
+) -> Finished<R, S, D>
     ensures status { (result.status ≡ 0) ⊎ (result.status ≡ 1) ⊎ (result.status ≡ 3) }
     ensures opened { ¬ (result.status ≡ 1) → IsOk workload.opened }
     ensures printed { ¬ (result.status ≡ 1) → GoesOut R.remaining D.holds W.contents workload.opened folder (RunBegins S.remaining E.contents origin errors.old errors.new) out.old out.new result.folder result.status }
-    ensures cause { result.status ≡ 1 → IsFailed E.contents workload.name.items errors.new
+    ensures cause { result.status ≡ 1 → IsFailed E.contents workload.name.items errors.new result.failure
         (λ between. IsCauseOfUnprinted R.remaining D.holds W.contents workload.opened folder (RunBegins S.remaining E.contents origin errors.old between) out.old out.new) }
 {
     let NamedFile { name, opened } = workload;
@@ -88,6 +91,7 @@ pub fn run_workload<
             Finished {
                 status: 1,
                 folder: None,
+                failure: Some(failure),
             }
         }
     }
@@ -113,15 +117,19 @@ fn run_opened<
     folder: Option<RunFolder<D>>,
     out: &mut Tally<W>,
     errors: &mut Tally<E>,
-) -> Result<Finished<D>, RunFailure>
+) -> Result<Finished<R, S, D>, RunFailure<R, S>>
     ensures opened { OnOk result (IsOk opened) }
     ensures printed { IfOk result (λ finished. GoesOut R.remaining D.holds W.contents opened folder (RunBegins S.remaining E.contents origin errors.old errors.new) out.old out.new finished.folder finished.status) }
     ensures cause { IfErr result (IsCauseOfUnprinted R.remaining D.holds W.contents opened folder (RunBegins S.remaining E.contents origin errors.old errors.new) out.old out.new) }
 {
     let (printed, folder) = answer(rt, alloc, seed, opened, origin, crew, folder, errors)?;
-    print(&printed, out)?;
+    print::<R, S, W>(&printed, out)?;
     let status = printed.status();
-    Ok(Finished { status, folder })
+    Ok(Finished {
+        status,
+        folder,
+        failure: None,
+    })
 }
 
 // What is to be printed of the workload: the first bad line, or what its run left; and what is left of the folder.
@@ -142,18 +150,22 @@ fn answer<
     crew: &Crew<'_, G>,
     folder: Option<RunFolder<D>>,
     errors: &mut Tally<E>,
-) -> Result<(Printed, Option<D>), RunFailure>
+) -> Result<(Printed, Option<D>), RunFailure<R, S>>
     ensures opened { OnOk result (IsOk opened) }
     ensures answer { IfOk result (λ r. IsAnswer R.remaining D.holds opened folder (RunBegins S.remaining E.contents origin errors.old errors.new) r.1 r.0) }
     ensures cause { IfErr result (IsRunUnanswered R.remaining opened folder (RunBegins S.remaining E.contents origin errors.old errors.new)) }
 {
     let text = read_opened(alloc, opened)?;
-    match read_workload(alloc, &text)? {
+    let reading = match read_workload(alloc, &text) {
+        Ok(reading) => reading,
+        Err(_) => return Err(RunFailure::Unread(Unread::NoMemory)),
+    };
+    match reading {
         WorkloadReading::BadLine(line) => Ok((Printed::BadLine(line), None)),
         WorkloadReading::Runs(workload) => {
-            let folder = usable(folder)?;
+            let folder = usable::<R, S, D>(folder)?;
             let Origin { start, capacity } = origin;
-            let base = base_of(alloc, start, errors)?;
+            let base = base_of::<R, S, E>(alloc, start, errors)?;
             let (outcome, folder) = run_read(
                 rt, alloc, seed, workload, base, capacity, crew, folder,
             )?;

@@ -12,14 +12,14 @@ use std::io::{Read, Write};
 
 /// The base of a run. What a folder's files lack is told on the error writer, also where they are damaged and that isn't accepted;
 /// where nothing is recovered of them nothing is told yet. Where there is no base, the failure says why.
-pub fn base_of<R: Read + Drop, E: Write>(
+pub fn base_of<R, S: Read + Drop, E: Write>(
     alloc: Global,
-    start: Start<R>,
+    start: Start<S>,
     errors: &mut Tally<E>,
-) -> Result<Base, RunFailure>
+) -> Result<Base, RunFailure<R, S>>
     ensures point { IfOk result (λ base. base.point ≡ 0) }
-    ensures start { IfOk result (IsStart R.remaining E.contents start errors.old errors.new) }
-    ensures cause { IfErr result (IsUnstarted R.remaining E.contents start errors.old errors.new) }
+    ensures start { IfOk result (IsStart S.remaining E.contents start errors.old errors.new) }
+    ensures cause { IfErr result (IsUnstarted S.remaining E.contents start errors.old errors.new) }
 {
     match start {
         Start::Empty(run) => Ok(Base::start(run, Vec::new(alloc))),

@@ -232,7 +232,7 @@ fn run_opened<H: Threads + Wait + Sync, E: Write>(
     let text = match read_opened(setting.rt.alloc(), opened) {
         Ok(text) => text,
         Err(why) => {
-            let opened: Result<&[u8], Refusal> = Err(why);
+            let opened: Result<&[u8], Refusal> = Err(why.refusal());
             let source = Source {
                 seed,
                 claim,

@@ -66,7 +66,7 @@ fn step<R: Read + Drop, E: Write>(
     let rt = explainer.rt;
     let mut out = Tally::new(output_before(rt, explainer.causes, io::writer(rt))?);
     let setup = setup_of(options);
-    Ok(run_script(
+    let ended = run_script(
         rt.alloc(),
         setup,
         seed,
@@ -74,7 +74,8 @@ fn step<R: Read + Drop, E: Write>(
         opened,
         &mut out,
         errors,
-    ))
+    );
+    Ok(ended.status)
 }
 
 // The same; then it is told of each bad line why it is one. The script is read before, since it may be a pipe.
@@ -95,7 +96,7 @@ fn step_told<E: Write>(
             Ok(status)
         }
         Err(why) => {
-            let unread: Result<&[u8], Refusal> = Err(why);
+            let unread: Result<&[u8], Refusal> = Err(why.refusal());
             step(explainer, options, seed, unread, errors)
         }
     }

@@ -2,7 +2,7 @@
 use crate::sink::{Sink, is_answered, went_out};
 use crate::tape::{Tape, TornOnce};
 use pc_restore::{Folder, Lost, recover_base, run_recover, tell_lost};
-use pc_texts::NamedFile;
+use pc_texts::{NamedFile, Unread};
 use pc_types::{Refusal, Tally};
 use std::alloc::{AllocError, Global};
 use std::io::Read;
@@ -86,6 +86,39 @@ fn beginnings(alloc: Global, length: usize, torn: u8) -> Result<Folder<Tape<'sta
         base: Ok(Tape::new(&EMPTY_BASE[..length], torn == 1)),
         log: Ok(Tape::new(&SIX_ENTRIES[..length], torn == 4)),
     })
+}
+
+// How many reads of a file failed, where it is handed back for that; else 0.
+fn failed_reads<R>(lost: &Option<Lost<R>>) -> u64 {
+    let unread = match lost {
+        Some(Lost::Base(unread)) => unread,
+        Some(Lost::Part(_, unread)) => unread,
+        Some(Lost::Log(unread)) => unread,
+        _ => return 0,
+    };
+    match unread {
+        Unread::Failed(reader) => reader.failures(),
+        _ => 0,
+    }
+}
+
+// How many reads failed of the file that a recovery of the folder hands back.
+fn failed_reads_of<R: Read + Drop>(alloc: Global, folder: Folder<R>) -> u64 {
+    let mut out = Tally::new(Sink::of(b""));
+    let mut errors = Tally::new(Sink::of(b""));
+    let ended = run_recover(alloc, "d d", folder, false, &mut out, &mut errors);
+    failed_reads(&ended.lost)
+}
+
+// A file whose read failed is handed back, and has counted that one read.
+#[test]
+fn hands_back_a_reader_that_fails(rt: HostRuntime) -> Result<(), Fail> {
+    for torn in 0..=4u8 {
+        let folder = beginnings(rt.alloc(), 21, torn)?;
+        let failed = u64::from(torn != 0);
+        assert_eq!(rt; failed_reads_of(rt.alloc(), folder), failed, "{torn}");
+    }
+    Ok(())
 }
 
 // Each file is read whole, and its bytes before the failure don't count.

@@ -1,7 +1,8 @@
 //! Scripts whose reader or whose output fails, or for which there is no memory.
 use crate::sink::{Sink, went_out};
 use crate::tape::{Tape, TornOnce};
-use pc_script::{Setup, run_script};
+use pc_script::{EndedScript, Setup, run_script};
+use pc_texts::Unread;
 use pc_types::{Refusal, Tally};
 use std::alloc::Global;
 use std::hash::RandomState;
@@ -29,7 +30,8 @@ impl Runner {
         })
     }
 
-    // The status of the script, and whether its output takes what it is to, and just this is told.
+    // The status of the script, and whether its output takes what it is to, and just this is told; of a reader that is handed back
+    // one read has failed, and one is handed back exactly where `Device` is told.
     fn run<R: Read + Drop>(
         &self,
         name: &str,
@@ -40,8 +42,10 @@ impl Runner {
         let Runner { alloc, seed } = *self;
         let mut out = Tally::new(out);
         let mut errors = Tally::new(Sink::of(told));
-        let status = run_script(alloc, SETUP, seed, name, opened, &mut out, &mut errors);
-        (status, went_out(out) && went_out(errors))
+        let ended = run_script(alloc, SETUP, seed, name, opened, &mut out, &mut errors);
+        let is_read_told = failed_reads(&ended) == u64::from(told.ends_with(b": Device\n"));
+        let is_told = went_out(out) && went_out(errors);
+        (ended.status, is_told && is_read_told)
     }
 
     // Whether the script that can't be read is told so by its name, with the status 1 and nothing else.
@@ -54,8 +58,17 @@ impl Runner {
         let Runner { alloc, seed } = *self;
         let mut out = Tally::new(Vec::new(alloc));
         let mut errors = Tally::new(Vec::new(alloc));
-        let status = run_script(alloc, SETUP, seed, "s", Ok(script), &mut out, &mut errors);
-        (status, out.into_inner().len(), errors.into_inner().len())
+        let ended = run_script(alloc, SETUP, seed, "s", Ok(script), &mut out, &mut errors);
+        let (printed, told) = (out.into_inner().len(), errors.into_inner().len());
+        (ended.status, printed, told)
+    }
+}
+
+// How many reads of the script failed, where it is handed back for that; else 0.
+fn failed_reads<R>(ended: &EndedScript<R>) -> u64 {
+    match &ended.unread {
+        Some(Unread::Failed(reader)) => reader.failures(),
+        _ => 0,
     }
 }
 

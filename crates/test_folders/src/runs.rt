@@ -22,22 +22,22 @@ const PRINTED: &[u8] =
     b"commits 41\ngave up 0\npoints 2\ncollapsed 1-2 entries 40\nstate pairs 39\ncheck ok\n";
 
 // Runs the workload into a folder in memory, by two workers and two collapsers.
-fn run_into<H: Threads + Wait + Sync>(
+fn run_into<'a, H: Threads + Wait + Sync>(
     rt: &H,
     alloc: Global,
     seed: RandomState,
-    text: &[u8],
+    text: &'a [u8],
     out: &mut Tally<Vec<u8>>,
     errors: &mut Tally<Vec<u8>>,
-) -> Finished<MemoryFolder>
+) -> Finished<&'a [u8], &'a [u8], MemoryFolder>
     ensures { result.status ≡ 0 → HasLeft text.now result.folder }
 {
-    let opened: Result<&[u8], Refusal> = Ok(text);
+    let opened: Result<&'a [u8], Refusal> = Ok(text);
     let workload = NamedFile {
         name: Vec::new(alloc),
         opened,
     };
-    let start: Start<&[u8]> = Start::Empty(1);
+    let start: Start<&'a [u8]> = Start::Empty(1);
     let origin = Origin {
         start,
         capacity: 100,
@@ -137,15 +137,15 @@ fn text_of(folder: &MemoryFolder, name: FileName) -> Result<&[u8], Refusal> {
 }
 
 // Runs the next workload from the folder `old` into a new one in memory, by one worker and one collapser.
-fn run_from<H: Threads + Wait + Sync>(
+fn run_from<'a, H: Threads + Wait + Sync>(
     rt: &H,
     alloc: Global,
-    old: NamedFolder<&[u8]>,
+    old: NamedFolder<&'a [u8]>,
     seed: RandomState,
     out: &mut Tally<Vec<u8>>,
     errors: &mut Tally<Vec<u8>>,
-) -> Finished<MemoryFolder> {
-    let opened: Result<&[u8], Refusal> = Ok(NEXT_WORKLOAD);
+) -> Finished<&'a [u8], &'a [u8], MemoryFolder> {
+    let opened: Result<&'a [u8], Refusal> = Ok(NEXT_WORKLOAD);
     let workload = NamedFile {
         name: Vec::new(alloc),
         opened,

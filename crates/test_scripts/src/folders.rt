@@ -97,14 +97,11 @@ fn recovered(
     let folder = folder_of(alloc, files, cut)?;
     let mut out = Tally::new(Vec::new(alloc));
     let mut errors = Tally::new(Vec::new(alloc));
-    let EndedRecovery { status, lacks } = run_recover(
-        alloc,
-        "d d",
-        folder,
-        is_strict,
-        &mut out,
-        &mut errors,
-    );
+    let EndedRecovery {
+        status,
+        lacks,
+        lost: _,
+    } = run_recover(alloc, "d d", folder, is_strict, &mut out, &mut errors);
     let mut text = out.into_inner();
     text.extend_from_slice(&errors.into_inner())?;
     if let (true, Some(lacks)) = (is_strict, &lacks) {

@@ -127,9 +127,9 @@ fn run_step<W: Write>(
         }
     }
     let mut errors = Tally::new(Vec::new(alloc));
-    let status = run_script(alloc, step.setup, seed, "s", Ok(script), out, &mut errors);
+    let ended = run_script(alloc, step.setup, seed, "s", Ok(script), out, &mut errors);
     out.put(&errors.into_inner())?;
-    put_status(status, out)
+    put_status(ended.status, out)
 }
 
 fn put_status<W: Write>(status: u8, out: &mut Tally<W>) -> Result<(), Refusal> {

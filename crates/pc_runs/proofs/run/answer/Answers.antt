@@ -4,20 +4,20 @@ use Rattle.pc_types.specs.declared.limits.TheConstants.{MOST_SESSIONS}
 use Rattle.pc_jobs.specs.declared.workloads.WorkloadReading.TheVariants.{Runs}
 use Rattle.pc_runs.specs.Faults.{EndsRun}
 use Rattle.pc_runs.specs.Runs.{RunBegins, CanRun, IsWorkloadRun, run_setting}
-use Rattle.pc_runs.proofs.BeginLaws.{not_started, out_of_memory, read_as, run_failed, unread}
+use Rattle.pc_runs.proofs.BeginLaws.{not_started, read_as, run_failed}
 use Rattle.pc_runs.proofs.SeatingLaws.{new_seats, read_range}
 use Rattle.pc_runs.proofs.run.answer.Goals as goal
 
 pub run_read-requires-clause-seats : goal.run_read-requires-clause-seats
 run_read-requires-clause-seats g c κs within =
-    new_seats MOST_SESSIONS c.in-Runs.workload.clients (c.in_ok-line.ensures.written c.in-Runs.workload c.in-Runs.is).0
-    (read_range c.deref.result.now c.in-Runs.workload (sym c.in_ok-line.ensures.reading ∙ c.in-Runs.is))
+    new_seats MOST_SESSIONS c.in-Runs.workload.clients (c.in-Ok.ensures.written c.in-Runs.workload c.in-Runs.is).0
+    (read_range c.deref.result.now c.in-Runs.workload (sym c.in-Ok.ensures.reading ∙ c.in-Runs.is))
 
 pub returns-in_err-base-in-Runs-clause-cause : goal.returns-in_err-base-in-Runs-clause-cause
 returns-in_err-base-in-Runs-clause-cause g c =
     let p = err_from_is_err_and c.from_residual-in_err-base-in-Runs.result c.from_residual-in_err-base-in-Runs.ensures.1 in
     let text = c.in_ok-text.text.items in
-    let can : CanRun g.R.Read.remaining c.args.opened = (c.in_ok-text.ensures.opened, (c.in-Runs.workload, read_as g.R.Read.remaining c.args.opened text c.deref.result.now c.in_ok-line.field-0 (Runs c.in-Runs.workload) c.in_ok-text.ensures.script c.deref.ensures.value c.in_ok-line.ensures.reading c.in-Runs.is)) in
+    let can : CanRun g.R.Read.remaining c.args.opened = (c.in_ok-text.ensures.opened, (c.in-Runs.workload, read_as g.R.Read.remaining c.args.opened text c.deref.result.now c.in-Ok.reading (Runs c.in-Runs.workload) c.in_ok-text.ensures.script c.deref.ensures.value c.in-Ok.ensures.reading c.in-Runs.is)) in
     let cause = c.in_err-base-in-Runs.ensures.cause in
     rw (p.1, p.2)
     (not_started g.R.Read.remaining c.args.folder (RunBegins g.S.Read.remaining g.E.Write.contents c.args.origin c.args.errors.now c.base_of.new.errors) g.S.Read.remaining g.E.Write.contents c.args.opened
@@ -28,7 +28,7 @@ returns-in_err-outcome-in-Runs-clause-cause g c =
     let p = err_from_is_err_and c.from_residual-in_err-outcome-in-Runs.result c.from_residual-in_err-outcome-in-Runs.ensures.1 in
     let text = c.in_ok-text.text.items in
     let why = c.in_err-outcome-in-Runs.field-0.0 in
-    let read = read_as g.R.Read.remaining c.args.opened text c.deref.result.now c.in_ok-line.field-0 (Runs c.in-Runs.workload) c.in_ok-text.ensures.script c.deref.ensures.value c.in_ok-line.ensures.reading c.in-Runs.is in
+    let read = read_as g.R.Read.remaining c.args.opened text c.deref.result.now c.in-Ok.reading (Runs c.in-Runs.workload) c.in_ok-text.ensures.script c.deref.ensures.value c.in-Ok.ensures.reading c.in-Runs.is in
     let base = c.in_ok-base-in-Runs.base in
     let st = run_setting base c.args.origin.capacity in
     let ends = subst (λ (there : Bool). EndsRun st c.in-Runs.workload there why) c.in_ok-folder-in-Runs.ensures.there c.in_err-outcome-in-Runs.ensures.ended in
@@ -39,7 +39,7 @@ returns-in_err-outcome-in-Runs-clause-cause g c =
 pub returns-in_ok-outcome-in-Runs-clause-answer : goal.returns-in_ok-outcome-in-Runs-clause-answer
 returns-in_ok-outcome-in-Runs-clause-answer g c =
     let text = c.in_ok-text.text.items in
-    let read = read_as g.R.Read.remaining c.args.opened text c.deref.result.now c.in_ok-line.field-0 (Runs c.in-Runs.workload) c.in_ok-text.ensures.script c.deref.ensures.value c.in_ok-line.ensures.reading c.in-Runs.is in
+    let read = read_as g.R.Read.remaining c.args.opened text c.deref.result.now c.in-Ok.reading (Runs c.in-Runs.workload) c.in_ok-text.ensures.script c.deref.ensures.value c.in-Ok.ensures.reading c.in-Runs.is in
     let base = c.in_ok-base-in-Runs.base in
     let run = subst (λ (there : Bool). IsWorkloadRun g.D.NewFiles.holds (run_setting base c.args.origin.capacity) c.in-Runs.workload there c.in_ok-outcome-in-Runs.folder c.in_ok-outcome-in-Runs.outcome) c.in_ok-folder-in-Runs.ensures.there c.in_ok-outcome-in-Runs.ensures.run in
     (c.in_ok-folder-in-Runs.ensures.usable, (c.in-Runs.workload, read, (run_setting base c.args.origin.capacity, (base, c.in_ok-base-in-Runs.ensures.start, refl), run)))
@@ -47,12 +47,4 @@ returns-in_ok-outcome-in-Runs-clause-answer g c =
 pub returns-in_err-text-clause-cause : goal.returns-in_err-text-clause-cause
 returns-in_err-text-clause-cause g c =
     let p = err_from_is_err_and c.from_residual.result c.from_residual.ensures.1 in
-    rw (p.1, p.2) (unread g.R.Read.remaining c.args.folder (RunBegins g.S.Read.remaining g.E.Write.contents c.args.origin c.args.errors.now c.args.errors.now) c.args.opened c.in_err-text.field-0.0 c.in_err-text.ensures.cause refl)
-
-pub returns-in_err-line-clause-cause : goal.returns-in_err-line-clause-cause
-returns-in_err-line-clause-cause g c =
-    let p = err_from_is_err_and c.from_residual-in_err-line.result c.from_residual-in_err-line.ensures.1 in
-    let why = c.in_err-line.field-0.0 in
-    rw (p.1, p.2)
-    (unread g.R.Read.remaining c.args.folder (RunBegins g.S.Read.remaining g.E.Write.contents c.args.origin c.args.errors.now c.args.errors.now) c.args.opened why
-    (out_of_memory c.args.opened why c.in_ok-text.ensures.opened c.in_err-line.ensures.refusals) refl)
+    rw (p.1, p.2) (c.in_err-text.ensures.cause, refl {a = c.args.errors.now})

@@ -4,7 +4,6 @@ use Rattle.pc_runs.proofs.run.run_workload.Goals as goal
 
 pub returns-clause-cause : goal.returns-clause-cause
 returns-clause-cause g c failed = (
-  c.in-Err.failure,
   c.run_opened.new.errors,
   c.in-Err.ensures.cause,
   subst (λ (name : List ℕ). IsRunTold g.E.Write.contents c.run_opened.new.errors c.report.new.errors name c.in-Err.failure) c.deref.ensures.value c.report.ensures,
