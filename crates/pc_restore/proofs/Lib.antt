@@ -1,4 +1,5 @@
 mod FolderBases
 mod FolderParts
 mod FolderRecovery
+mod RuleRefusals
 mod TokenSearch

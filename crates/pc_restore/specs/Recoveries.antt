@@ -4,7 +4,7 @@ use Rattle.std.specs.declared.result.Result.{Result}
 use Rattle.std.specs.Global.{Vec}
 use Rattle.std.specs.Io.KnownBytes.{Appends}
 use Rattle.pc_types.specs.declared.refusal.Refusal.{Refusal}
-use Rattle.pc_types.specs.declared.refusal.Refusal.TheVariants.{OutOfMemory, NoFile}
+use Rattle.pc_types.specs.declared.refusal.Refusal.TheVariants.{OutOfMemory, NoFile, Device}
 use Rattle.pc_types.specs.Counted.{HasRisen, AppendsBeginning}
 use Rattle.pc_types.specs.Tallies.{Puts, inner_of, failures_of}
 use Rattle.pc_types.specs.declared.tally.Tally.{Tally}
@@ -85,10 +85,10 @@ abbrev pub IsListLost : {R : Type 0} → Result (Vec (NamedFile R)) Refusal → 
 IsListLost (Ok files) cause = IsEachLost files.items cause
 IsListLost (Err why) cause = cause ≡ lost.Folder why
 
--- the rules refuse what the files hold, or memory ran out
+-- the rules refuse what the files hold, which they do for no device, or memory ran out
 abbrev pub IsRecoveryRefused : {R : Type 0} → (R → Option (List ℕ)) → Folder R → Refusal → Type 0
 IsRecoveryRefused remaining folder why =
-    (why ≡ OutOfMemory) ⊎ ((base : List ℕ) (names parts : List (List ℕ)) (log : List ℕ) → HoldsAll remaining folder base names parts log → recovery base parts log ≡ Err why)
+    (why ≡ OutOfMemory) ⊎ ((why ≢ Device) × ((base : List ℕ) (names parts : List (List ℕ)) (log : List ℕ) → HoldsAll remaining folder base names parts log → recovery base parts log ≡ Err why))
 
 -- Why nothing was recovered. The files are read in order, and a fault is told only where all before it were opened: first the
 -- base can't be had; then the parts can't be listed, or one of them can't be had; then the log; then the rules refuse what all of

@@ -1,6 +1,7 @@
 use Rattle.std.proofs.Common.{inl, inr, subst, ◌∙◌}
 use Rattle.pc_recover.specs.Recovery.{IsOfRun, recovery_of}
 use Rattle.pc_restore.proofs.FolderRecovery.{memory_or, same_lacks, same_recovery}
+use Rattle.pc_restore.proofs.RuleRefusals.{rules_refuse}
 use Rattle.pc_restore.proofs.recovery.recover_read.Goals as goal
 
 pub returns-in-Err-clause-cause : goal.returns-in-Err-clause-cause
@@ -9,9 +10,12 @@ returns-in-Err-clause-cause g c = (
     c.in_ok-files.ensures.opened,
     elim (memory_or c.in-Err.why) [
       | inl memory ↦ inl memory
-      | inr other ↦ inr (λ base names parts log holds.
-          let held = c.in_ok-files.ensures.held base names parts log holds in
-          same_recovery _ _ _ _ _ _ _ held.0 held.2 held.3 (c.in-Err.ensures.rules other))
+      | inr other ↦ inr (
+        rules_refuse _ _ _ c.in-Err.why c.in-Err.ensures.rules,
+        λ base names parts log holds.
+            let held = c.in_ok-files.ensures.held base names parts log holds in
+            same_recovery _ _ _ _ _ _ _ held.0 held.2 held.3 (c.in-Err.ensures.rules other),
+      )
     ],
   ),
   λ e. cc,
