@@ -1,24 +1,33 @@
 -- Why nothing is told of files that a legal history leaves.
-use Rattle.std.proofs.Common.{◌≡◌, ◌⊎◌, inl, inr, ℕ, zero, suc, ◌≤◌, eqb, not, Bool, true, false, cond, List, [], ◌∷◌, ◌++◌, Option, Some, None, Ok, Err, All, drop, refl, ap, sym, subst, ◌∙◌, arith}
+use Rattle.std.proofs.Common.{◌≡◌, ◌⊎◌, inl, inr, ℕ, zero, suc, ◌≤◌, ◌<◌, eqb, not, Bool, true, false, cond, List, [], ◌∷◌, ◌++◌, Option, Some, None, Err, All, drop, refl, ap, sym, subst, ◌∙◌, arith}
+use Rattle.std.specs.Prelude.{MatchBool, Result, nat_lt}
 use Rattle.std.specs.List.{find}
 use Rattle.std.proofs.lemmas.Bool.Decides.{nat_tests}
+use Rattle.std.proofs.lemmas.Bool.{ltb-true, ltb-false}
 use Rattle.std.proofs.lemmas.List.Elements.{All-nil, All-cons, All-append, All-contains, All-drop, All-head, All-tail}
 use Rattle.pc_types.specs.declared.Entry.{Entry}
 use Rattle.pc_types.specs.declared.Refusal.{Refusal}
-use Rattle.pc_types.specs.declared.Refusal.TheVariants.{OutOfMemory, OtherRun, Gap, Full}
+use Rattle.pc_types.specs.declared.Refusal.TheVariants.{OutOfMemory, OtherRun, Conflict, Gap, Full}
+use Rattle.pc_types.specs.declared.limits.TheConstants.{MOST_FILE_ENTRIES}
+use Rattle.pc_model.specs.Database.{Database}
 use Rattle.pc_model.specs.Files.{BaseFile, File, numbers_to}
-use Rattle.pc_model.specs.History.{History}
+use Rattle.pc_model.specs.History.{History, log_of}
 use Rattle.pc_model.specs.LaidFiles.{gap_above, greatest}
-use Rattle.pc_model.specs.Replies.{Setting}
+use Rattle.pc_model.specs.Maps.{len}
+use Rattle.pc_model.specs.Points.{laid}
+use Rattle.pc_model.specs.Replies.{Setting, IsLegalHistory}
 use Rattle.pc_model.specs.Sets as set
 use Rattle.pc_model.specs.Sets.{Set, number_order}
 use Rattle.pc_model.specs.Standing.{IsOfItsPoints}
+use Rattle.pc_model.proofs.ShelfFileLaws.{joined_of_points}
+use Rattle.pc_merge.specs.Folds.{folded, has_other_run, IsFoldCause, Folds}
 use Rattle.pc_part.specs.Joins.{first_cause}
-use Rattle.pc_part.specs.Layings.{gap_causes, lay_causes, limit_causes}
+use Rattle.pc_part.specs.Layings.{gap_causes}
 use Rattle.pc_part.proofs.GapLaws.{greatest_reached}
 use Rattle.pc_collapse.specs.Laws.{FilesFoldWell, IsOfAllPoints}
-use Rattle.pc_outcomes.specs.Leaving.{AreLeftAfter, Folded, IsMissing, IsUnfolded, IsUnlaid, IsUntoldAfter, has_point}
+use Rattle.pc_outcomes.specs.Leaving.{AreLeftAfter, Folded, IsUnfolded, IsUnlaid, IsUntoldAfter, has_point}
 use Rattle.pc_outcomes.proofs.LegacyLaws.{of_all}
+use Rattle.pc_outcomes.proofs.SmallFiles.{file_within, laid_within}
 
 -- what the first of some numbers is that does
 found : (test : ℕ → Bool) (P : ℕ → Type 0) (xs : List ℕ) (x : ℕ) → All P xs → find test xs ≡ Some x → (test x ≡ true) × P x
@@ -56,56 +65,97 @@ gap_lacks points p is = (first.1.0, is_false (set.contains points p) first.0, by
 
 -- the causes that are left of a file of the run
 left_causes : (other : Bool) (gap : Option ℕ) (full : Bool) (given : Refusal) → other ≡ false → first_cause ((other, OtherRun) ∷ gap_causes gap ++ (full, Full) ∷ []) ≡ Some given
-    → (given ≡ Full) ⊎ ((p : ℕ) × (gap ≡ Some p) × (given ≡ Gap p))
+    → ((given ≡ Full) × (gap ≡ None) × (full ≡ true)) ⊎ ((p : ℕ) × (gap ≡ Some p) × (given ≡ Gap p))
 left_causes true gap full given own is = cc (own)
-left_causes false None true given own is = let same : given ≡ Full = cc (is) in inl same
+left_causes false None true given own is = let same : given ≡ Full = cc (is) in inl (same, refl, refl)
 left_causes false None false given own is = cc (is)
 left_causes false (Some p) full given own is = let same : given ≡ Gap p = cc (is) in inr (p, refl, same)
 
-module _ (well : FilesFoldWell) (base : BaseFile) (log : List Entry) where
-  unfolded : (some : List File) (given : Refusal) → All (IsOfItsPoints base.run base.pairs log) some → IsUnfolded some given → IsUntoldAfter some given
+-- why a fold is full
+full_fold : (first : File) (others : List File) (given : Refusal) → given ≡ Full → Folds (first ∷ others) (Err given) → MOST_FILE_ENTRIES < len (folded first others).triples
+full_fold first others given full folds = by (has_other_run first others) folds
+  where
+    cause : IsFoldCause first others given → MOST_FILE_ENTRIES < len (folded first others).triples
+    cause (inl memory) = cc (memory, full)
+    cause (inr (inl clash)) = let named : given ≡ Conflict = clash.0 in cc (named, full)
+    cause (inr (inr many)) = many.1
+
+    by : (b : Bool) → MatchBool b (let r : Result File Refusal = Err given in r ≡ Err OtherRun) (IsFoldCause first others given) → MOST_FILE_ENTRIES < len (folded first others).triples
+    by true is = cc (is, full)
+    by false is = cause is
+
+-- the fold of files of a log is one too
+fold_of : (run : ℕ) (base : Database) (log : List Entry) (first : File) (others : List File) → All (IsOfItsPoints run base log) (first ∷ others) → IsOfItsPoints run base log (folded first others)
+fold_of run base log first [] all = All-head (IsOfItsPoints run base log) first [] all
+fold_of run base log first (next ∷ others) all =
+    joined_of_points run base log first (folded next others) (All-head (IsOfItsPoints run base log) first (next ∷ others) all) (fold_of run base log next others (All-tail (IsOfItsPoints run base log) first (next ∷ others) all))
+
+module _ (well : FilesFoldWell) (st : Setting) (h : History) (legal : IsLegalHistory st h) where
+  -- the base of the start
+  abbrev begun : BaseFile
+  begun = record { run = st.run; point = 0; pairs = st.base }
+
+  -- each is the file of its points
+  abbrev Worth : List File → Type 0
+  Worth files = All (IsOfItsPoints st.run st.base (log_of h)) files
+
+  unfolded : (some : List File) (given : Refusal) → Worth some → IsUnfolded some given → IsUntoldAfter st some given
   unfolded [] given parts (there, folds) = absurd (there refl)
-  unfolded (first ∷ others) given parts (there, folds) = by (well base.run base.pairs log first others (Err given) (λ f. All-contains (IsOfItsPoints base.run base.pairs log) (first ∷ others) f parts) folds)
+  unfolded (first ∷ others) given parts (there, folds) = by (well st.run st.base (log_of h) first others (Err given) (λ f. All-contains (IsOfItsPoints st.run st.base (log_of h)) (first ∷ others) f parts) folds)
     where
-      by : (given ≡ OutOfMemory) ⊎ (given ≡ Full) → IsUntoldAfter (first ∷ others) given
-      by (inl is) = subst (IsUntoldAfter (first ∷ others)) (sym is) tt
-      by (inr is) = subst (IsUntoldAfter (first ∷ others)) (sym is) there
+      by : (given ≡ OutOfMemory) ⊎ (given ≡ Full) → IsUntoldAfter st (first ∷ others) given
+      by (inl is) = subst (IsUntoldAfter st (first ∷ others)) (sym is) tt
+      by (inr is) =
+          let many = full_fold first others given is folds in
+          let few = file_within st h legal (folded first others) (fold_of st.run st.base (log_of h) first others parts) in
+          absurd (omega (arith, many, few))
 
-  unlaid : (some : List File) (file : Option File) (given : Refusal) → base.point ≡ 0 → All (IsOfItsPoints base.run base.pairs log) some → Folded some file → IsUnlaid base file given → IsUntoldAfter some given
-  unlaid some None given start parts fold is = absurd is
-  unlaid [] (Some file) given start parts fold is = cc (fold)
-  unlaid (first ∷ others) (Some file) given start parts fold is = by (left_causes (not (eqb base.run file.run)) (gap_above base.point file.points) _ given own is)
+  unlaid : (some : List File) (file : Option File) (given : Refusal) → Worth some → Folded some file → IsUnlaid begun file given → IsUntoldAfter st some given
+  unlaid some None given parts fold is = absurd is
+  unlaid [] (Some file) given parts fold is = cc (fold)
+  unlaid (first ∷ others) (Some file) given parts fold is =
+      by (left_causes (not (eqb st.run file.run)) (gap_above 0 file.points) (nat_lt MOST_FILE_ENTRIES (len (laid st.base 0 file.triples))) given own is)
     where
-      of : IsOfAllPoints base.run base.pairs log (first ∷ others) file
-      of = of_all well base log (first ∷ others) (Some file) parts fold
+      of : IsOfAllPoints st.run st.base (log_of h) (first ∷ others) file
+      of = of_all well begun (log_of h) (first ∷ others) (Some file) parts fold
 
-      run : file.run ≡ base.run
+      run : file.run ≡ st.run
       run = ap (λ (f : File). f.run) of.of_its_points.is
 
-      own : not (eqb base.run file.run) ≡ false
-      own = let same : eqb base.run file.run ≡ true = grind (arith, nat_tests, run) in ap not same
+      own : not (eqb st.run file.run) ≡ false
+      own = let same : eqb st.run file.run ≡ true = grind (arith, nat_tests, run) in ap not same
 
-      by : (given ≡ Full) ⊎ ((p : ℕ) × (gap_above base.point file.points ≡ Some p) × (given ≡ Gap p)) → IsUntoldAfter (first ∷ others) given
-      by (inl full) = subst (IsUntoldAfter (first ∷ others)) (sym full) (λ none. cc (none))
+      many : gap_above 0 file.points ≡ None → nat_lt MOST_FILE_ENTRIES (len (laid st.base 0 file.triples)) ≡ true → (st.capacity < len st.base) ⊎ (MOST_FILE_ENTRIES < st.capacity)
+      many none full = room (nat_lt st.capacity (len st.base)) refl
+        where
+          room : (b : Bool) → nat_lt st.capacity (len st.base) ≡ b → (st.capacity < len st.base) ⊎ (MOST_FILE_ENTRIES < st.capacity)
+          room true less = inl (ltb-true st.capacity (len st.base) less)
+          room false less =
+              let few = laid_within st h legal file of.of_its_points (ltb-false st.capacity (len st.base) less) none in
+              let above = ltb-true MOST_FILE_ENTRIES (len (laid st.base 0 file.triples)) full in
+              inr (omega (arith, few, above))
+
+      by : ((given ≡ Full) × (gap_above 0 file.points ≡ None) × (nat_lt MOST_FILE_ENTRIES (len (laid st.base 0 file.triples)) ≡ true)) ⊎ ((p : ℕ) × (gap_above 0 file.points ≡ Some p) × (given ≡ Gap p)) → IsUntoldAfter st (first ∷ others) given
+      by (inl full) = subst (IsUntoldAfter st (first ∷ others)) (sym full.0) (λ none. cc (none), many full.1 full.2)
       by (inr (p, gap, at)) =
-          let lacks = gap_lacks file.points p (subst (λ n. gap_above n file.points ≡ Some p) start gap) in
+          let lacks = gap_lacks file.points p gap in
           let missing : has_point (first ∷ others) p ≡ false = sym (of.points_of_all p) ∙ lacks.1 in
           let later : has_point (first ∷ others) lacks.2.0 ≡ true = sym (of.points_of_all lacks.2.0) ∙ lacks.2.2 in
-          subst (IsUntoldAfter (first ∷ others)) (sym at) (lacks.0, missing, (lacks.2.0, lacks.2.1, later))
+          subst (IsUntoldAfter st (first ∷ others)) (sym at) (lacks.0, missing, (lacks.2.0, lacks.2.1, later))
 
 module _ (well : FilesFoldWell) (st : Setting) (history : History) (base : BaseFile) (log : List Entry) (files : List File) (after : AreLeftAfter st history base log files) (n : ℕ) (given : Refusal) where
-  parts : All (IsOfItsPoints base.run base.pairs log) (drop n files)
-  parts = All-drop (IsOfItsPoints base.run base.pairs log) n files (subst (λ (b : BaseFile). All (IsOfItsPoints b.run b.pairs log) files) (sym after.start) after.worth)
+  parts : All (IsOfItsPoints st.run st.base (log_of history)) (drop n files)
+  parts = All-drop (IsOfItsPoints st.run st.base (log_of history)) n files (subst (λ (l : List Entry). All (IsOfItsPoints st.run st.base l) files) after.log_is after.worth)
 
-  pub memory_untold : given ≡ OutOfMemory → IsUntoldAfter (drop n files) given
-  memory_untold is = subst (IsUntoldAfter (drop n files)) (sym is) tt
+  pub memory_untold : given ≡ OutOfMemory → IsUntoldAfter st (drop n files) given
+  memory_untold is = subst (IsUntoldAfter st (drop n files)) (sym is) tt
 
   -- the files have no fold
-  pub not_folded : (given ≡ OutOfMemory) ⊎ IsUnfolded (drop n files) given → IsUntoldAfter (drop n files) given
+  pub not_folded : (given ≡ OutOfMemory) ⊎ IsUnfolded (drop n files) given → IsUntoldAfter st (drop n files) given
   not_folded (inl memory) = memory_untold memory
-  not_folded (inr cause) = unfolded well base log (drop n files) given parts cause
+  not_folded (inr cause) = unfolded well st history after.legal (drop n files) given parts cause
 
   -- or the base can't have it laid on it
-  pub not_laid : (file : Option File) → Folded (drop n files) file → (given ≡ OutOfMemory) ⊎ IsUnlaid base file given → IsUntoldAfter (drop n files) given
+  pub not_laid : (file : Option File) → Folded (drop n files) file → (given ≡ OutOfMemory) ⊎ IsUnlaid base file given → IsUntoldAfter st (drop n files) given
   not_laid file fold (inl memory) = memory_untold memory
-  not_laid file fold (inr cause) = unlaid well base log (drop n files) file given (ap (λ (b : BaseFile). b.point) after.start) parts fold cause
+  not_laid file fold (inr cause) = unlaid well st history after.legal (drop n files) file given parts fold (subst (λ (b : BaseFile). IsUnlaid b file given) after.start cause)

@@ -1,11 +1,12 @@
 -- What a closed store leaves: how many commits its log has, the file of all points, and whether its files are right.
-use Rattle.std.specs.Prelude.{◌≡◌, ◌≤◌, ◌↔◌, ◌⊎◌, ⊤, ℕ, Bool, true, false, List, [], ◌∷◌, ◌++◌, Option, Some, None, Ok, Err, All, IsTrue, IsFalse, length, filter}
+use Rattle.std.specs.Prelude.{◌≡◌, ◌≤◌, ◌<◌, ◌↔◌, ◌⊎◌, ⊤, ℕ, Bool, true, false, List, [], ◌∷◌, ◌++◌, Option, Some, None, Ok, Err, All, IsTrue, IsFalse, length, filter}
 use Rattle.std.specs.List.{list_any}
 use Rattle.pc_types.specs.declared.Entry.{Entry}
 use Rattle.pc_types.specs.declared.Entry.TheVariants.{Commit, Token}
 use Rattle.pc_types.specs.declared.Refusal.{Refusal}
 use Rattle.pc_types.specs.declared.Refusal.TheVariants.{OutOfMemory}
 use Rattle.pc_types.specs.declared.Refusal.TheVariants as refusal
+use Rattle.pc_types.specs.declared.limits.TheConstants.{MOST_FILE_ENTRIES}
 use Rattle.pc_model.specs.Maps.{len}
 use Rattle.pc_model.specs.Sets as set
 use Rattle.pc_model.specs.Files.{BaseFile, File}
@@ -84,12 +85,13 @@ pub record AreLeftAfter (st : Setting) (history : History) (base : BaseFile) (lo
 abbrev pub IsMissing : List File → ℕ → Type 0
 IsMissing files point = (1 ≤ point) × IsFalse (has_point files point) × ((later : ℕ) × (point ≤ later) × IsTrue (has_point files later))
 
--- Why nothing is told of such files: memory ran out; there are some, and of Full no more is said here; or a point is missing.
-abbrev pub IsUntoldAfter : List File → Refusal → Type 0
-IsUntoldAfter files refusal.OutOfMemory = ⊤
-IsUntoldAfter files refusal.Full = ¬ (files ≡ [])
-IsUntoldAfter files (refusal.Gap point) = IsMissing files point
-IsUntoldAfter files other = ⊥
+-- Why nothing is told of such files: memory ran out; there are some, and the store began with more pairs than it has room for, or has
+-- room for more than a file may have; or a point is missing.
+abbrev pub IsUntoldAfter : Setting → List File → Refusal → Type 0
+IsUntoldAfter st files refusal.OutOfMemory = ⊤
+IsUntoldAfter st files refusal.Full = ¬ (files ≡ []) × ((st.capacity < len st.base) ⊎ (MOST_FILE_ENTRIES < st.capacity))
+IsUntoldAfter st files (refusal.Gap point) = IsMissing files point
+IsUntoldAfter st files other = ⊥
 
 -- the file is the one that the log gives the points of all these; there is none of no files
 abbrev pub IsOfAll : BaseFile → List Entry → List File → Option File → Type 0

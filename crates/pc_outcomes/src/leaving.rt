@@ -142,8 +142,9 @@ fn behind(files: &[SharedPart], singles: usize) -> &[SharedPart]
 
 /// What a closed store leaves of its files. Those behind the first so many are folded to one, by so many collapsers, 1 to 64;
 /// that one is audited too. After a legal history all is right. Refuses for what keeps them from being folded, or the base from having
-/// their fold laid on it, and else with `OutOfMemory` alone: after a legal history that is `Full`, where together they have too many
-/// entries, or `Gap`, where one of the points up to theirs is missing.
+/// their fold laid on it, and else with `OutOfMemory` alone: after a legal history that is `Gap`, where one of the points up to theirs
+/// is missing, or `Full`, and that only of a store that began with more pairs than it has room for, or has room for more than a file
+/// may have.
 pub fn left_by<G: Gate + Sync, R: Threads + Wait + Sync>(
     rt: &R,
     alloc: Global,
@@ -159,7 +160,7 @@ pub fn left_by<G: Gate + Sync, R: Threads + Wait + Sync>(
     ensures left { IfOk result (IsStoreReport base.now log.now files.items (drop singles files.items)) }
     ensures legacy { (st : Setting) (history : History) → AreLeftAfter st history base.now log.now files.items → IfOk result (IsLegacy base.now log.now (drop singles files.items)) }
     ensures refused { IfErr result (IsReportUntold base.now (drop singles files.items)) }
-    ensures untold { (st : Setting) (history : History) → AreLeftAfter st history base.now log.now files.items → IfErr result (IsUntoldAfter (drop singles files.items)) }
+    ensures untold { (st : Setting) (history : History) → AreLeftAfter st history base.now log.now files.items → IfErr result (IsUntoldAfter st (drop singles files.items)) }
 {
     files_fold_well();
     files_of_their_points_are_right();

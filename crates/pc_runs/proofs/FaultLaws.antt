@@ -1,22 +1,15 @@
 -- Which faults end a run that has begun.
-use Rattle.std.proofs.Common.{◌≡◌, ◌⊎◌, inl, inr, ℕ, ◌<◌, ◌≤◌, Bool, true, false, List, [], ◌∷◌, Option, Some, None, length, length-append, All, refl, ap, sym, subst, ◌∙◌, arith}
+use Rattle.std.proofs.Common.{◌≡◌, ◌⊎◌, inl, inr, ℕ, ◌<◌, ◌≤◌, Bool, true, false, List, [], ◌∷◌, Option, Some, None, length, length-append, refl, sym, subst, ◌∙◌, arith}
 use Rattle.std.specs.Prelude.{IsTrue, ◌||◌, is_some}
 use Rattle.std.specs.List.{flat_map}
-use Rattle.std.proofs.lemmas.Bool.Decides.{nat_tests}
-use Rattle.std.proofs.lemmas.List.Elements.{All-head}
-use Rattle.pc_types.specs.declared.Entry.{Entry}
+use Rattle.pc_types.specs.declared.limits.TheConstants.{MOST_KEYS}
 use Rattle.pc_types.specs.declared.refusal.Refusal.{Refusal}
 use Rattle.pc_types.specs.declared.refusal.Refusal.TheVariants as why
 use Rattle.pc_types.specs.declared.tally.Tally.{Tally}
 use Rattle.pc_model.specs.Database.{Database, KeysRise, database_of}
 use Rattle.pc_model.specs.Files.{BaseFile, File}
 use Rattle.pc_model.specs.Maps.{len}
-use Rattle.pc_model.specs.Numbers.{is_one_of}
 use Rattle.pc_model.specs.Replies.{Setting}
-use Rattle.pc_model.specs.Sets as set
-use Rattle.pc_model.specs.Sets.{Set, number_order}
-use Rattle.pc_model.specs.Standing.{IsOfItsPoints}
-use Rattle.pc_model.proofs.ContentLaws.{contains-items}
 use Rattle.pc_jobs.specs.Dealing.{IsDealt}
 use Rattle.pc_jobs.specs.declared.works.Client.{Client}
 use Rattle.pc_jobs.specs.declared.works.Workload.{Workload}
@@ -30,7 +23,7 @@ use Rattle.pc_threads.specs.declared.fault.ThreadsFault.{ThreadsFault}
 use Rattle.pc_threads.specs.declared.fault.ThreadsFault.TheVariants as fault
 use Rattle.pc_threads.specs.declared.files.FileFault.{FileFault}
 use Rattle.pc_threads.specs.declared.files.FileFault.TheVariants as lost
-use Rattle.pc_workers.specs.Covering.{HaveJustTo, HaveOnlyTo}
+use Rattle.pc_workers.specs.Covering.{HaveJustTo}
 use Rattle.pc_runs.specs.Faults.{EndsRun, IsRunRefused}
 use Rattle.pc_runs.specs.Folders.{HasBegunFiles, IsLogLost}
 use Rattle.pc_runs.proofs.DealingLaws.{same_total, total}
@@ -77,7 +70,7 @@ module _ (st : Setting) (workload : Workload) (there : Bool) where
   pub of_threads : (writes : Bool) (count : ℕ) (given : ThreadsFault) → (IsTrue writes → IsTrue there) → count ≡ transactions_in workload.clients → IsThreadsEnd writes count workload.points given → EndsRun st workload there given
   of_threads writes count (fault.Refused why.OutOfMemory) on same end = tt
   of_threads writes count (fault.Refused why.Device) on same end = on end
-  of_threads writes count (fault.Refused why.Full) on same many = inr (inl (omega (arith, same, many)))
+  of_threads writes count (fault.Refused why.Full) on same many = inr (omega (arith, same, many))
   of_threads writes count (fault.Refused why.PointsFull) on same end = end
   of_threads writes count (fault.Refused why.LogFull) on same end = end
   of_threads writes count (fault.Refused why.NoFile) on same end = end
@@ -106,31 +99,14 @@ module _ (st : Setting) (workload : Workload) (there : Bool) where
 pub too_large : (capacity : ℕ) (items : List (List ℕ × List ℕ)) (pairs : Database) → KeysRise items → database_of items ≡ pairs → capacity < length items → capacity < len pairs
 too_large capacity items pairs rise is many = subst (λ (l : List (List ℕ × List ℕ)). capacity < length l) (sym (pairs_of items pairs rise is)) many
 
--- a file of a log has a point
-some_point : (points : Set number_order) → ¬ (set.items points ≡ []) → (p : ℕ) × (set.contains points p ≡ true)
-some_point points some = by (set.items points) refl
-  where
-    by : (items : List ℕ) → set.items points ≡ items → (p : ℕ) × (set.contains points p ≡ true)
-    by [] is = absurd (some is)
-    by (p ∷ items) is =
-        let first : is_one_of p (p ∷ items) ≡ true = grind (arith, nat_tests) in
-        (p, contains-items points p ∙ ap (is_one_of p) is ∙ first)
-
-some_points : (run : ℕ) (base : Database) (log : List Entry) (points : ℕ) (files : List File) → All (IsOfItsPoints run base log) files → ¬ (files ≡ []) → HaveOnlyTo points files → 0 < points
-some_points run base log points [] worth some only = absurd (some refl)
-some_points run base log points (f ∷ files) worth some only =
-    let p = some_point f.points (All-head (IsOfItsPoints run base log) f files worth).covers_some in
-    let has : has_point (f ∷ files) p.0 ≡ true = ap (λ b. b || has_point files p.0) p.1 in
-    let low = only p.0 has in
-    omega (arith, low.0, low.1)
-
 -- nothing is told of what is left
-pub untold_ends : (st : Setting) (workload : Workload) (there : Bool) (log : List Entry) (files : List File) (given : Refusal) → All (IsOfItsPoints st.run st.base log) files → HaveJustTo workload.points files
-    → IsUntoldAfter files given → IsRunRefused st workload there given
-untold_ends st workload there log files why.OutOfMemory worth just untold = tt
-untold_ends st workload there log files why.Full worth just untold = inr (inr (some_points st.run st.base log workload.points files worth untold just.1))
-untold_ends st workload there log files (why.Gap point) worth just (some, missing, (later, behind, has)) =
+pub untold_ends : (st : Setting) (workload : Workload) (there : Bool) (files : List File) (given : Refusal) → st.capacity ≤ MOST_KEYS → HaveJustTo workload.points files → IsUntoldAfter st files given
+    → IsRunRefused st workload there given
+untold_ends st workload there files why.OutOfMemory room just untold = tt
+untold_ends st workload there files why.Full room just (some, inl few) = inl few
+untold_ends st workload there files why.Full room just (some, inr many) = absurd (omega (arith, room, many))
+untold_ends st workload there files (why.Gap point) room just (some, missing, (later, behind, has)) =
     let low = just.1 later has in
     let there : has_point files point ≡ true = just.0 point some (omega (arith, behind, low.1)) in
     cc (missing, there)
-untold_ends st workload there log files other worth just untold = absurd untold
+untold_ends st workload there files other room just untold = absurd untold

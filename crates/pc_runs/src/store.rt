@@ -1,5 +1,6 @@
 //! A store of a workload, from its opening to what it leaves.
 ghost use Rattle.std.specs.Prelude.{◌≡◌, ◌≤◌, ◌<◌, ◌||◌, ◌++◌, [], All, List, length, drop, is_some, IfErr, IfOk};
+ghost use Rattle.pc_types.specs.declared.limits.TheConstants.{MOST_KEYS};
 ghost use Rattle.pc_types.specs.declared.refusal.Refusal.{Refusal};
 ghost use Rattle.pc_types.specs.declared.refusal.Refusal.TheVariants.{OutOfMemory};
 ghost use Rattle.pc_model.specs.History.{History};
@@ -165,6 +166,7 @@ pub fn run_store<
     log: Option<Tally<F>>,
 ) -> Result<(RunReport, Option<D>), ThreadsFault>
     requires name { opened ≡ N.name }
+    requires room { N.name.setting.capacity ≤ MOST_KEYS }
     requires seats { HaveSeats (new_sitters N.name.setting.sessions) workload.clients }
     requires begun { HasBegunFiles D.holds F.contents D.blank (base_of N.name.setting) folder log }
     ensures run { IfOk result (λ r. IsWorkloadRun D.holds N.name.setting workload (is_some folder) r.1 r.0) }
@@ -230,7 +232,7 @@ fn leave<N: StoreName, G: Gate + Sync, R: Threads + Wait + Sync>(
     requires after { (history : History) × AreLeftAfter N.name.setting history closed.world.base closed.world.log closed.parts.items }
     ensures commits { IfOk result (λ legacy. legacy.commits ≡ commits_in closed.world.log) }
     ensures files { IfOk result (λ legacy. IsLegacy closed.world.base closed.world.log (drop singles closed.parts.items) legacy.files) }
-    ensures untold { IfErr result (λ fault. (why : Refusal) × (fault ≡ ThreadsFault.Refused why) × IsUntoldAfter (drop singles closed.parts.items) why) }
+    ensures untold { IfErr result (λ fault. (why : Refusal) × (fault ≡ ThreadsFault.Refused why) × IsUntoldAfter N.name.setting (drop singles closed.parts.items) why) }
 {
     let mut closed = closed;
     let files = files_of(alloc, &mut closed)?;

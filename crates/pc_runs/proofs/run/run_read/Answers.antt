@@ -1,6 +1,7 @@
-use Rattle.std.proofs.Common.{inl, subst, sym}
+use Rattle.std.proofs.Common.{◌≤◌, inl, subst, sym}
 use Rattle.std.specs.Prelude.{is_some}
 use Rattle.std.proofs.lemmas.Result.{err_from_is_err_and}
+use Rattle.pc_types.specs.declared.limits.TheConstants.{MOST_KEYS}
 use Rattle.pc_model.specs.Replies.{Setting}
 use Rattle.pc_shared.specs.Sitters.{new_sitters}
 use Rattle.pc_threads.specs.Clients.{HaveSeats}
@@ -10,6 +11,9 @@ use Rattle.pc_runs.proofs.run.run_read.Goals as goal
 
 pub run_store-requires-clause-seats : goal.run_store-requires-clause-seats
 run_store-requires-clause-seats g c κs within = subst (λ (st : Setting). HaveSeats (new_sitters st.sessions) c.args.workload.clients) (sym c.in_ok-opened.ensures.setting) c.requires.seats
+
+pub run_store-requires-clause-room : goal.run_store-requires-clause-room
+run_store-requires-clause-room g c κs within = subst (λ (st : Setting). st.capacity ≤ MOST_KEYS) (sym c.in_ok-opened.ensures.setting) c.requires.capacity.1
 
 pub returns-in_err-folder-clause-ended : goal.returns-in_err-folder-clause-ended
 returns-in_err-folder-clause-ended g c =

@@ -30,4 +30,4 @@ returns-in_err-files-2-clause-untold g c =
     subst (λ (b : BaseFile). AreLeftAfter st after.0 b c.as_slice.result.now c.in_ok-files.files.items) (sym base)
     (subst (λ (l : List Entry). AreLeftAfter st after.0 c.args.closed.world.base l c.in_ok-files.files.items) (sym log)
     (subst (λ (fs : List File). AreLeftAfter st after.0 c.args.closed.world.base c.args.closed.world.log fs) (sym files) after.1)) in
-    rw (p.1) (why, p.2, subst (λ (fs : List File). IsUntoldAfter (drop c.args.singles fs) why) files (c.in_err-files-2.ensures.untold st after.0 worth))
+    rw (p.1) (why, p.2, subst (λ (fs : List File). IsUntoldAfter st (drop c.args.singles fs) why) files (c.in_err-files-2.ensures.untold st after.0 worth))

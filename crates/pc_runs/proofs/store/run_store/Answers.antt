@@ -14,7 +14,6 @@ use Rattle.pc_workers.specs.Covering.{HaveJustTo}
 use Rattle.pc_runs.specs.Folders.{LeavesFiles, base_of}
 use Rattle.pc_runs.proofs.HistoryLaws.{behind_first, first_ones, left_after}
 use Rattle.std.proofs.lemmas.Result.{err_from_is_err_and}
-use Rattle.std.proofs.lemmas.List.Elements.{All-drop}
 use Rattle.pc_runs.proofs.FaultLaws.{folder_there, log_lost_there, log_there, lost_ends, no_memory, of_threads, one_there, same_transactions, untold_ends}
 use Rattle.pc_runs.proofs.NewPasses.{as_many, some_passes}
 use Rattle.pc_runs.proofs.SeatingLaws.{all_back, dealt_seats}
@@ -140,10 +139,8 @@ returns-in_err-left-clause-ended g c =
     let parts : closed.parts.items ≡ ended.written.items ++ ended.joined.items = c.close-closed.ensures.parts ∙ c.in_ok-tickets.ensures.0 in
     let joined : drop c.in_ok-tickets.singles closed.parts.items ≡ ended.joined.items =
     (λ k. drop (c.in_ok-tickets.ensures.1 k) (parts k)) ∙ behind_first ended.written.items ended.joined.items in
-    let worth : All (IsOfItsPoints st.run st.base closed.world.log) (drop c.in_ok-tickets.singles closed.parts.items) =
-    All-drop (IsOfItsPoints st.run st.base closed.world.log) c.in_ok-tickets.singles closed.parts.items (subst (All (IsOfItsPoints st.run st.base closed.world.log)) (sym c.close-closed.ensures.parts) left.1.worth) in
     rw (p.1, p.2, untold.1)
-    (untold_ends st c.args.workload (is_some c.args.folder) closed.world.log (drop c.in_ok-tickets.singles closed.parts.items) untold.0 worth
+    (untold_ends st c.args.workload (is_some c.args.folder) (drop c.in_ok-tickets.singles closed.parts.items) untold.0 c.requires.room
     (subst (HaveJustTo c.args.workload.points) (sym joined) c.in_ok-ended.ensures.cover) untold.2)
 
 pub returns-in_err-folder-clause-run : goal.returns-in_err-folder-clause-run
