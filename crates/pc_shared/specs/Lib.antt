@@ -6,3 +6,4 @@ pub mod Written
 pub mod Lent
 pub mod Waking
 pub mod Granted
+pub mod Advances

@@ -17,5 +17,5 @@ pub use pc_latch::{LogPass, PartTicket};
 pub use pc_tie::{CheckpointerSeat, Witness};
 pub use pc_txn::Commits;
 pub use session::{CallAnswer, LentReceipt, Session};
-pub use store::{Opened, Shared, Turn, UnderLatch, pause};
+pub use store::{Advanced, Opened, Shared, Turn, UnderLatch, pause};
 pub use waits::{Waits, Woken};

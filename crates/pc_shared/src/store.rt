@@ -19,6 +19,7 @@ ghost use Rattle.pc_model.specs.Receipts.{own_of};
 ghost use Rattle.pc_latch.specs.OwnReads.{reads_one_of};
 ghost use Rattle.pc_model.specs.Sets as set;
 ghost use Rattle.pc_latch.specs.Tickets.{HasNoFile, IsNoTicket};
+ghost use Rattle.pc_shared.specs.Advances.{EndsWith};
 ghost use Rattle.pc_shared.specs.Asked.{is_wait};
 ghost use Rattle.pc_shared.specs.Granted.{HasGranted};
 ghost use Rattle.pc_shared.specs.Sitters.{new_sitters, IsLeftByStore, AreSittersApart, HasAll, LacksOne};
@@ -41,6 +42,14 @@ use std::hash::RandomState;
 use std::marker::Model;
 use std::sync::{Condvar, Mutex, MutexGuard, OnceLock, Wait};
 use std::thread;
+
+/// What the checkpointer was answered.
+#[derive(Drop)]
+pub struct Advanced<N: StoreName> {
+    pub reply: Reply,
+    /// A witness of the history that ends with the answer.
+    pub seen: Witness<N>,
+}
 
 /// A store that was opened, and has no name yet. Contracts see the name that it can be given.
 #[derive(Drop)]
@@ -330,12 +339,27 @@ impl<N: StoreName> Shared<N> {
     pub fn advance<R: Wait>(&self, rt: &R, checkpointer: &mut CheckpointerSeat<N>) -> Reply
         ensures { IsAdvance N.name.setting checkpointer.old result checkpointer.new }
     {
+        let Advanced { reply, seen: _ } = self.advance_shown(rt, checkpointer);
+        reply
+    }
+
+    /// The same, with a witness of the store's legal history, which ends with the answer, a refusal too.
+    pub fn advance_shown<R: Wait>(
+        &self,
+        rt: &R,
+        checkpointer: &mut CheckpointerSeat<N>,
+    ) -> Advanced<N>
+        ensures called { IsAdvance N.name.setting checkpointer.old result.reply checkpointer.new }
+        ensures shown { EndsWith N.name.setting checkpointer.new result.reply result.seen }
+    {
         let mut held = self.get_latch_soon(rt);
         let reply = held.latched.advance(&self.tie, checkpointer);
+        let _ = held.latched.log_len_since(&self.tie, checkpointer);
+        let seen = held.latched.witness(&self.tie);
         let woken = held.note(&reply);
         drop(held);
         self.wake(woken);
-        reply
+        Advanced { reply, seen }
     }
 
     /// The checkpointer takes one key of the point: the key with what it had there, that none is left, or a refusal. What it has

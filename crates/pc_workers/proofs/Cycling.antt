@@ -1,6 +1,6 @@
 -- The phases that a checkpointer enters, call after call.
 use Rattle.std.proofs.Common.{◌≡◌, ◌⊎◌, inl, inr, ℕ, Bool, true, false, List, [], ◌∷◌, ◌++◌, length, length-append, refl, ap, sym, ◌∙◌, subst, append_assoc, arith}
-use Rattle.std.specs.Prelude.{Some, None, MatchBool}
+use Rattle.std.specs.Prelude.{Option, Some, None, IfSome, MatchBool}
 use Rattle.std.specs.Prelude.{Result, Ok, Err, IfOk, IfErr}
 use Rattle.std.specs.Result.{IsErrAnd}
 use Rattle.std.proofs.lemmas.List.{append-nil}
@@ -218,6 +218,10 @@ module _ (st : Setting) where
         let legal : IsLegalHistory st (step ∷ rb.0) = subst (IsLegalHistory st) rb.1 x.0 in
         (reached, (does rb.0 legal.0 (phase_known rb.0 before rb.2) (point_known rb.0 before rb.2)).1 ∙ sym reached.at_point)
 
+    pub turned_if : (named : Option ℕ) → named ≡ point_named reply → IsAdvance st before reply after → IfSome named (λ point. HasTurned st before after × (point ≡ point_of after))
+    turned_if None is called = tt
+    turned_if (Some n) is called = turned n (sym is) called
+
     -- or that others are still in the way
     pub waited : point_named reply ≡ None → IsAdvance st before reply after → HasStood st before after
     waited none called = by_count st before after (next_event (phase_of before)) reply (own_event (phase_of before)) (advance_stays (phase_of before) reply none) called
@@ -263,3 +267,8 @@ of_value {T} {E} P r x is holds = subst (λ (q : Result T E). IfOk q P) is holds
 pub of_refusal : {T : Type 0} (P : Refusal → Type 0) (r : Result T Refusal) (why : Refusal) → IsErrAnd r (λ given. given ≡ why) → P why → IfErr r P
 of_refusal P (Ok x) why is holds = tt
 of_refusal P (Err given) why is holds = subst P (sym is) holds
+
+-- the same of what it comes with
+pub of_stop : {T E : Type 0} (r : Result T E) (stop : E) → IsErrAnd r (λ given. given ≡ stop) → (P : E → Type 0) → P stop → IfErr r P
+of_stop (Ok x) stop is P holds = tt
+of_stop (Err given) stop is P holds = subst P (sym is) holds

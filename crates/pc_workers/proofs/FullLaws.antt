@@ -16,10 +16,9 @@ use Rattle.pc_model.specs.Files.{shelf}
 use Rattle.pc_model.specs.History.{History, phase_of, point_of}
 use Rattle.pc_model.specs.Points.{taken}
 use Rattle.pc_model.specs.Replies.{Setting, IsLegal, TakesFirst, active_in, closed_set, first_refusal, is_empty, log_is_full, not_yet, or_else}
-use Rattle.pc_model.specs.Calls.{IsAnswered}
 use Rattle.pc_latch.specs.Cycles.{next_event}
 use Rattle.pc_latch.proofs.CycleLaws.{phase_known, point_known, shelf_known}
-use Rattle.pc_workers.specs.Checkpointing.{IsFull, IsRefusal}
+use Rattle.pc_workers.specs.Checkpointing.{IsFull, IsRefusal, Shows}
 
 -- the refusals that are left, and where the last two of them are told
 abbrev IsFullAt : Setting → History → Refusal → Type 0
@@ -128,25 +127,25 @@ full_at : (st : Setting) (seen : History) (given : Refusal) → IsRefusal st see
 full_at st seen given (inl (h, legal, has, answered)) = of_next st seen given h (phase_of seen) (phase_known h seen has) (phase_known h seen has) (point_known h seen has) (shelf_known st.run h seen has) answered
 full_at st seen given (inr (capture, (h, legal, has, answered))) = of_take st seen given h (phase_known h seen has ∙ capture) answered
 
-at_last : (st : Setting) (seen : History) (last : ℕ) (given : Refusal) → (phase_of seen ≡ Rest → point_of seen < last) → IsFullAt st seen given → IsFull st seen last given
-at_last st seen last why.OutOfMemory before full = tt
-at_last st seen last why.LogFull before full = tt
-at_last st seen last why.ShelfFull before full = full
-at_last st seen last why.PointsFull before (rest, full) = let low : point_of seen < last = before rest in omega (arith, low, full)
-at_last st seen last other before full = absurd full
+at_last : (st : Setting) (seen shown : History) (last : ℕ) (given : Refusal) → (phase_of seen ≡ Rest → point_of seen < last) → Shows st seen given shown → IsFullAt st seen given → IsFull st seen shown last given
+at_last st seen shown last why.OutOfMemory before shows full = tt
+at_last st seen shown last why.LogFull before shows full = shows.log refl
+at_last st seen shown last why.ShelfFull before shows full = full
+at_last st seen shown last why.PointsFull before shows (rest, full) = let low : point_of seen < last = before rest in omega (arith, low, full)
+at_last st seen shown last other before shows full = absurd full
 
 -- where the store refuses a checkpointer, for which at rest the point before the last of those due has come at most
-pub is_full : (st : Setting) (seen : History) (last : ℕ) (given : Refusal) → (phase_of seen ≡ Rest → point_of seen < last) → IsRefusal st seen given → IsFull st seen last given
-is_full st seen last given before refused = at_last st seen last given before (full_at st seen given refused)
+pub is_full : (st : Setting) (seen shown : History) (last : ℕ) (given : Refusal) → (phase_of seen ≡ Rest → point_of seen < last) → Shows st seen given shown → IsRefusal st seen given → IsFull st seen shown last given
+is_full st seen shown last given before shows refused = at_last st seen shown last given before shows (full_at st seen given refused)
 
 -- it is as full where more points are due
-pub full_to : (st : Setting) (seen : History) (last more : ℕ) (given : Refusal) → last ≤ more → IsFull st seen last given → IsFull st seen more given
-full_to st seen last more why.OutOfMemory low full = tt
-full_to st seen last more why.LogFull low full = tt
-full_to st seen last more why.ShelfFull low full = full
-full_to st seen last more why.PointsFull low full = omega (arith, low, full)
-full_to st seen last more other low full = absurd full
+pub full_to : (st : Setting) (seen shown : History) (last more : ℕ) (given : Refusal) → last ≤ more → IsFull st seen shown last given → IsFull st seen shown more given
+full_to st seen shown last more why.OutOfMemory low full = tt
+full_to st seen shown last more why.LogFull low full = full
+full_to st seen shown last more why.ShelfFull low full = full
+full_to st seen shown last more why.PointsFull low full = omega (arith, low, full)
+full_to st seen shown last more other low full = absurd full
 
 -- in a cycle's other phases
-pub is_full_in : (st : Setting) (seen : History) (phase : Phase) (last : ℕ) (given : Refusal) → (phase ≡ Rest → ⊥) → phase_of seen ≡ phase → IsRefusal st seen given → IsFull st seen last given
-is_full_in st seen phase last given other is refused = is_full st seen last given (λ rest. absurd (other (sym is ∙ rest))) refused
+pub is_full_in : (st : Setting) (seen shown : History) (phase : Phase) (last : ℕ) (given : Refusal) → (phase ≡ Rest → ⊥) → phase_of seen ≡ phase → Shows st seen given shown → IsRefusal st seen given → IsFull st seen shown last given
+is_full_in st seen shown phase last given other is shows refused = is_full st seen shown last given (λ rest. absurd (other (sym is ∙ rest))) shows refused

@@ -3,6 +3,7 @@ pub mod BoardCalls
 mod ClientJobs
 mod Cycling
 mod FullLaws
+mod ShownLaws
 pub mod WholeCycles
 mod Holding
 pub mod CoverLaws

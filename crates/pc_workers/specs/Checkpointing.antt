@@ -1,5 +1,5 @@
 -- What a checkpointer has seen and published since, and why it stops.
-use Rattle.std.specs.Prelude.{◌≡◌, ◌⊎◌, ◌<◌, ⊤, ℕ, zero, suc, ◌+◌, List, [], ◌∷◌, ◌++◌, Option, Some, None, length}
+use Rattle.std.specs.Prelude.{◌≡◌, ◌⊎◌, ◌<◌, ⊤, IsTrue, ℕ, zero, suc, ◌+◌, List, [], ◌∷◌, ◌++◌, Option, Some, None, length}
 use mathlib.Core.List.{IsPrefix}
 use Rattle.pc_types.specs.declared.Event.TheVariants.{Take}
 use Rattle.pc_types.specs.declared.Phase.{Phase}
@@ -12,7 +12,7 @@ use Rattle.pc_types.specs.declared.Reply.TheVariants as told
 use Rattle.pc_model.specs.Files.{shelf}
 use Rattle.pc_model.specs.History.{History, phase_of, point_of}
 use Rattle.pc_model.specs.Headline.{TakesPointValue}
-use Rattle.pc_model.specs.Replies.{Setting, IsLegalHistory}
+use Rattle.pc_model.specs.Replies.{Setting, IsLegalHistory, log_is_full}
 use Rattle.pc_model.specs.Calls.{IsBeginning, IsAnswered}
 use Rattle.pc_board.specs.Passes.{Pass}
 use Rattle.pc_latch.specs.Cycles.{next_event, phases_entered, done_among}
@@ -70,14 +70,22 @@ HasCycled st count before after = HasReached st (whole_cycles (point_of before) 
 abbrev pub IsRefusal : Setting → History → Refusal → Type 0
 IsRefusal st seen why = IsAnswered st 0 seen (next_event (phase_of seen)) (told.Refused why) ⊎ ((phase_of seen ≡ Capture) × IsAnswered st 0 seen Take (told.Refused why))
 
--- What such a refusal is, where the points up to this one are due and the checkpointer has seen this: memory ran out, the log has
--- no place left; by what it has seen the shelf has none; or there can't be so many points.
-abbrev pub IsFull : Setting → History → ℕ → Refusal → Type 0
-IsFull st seen last refusal.OutOfMemory = ⊤
-IsFull st seen last refusal.LogFull = ⊤
-IsFull st seen last refusal.ShelfFull = length (shelf st.run seen) ≡ MOST_FILES
-IsFull st seen last refusal.PointsFull = MOST_POINTS < last
-IsFull st seen last other = ⊥
+-- What such a refusal is, where the points up to this one are due, the checkpointer has seen the first history, and a witness has
+-- seen the second: memory ran out; by what the witness has seen the log has no place left; by what the checkpointer has seen the shelf
+-- has none; or there can't be so many points.
+abbrev pub IsFull : Setting → History → History → ℕ → Refusal → Type 0
+IsFull st seen shown last refusal.OutOfMemory = ⊤
+IsFull st seen shown last refusal.LogFull = IsTrue (log_is_full shown)
+IsFull st seen shown last refusal.ShelfFull = length (shelf st.run seen) ≡ MOST_FILES
+IsFull st seen shown last refusal.PointsFull = MOST_POINTS < last
+IsFull st seen shown last other = ⊥
+
+-- A witness has seen a legal history that goes on from what the checkpointer had seen, and where this refusal says so, its log has no
+-- place left.
+pub record Shows (st : Setting) (seen : History) (why : Refusal) (shown : History) : Type 0 where
+  pub legal : IsLegalHistory st shown
+  pub had_seen : IsBeginning seen shown
+  pub log : why ≡ refusal.LogFull → IsTrue (log_is_full shown)
 
 -- it stopped at a refusal, and no phase was entered
 abbrev pub IsHeldUp : Setting → History → History → Refusal → Type 0

@@ -1,18 +1,35 @@
 //! The checkpointer's loop: it takes one point after the other.
-ghost use Rattle.std.specs.Prelude.{◌≡◌, ◌+◌, IfOk, IfErr, OnErr};
+ghost use Rattle.std.specs.Prelude.{◌≡◌, ◌+◌, None, IfOk, IfErr, IfSome, OnErr};
 ghost use Rattle.pc_types.specs.declared.Phase.TheVariants.{Rest, Capture};
 ghost use Rattle.pc_types.specs.declared.Reply.TheVariants.{Refused};
 ghost use Rattle.pc_model.specs.History.{phase_of, point_of};
 ghost use Rattle.pc_board.specs.declared.calls.CallKind.TheVariants.{Publish};
 ghost use Rattle.pc_board.specs.Passes.{IsOfBoard, MakesCall};
-ghost use Rattle.pc_workers.specs.Checkpointing.{whole_cycle, whole_cycles, point_named, HasReached, HasStood, HasTurned, HasCycled, IsHeldUp, HasPublished, HasBrokenOff, IsFull};
+ghost use Rattle.pc_workers.specs.Checkpointing.{whole_cycle, whole_cycles, point_named, HasReached, HasStood, HasTurned, HasCycled, IsHeldUp, HasPublished, HasBrokenOff, IsFull, Shows};
 
 use crate::pace::Pace;
 use pc_board::{Board, BoardPass};
-use pc_shared::{CheckpointerSeat, Shared, pause};
+use pc_shared::{Advanced, CheckpointerSeat, Shared, Witness, pause};
 use pc_tie::StoreName;
 use pc_types::{Gate, GatePlace, Phase, Point, Refusal, Reply};
 use std::sync::Wait;
+
+/// Why a checkpointer has stopped, with a witness of the store's history then, or later.
+#[derive(Drop)]
+pub struct CheckpointFault<N: StoreName> {
+    pub why: Refusal,
+    pub seen: Witness<N>,
+}
+
+impl<N: StoreName> From<CheckpointFault<N>> for Refusal {
+    ghost use Rattle.std.specs.Prelude.{◌≡◌};
+
+    ghost from_gives = { λ stop why. why ≡ stop.why };
+
+    fn from(stop: CheckpointFault<N>) -> Refusal {
+        stop.why
+    }
+}
 
 // The point of the phase that the reply names, if it names one; or the refusal that it is.
 fn told(reply: &Reply) -> Result<Option<Point>, Refusal>
@@ -38,25 +55,44 @@ fn has_more(reply: &Reply) -> Result<bool, Refusal>
     }
 }
 
+// Asks for the event that ends the phase, once, and gives the point of the phase that the answer names, if it names one; else others
+// are still in the way.
+fn ask_phase<N: StoreName, R: Wait>(
+    rt: &R,
+    shared: &Shared<N>,
+    seat: &mut CheckpointerSeat<N>,
+) -> Result<Option<Point>, CheckpointFault<N>>
+    ensures waited { IfOk result (λ named. named ≡ None → HasStood N.name.setting seat.old seat.new) }
+    ensures turned { IfOk result (λ named. IfSome named (λ point. HasTurned N.name.setting seat.old seat.new × (point ≡ point_of seat.new))) }
+    ensures held_up { IfErr result (λ stop. IsHeldUp N.name.setting seat.old seat.new stop.why) }
+    ensures shown { IfErr result (λ stop. Shows N.name.setting seat.new stop.why stop.seen) }
+{
+    let Advanced { reply, seen } = shared.advance_shown(rt, seat);
+    let told = told(&reply);
+    drop(reply);
+    match told {
+        Ok(named) => Ok(named),
+        Err(why) => Err(CheckpointFault { why, seen }),
+    }
+}
+
 // Asks for the event that ends the phase, until it is answered with the next phase, and gives its point; while others are in the
 // way it waits until the count of changes is another than the one from before it asked.
 fn change_phase<N: StoreName, R: Wait>(
     rt: &R,
     shared: &Shared<N>,
     seat: &mut CheckpointerSeat<N>,
-) -> Result<Point, Refusal>
+) -> Result<Point, CheckpointFault<N>>
     ensures turned { IfOk result (λ _. HasTurned N.name.setting seat.old seat.new) }
     ensures point { IfOk result (λ point. point ≡ point_of seat.new) }
-    ensures held_up { IfErr result (IsHeldUp N.name.setting seat.old seat.new) }
+    ensures held_up { IfErr result (λ stop. IsHeldUp N.name.setting seat.old seat.new stop.why) }
+    ensures shown { IfErr result (λ stop. Shows N.name.setting seat.new stop.why stop.seen) }
 {
     let mut changes = 0;
     for _ in rt.forever() {
-        let reply = shared.advance(rt, seat);
-        let told = told(&reply);
-        drop(reply);
-        let named = match told {
+        let named = match ask_phase(rt, shared, seat) {
             Ok(named) => named,
-            Err(why) => return Err(why),
+            Err(stop) => return Err(stop),
         };
         if let Some(point) = named {
             return Ok(point);
@@ -73,15 +109,16 @@ fn enter<N: StoreName, R: Wait, G: Gate>(
     seat: &mut CheckpointerSeat<N>,
     phase: Phase,
     gate: &G,
-) -> Result<Point, Refusal>
+) -> Result<Point, CheckpointFault<N>>
     ensures turned { IfOk result (λ _. HasTurned N.name.setting seat.old seat.new) }
     ensures point { IfOk result (λ point. point ≡ point_of seat.new) }
-    ensures held_up { IfErr result (IsHeldUp N.name.setting seat.old seat.new) }
+    ensures held_up { IfErr result (λ stop. IsHeldUp N.name.setting seat.old seat.new stop.why) }
+    ensures shown { IfErr result (λ stop. Shows N.name.setting seat.new stop.why stop.seen) }
 {
     gate.pass(GatePlace::Due(phase));
     let point = match change_phase(rt, shared, seat) {
         Ok(point) => point,
-        Err(why) => return Err(why),
+        Err(stop) => return Err(stop),
     };
     gate.pass(GatePlace::Entered(phase));
     Ok(point)
@@ -107,26 +144,47 @@ fn rest<N: StoreName, R: Wait>(rt: &R, shared: &Shared<N>, pace: &mut Pace) {
     pace.begin_turn(shared.last_entry(rt).number);
 }
 
+// Takes a key of the point; whether more may be left.
+fn take_key<N: StoreName, R: Wait>(
+    rt: &R,
+    shared: &Shared<N>,
+    seat: &mut CheckpointerSeat<N>,
+) -> Result<bool, CheckpointFault<N>>
+    requires { phase_of seat.old ≡ Capture }
+    ensures stood { IfOk result (λ _. HasStood N.name.setting seat.old seat.new) }
+    ensures held_up { IfErr result (λ stop. IsHeldUp N.name.setting seat.old seat.new stop.why) }
+    ensures shown { IfErr result (λ stop. Shows N.name.setting seat.new stop.why stop.seen) }
+{
+    let reply = shared.take(rt, seat);
+    let has_more = has_more(&reply);
+    drop(reply);
+    match has_more {
+        Ok(has_more) => Ok(has_more),
+        Err(why) => {
+            let seen = shared.last_entry_since(rt, seat).seen;
+            Err(CheckpointFault { why, seen })
+        }
+    }
+}
+
 // Takes the keys of the point, until none is left, and rests between turns of them.
 fn take_keys<N: StoreName, R: Wait, G: Gate>(
     rt: &R,
     shared: &Shared<N>,
     seat: &mut CheckpointerSeat<N>,
     gate: &G,
-) -> Result<(), Refusal>
+) -> Result<(), CheckpointFault<N>>
     requires { phase_of seat.old ≡ Capture }
     ensures stood { IfOk result (λ _. HasStood N.name.setting seat.old seat.new) }
-    ensures held_up { IfErr result (IsHeldUp N.name.setting seat.old seat.new) }
+    ensures held_up { IfErr result (λ stop. IsHeldUp N.name.setting seat.old seat.new stop.why) }
+    ensures shown { IfErr result (λ stop. Shows N.name.setting seat.new stop.why stop.seen) }
 {
     let mut pace = Pace::new(shared.last_entry(rt).number);
     for _ in rt.forever() {
-        let reply = shared.take(rt, seat);
-        let has_more = has_more(&reply);
-        drop(reply);
-        match has_more {
+        match take_key(rt, shared, seat) {
             Ok(true) => gate.pass(GatePlace::Took),
             Ok(false) => return Ok(()),
-            Err(why) => return Err(why),
+            Err(stop) => return Err(stop),
         }
         if pace.take() {
             rest(rt, shared, &mut pace);
@@ -143,16 +201,17 @@ fn complete<N: StoreName, R: Wait, G: Gate>(
     board: &Board,
     pass: &mut BoardPass,
     gate: &G,
-) -> Result<(), Refusal>
+) -> Result<(), CheckpointFault<N>>
     requires { IsOfBoard pass.old board.now }
     ensures turned { IfOk result (λ _. HasTurned N.name.setting seat.old seat.new) }
     ensures published { IfOk result (λ _. MakesCall pass.old Publish (point_of seat.new) pass.new) }
-    ensures held_up { IfErr result (IsHeldUp N.name.setting seat.old seat.new) }
+    ensures held_up { IfErr result (λ stop. IsHeldUp N.name.setting seat.old seat.new stop.why) }
+    ensures shown { IfErr result (λ stop. Shows N.name.setting seat.new stop.why stop.seen) }
     ensures same { OnErr result (pass.new ≡ pass.old) }
 {
     let point = match enter(rt, shared, seat, Phase::Complete, gate) {
         Ok(point) => point,
-        Err(why) => return Err(why),
+        Err(stop) => return Err(stop),
     };
     board.publish(pass, point);
     Ok(())
@@ -166,13 +225,14 @@ fn take_point<N: StoreName, R: Wait, G: Gate>(
     board: &Board,
     pass: &mut BoardPass,
     gate: &G,
-) -> Result<(), Refusal>
+) -> Result<(), CheckpointFault<N>>
     requires board { IsOfBoard pass.old board.now }
     requires rest { phase_of seat.old ≡ Rest }
     ensures reached { IfOk result (λ _. HasReached N.name.setting (whole_cycle (point_of seat.old + 1)) Rest (point_of seat.old + 1) seat.old seat.new) }
     ensures published { IfOk result (λ _. HasPublished (whole_cycle (point_of seat.old + 1)) pass.old pass.new) }
-    ensures broken_off { IfErr result (HasBrokenOff N.name.setting (whole_cycle (point_of seat.old + 1)) seat.old seat.new pass.old pass.new) }
-    ensures full { IfErr result (IsFull N.name.setting seat.new (point_of seat.old + 1)) }
+    ensures broken_off { IfErr result (λ stop. HasBrokenOff N.name.setting (whole_cycle (point_of seat.old + 1)) seat.old seat.new pass.old pass.new stop.why) }
+    ensures shown { IfErr result (λ stop. Shows N.name.setting seat.new stop.why stop.seen) }
+    ensures full { IfErr result (λ stop. IsFull N.name.setting seat.new stop.seen (point_of seat.old + 1) stop.why) }
 {
     enter(rt, shared, seat, Phase::Prepare, gate)?;
     enter(rt, shared, seat, Phase::Resolve, gate)?;
@@ -189,8 +249,9 @@ fn take_point<N: StoreName, R: Wait, G: Gate>(
 /// it asks for the rest that ends the point's cycle; it makes no other call on the board. The first refusal ends it: one that the
 /// store may answer, after some legal history with all that the checkpointer has seen, to the event that ends the phase or to a
 /// take: `OutOfMemory`, `LogFull`, `ShelfFull` where the shelf has 65,536 files by what the checkpointer has seen, or `PointsFull` where
-/// more than 65,535 points are due. What was put on the shelf until then was published. Each point that it takes puts one file on the
-/// shelf.
+/// more than 65,535 points are due. It comes with a witness of the store's legal history then, or later, which goes on from what the
+/// checkpointer has seen: `LogFull` is told only where its log has 16,777,216 entries. What was put on the shelf until then was
+/// published. Each point that it takes puts one file on the shelf.
 pub fn checkpoint_loop<N: StoreName, R: Wait, G: Gate>(
     rt: &R,
     shared: &Shared<N>,
@@ -199,14 +260,15 @@ pub fn checkpoint_loop<N: StoreName, R: Wait, G: Gate>(
     pass: &mut BoardPass,
     points: u32,
     gate: &G,
-) -> Result<u32, Refusal>
+) -> Result<u32, CheckpointFault<N>>
     requires board { IsOfBoard pass.old board.now }
     requires rest { phase_of seat.old ≡ Rest }
     ensures points { IfOk result (λ n. n ≡ points) }
     ensures cycled { IfOk result (λ n. HasCycled N.name.setting n seat.old seat.new) }
     ensures published { IfOk result (λ n. HasPublished (whole_cycles (point_of seat.old) n) pass.old pass.new) }
-    ensures broken_off { IfErr result (HasBrokenOff N.name.setting (whole_cycles (point_of seat.old) points) seat.old seat.new pass.old pass.new) }
-    ensures full { IfErr result (IsFull N.name.setting seat.new (point_of seat.old + points)) }
+    ensures broken_off { IfErr result (λ stop. HasBrokenOff N.name.setting (whole_cycles (point_of seat.old) points) seat.old seat.new pass.old pass.new stop.why) }
+    ensures shown { IfErr result (λ stop. Shows N.name.setting seat.new stop.why stop.seen) }
+    ensures full { IfErr result (λ stop. IsFull N.name.setting seat.new stop.seen (point_of seat.old + points) stop.why) }
 {
     for _ in 0..points {
         take_point(rt, shared, seat, board, pass, gate)?;

@@ -9,7 +9,7 @@ mod covering;
 mod logging;
 mod pace;
 
-pub use checkpointing::checkpoint_loop;
+pub use checkpointing::{CheckpointFault, checkpoint_loop};
 pub use client_gate::ClientGate;
 pub use clients::{Count, MOST_REPEATS, client_loop};
 pub use collapsing::collapse_loop;

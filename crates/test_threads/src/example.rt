@@ -154,7 +154,7 @@ impl<'a, N: StoreName + Send + Sync, R: Threads + Wait + Sync> Desk<'a, N, R> {
             },
             || -> Result<u32, Refusal>
                 requires { IsOfBoard pass.now board.now × (phase_of seat.now ≡ Rest) }
-            { checkpoint_loop(self.rt, self.shared, seat, board, pass, POINTS, &OpenGate) },
+            { Ok(checkpoint_loop(self.rt, self.shared, seat, board, pass, POINTS, &OpenGate)?) },
         );
         points?;
         committed
