@@ -1,3 +1,4 @@
+mod Meetings
 mod Milestones
 mod Owners
 mod Steps

@@ -12,7 +12,7 @@ use Rattle.pc_model.specs.Replies.{Setting, IsLegalHistory}
 use Rattle.pc_model.specs.Calls.{counts, session_of, calls_of, IsBeginning}
 use Rattle.pc_tie.specs.declared.sight.Sitting.{Sitting}
 use Rattle.pc_tie.specs.declared.sight.Sight.{Sight}
-use Rattle.pc_tie.specs.declared.sight.Sight.TheVariants.{Whole, Front, Gone}
+use Rattle.pc_tie.specs.declared.sight.Sight.TheVariants.{Whole, Front, Beside, Gone}
 use Rattle.pc_tie.specs.Rules.{a_witness, Speaks, shown_out, sitting, Knows, FitsSeat, HasOneHistory, guests_after, said_step, KnewFirst, Applied, entered, parted, emptied, left_out, IsStepOfGuest, after_dealing, new_front, Compared, AreGuestsApart}
 use Rattle.pc_model.proofs.BeginningLaws.{beginning_self, beginning_none, beginning_on, calls_on}
 use Rattle.pc_tie.proofs.Owners.{turned, turned_same, turned_other, turned_either, at_last}
@@ -26,9 +26,11 @@ fits_on : (history : History) (keeper dealt : ℕ) (owner : ℕ → ℕ) (c : St
 fits_on history keeper dealt owner c j apart own (Whole hist g guests) f = absurd (apart f.0)
 fits_on history keeper dealt owner c j apart own (Front n seen) f =
     knows_on history dealt owner j c n seen (λ speaks yes is. apart (sym (f.1 speaks).1 ∙ (ap owner (sym is) ∙ own))) f
+fits_on history keeper dealt owner c j apart own (Beside n seen other) f =
+    (knows_on history dealt owner j c n seen (λ speaks yes is. apart (sym (f.0.1 speaks).1 ∙ (ap owner (sym is) ∙ own))) f.0, beginning_on other history c f.1)
 fits_on history keeper dealt owner c j apart own Gone f = tt
 
-fits_set : (history : History) (keeper dealt : ℕ) (owner : ℕ → ℕ) (views : List Sight) (id : ℕ) (w : Sight) → ((j : ℕ) (u : Sight) → j ≢ id → get_elem? views j ≡ some u → FitsSeat history keeper dealt owner j u)
+pub fits_set : (history : History) (keeper dealt : ℕ) (owner : ℕ → ℕ) (views : List Sight) (id : ℕ) (w : Sight) → ((j : ℕ) (u : Sight) → j ≢ id → get_elem? views j ≡ some u → FitsSeat history keeper dealt owner j u)
     → FitsSeat history keeper dealt owner id w → (j : ℕ) (u : Sight) → get_elem? (set views id w) j ≡ some u → FitsSeat history keeper dealt owner j u
 fits_set history keeper dealt owner views id w others mine j u e =
     ⊎_elim
@@ -142,12 +144,16 @@ fits_turn : (history : History) (keeper dealt : ℕ) (owner : ℕ → ℕ) (n ol
 fits_turn history keeper dealt owner n old new own j apart other (Whole hist g guests) f = absurd (other f.0)
 fits_turn history keeper dealt owner n old new own j apart other (Front m seen) f =
     (f.0, λ speaks. let o = f.1 speaks in (o.0, turned_other owner n new m (λ e. apart (sym o.1 ∙ (ap owner e ∙ own (subst Speaks e speaks)))) ∙ o.1, o.2))
+fits_turn history keeper dealt owner n old new own j apart other (Beside m seen w) f =
+    ((f.0.0, λ speaks. let o = f.0.1 speaks in (o.0, turned_other owner n new m (λ e. apart (sym o.1 ∙ (ap owner e ∙ own (subst Speaks e speaks)))) ∙ o.1, o.2)), f.1)
 fits_turn history keeper dealt owner n old new own j apart other Gone f = tt
 
 more_dealt : (history : History) (keeper dealt : ℕ) (owner : ℕ → ℕ) (j new : ℕ) → j ≢ keeper → (u : Sight) → FitsSeat history keeper dealt owner j u → FitsSeat history keeper (suc dealt) (turned owner dealt new) j u
 more_dealt history keeper dealt owner j new apart (Whole hist g guests) f = absurd (apart f.0)
 more_dealt history keeper dealt owner j new apart (Front n seen) f =
     (f.0, λ speaks. let o = f.1 speaks in let low = o.0 in (omega (arith, low), turned_other owner dealt new n (λ e. absurd (omega (arith, low, e))) ∙ o.1, o.2))
+more_dealt history keeper dealt owner j new apart (Beside n seen other) f =
+    ((f.0.0, λ speaks. let o = f.0.1 speaks in let low = o.0 in (omega (arith, low), turned_other owner dealt new n (λ e. absurd (omega (arith, low, e))) ∙ o.1, o.2)), f.1)
 more_dealt history keeper dealt owner j new apart Gone f = tt
 
 module _ {S : Type 0} (st : Setting) where

@@ -11,7 +11,7 @@ use Rattle.pc_model.specs.Replies.{Setting, IsLegalHistory}
 use Rattle.pc_model.specs.Calls.{counts, session_of, calls_of, IsBeginning}
 use Rattle.pc_tie.specs.declared.sight.Sitting.{Sitting}
 use Rattle.pc_tie.specs.declared.sight.Sight.{Sight}
-use Rattle.pc_tie.specs.declared.sight.Sight.TheVariants.{Whole, Front, Gone}
+use Rattle.pc_tie.specs.declared.sight.Sight.TheVariants.{Whole, Front, Beside, Gone}
 
 -- the number of a witness's seat, past those of all sessions
 abbrev pub a_witness : ℕ
@@ -29,24 +29,28 @@ sitting n seen = record { number = n; seen = seen }
 abbrev pub hist_of : Sight → History
 hist_of (Whole hist dealt guests) = hist
 hist_of (Front n seen) = seen
+hist_of (Beside n seen other) = seen
 hist_of Gone = []
 
 -- how many seats the keeper has dealt, the checkpointer's first, or 0
 abbrev pub dealt_of : Sight → ℕ
 dealt_of (Whole hist dealt guests) = dealt
 dealt_of (Front n seen) = 0
+dealt_of (Beside n seen other) = 0
 dealt_of Gone = 0
 
 -- the seats that the keeper has taken in, the last one first
 abbrev pub guests_of : Sight → List Sitting
 guests_of (Whole hist dealt guests) = guests
 guests_of (Front n seen) = []
+guests_of (Beside n seen other) = []
 guests_of Gone = []
 
 -- the number of the seat; the keeper counts as a witness here
 abbrev pub number_of : Sight → ℕ
 number_of (Whole hist dealt guests) = a_witness
 number_of (Front n seen) = n
+number_of (Beside n seen other) = n
 number_of Gone = a_witness
 
 -- what the seat of a badge has seen
@@ -72,6 +76,7 @@ AreGuestsApart guests = (i j : ℕ) (x y : Sitting) → get_elem? guests i ≡ s
 abbrev pub FitsSeat : History → ℕ → ℕ → (ℕ → ℕ) → ℕ → Sight → Type 0
 FitsSeat history keeper dealt owner id (Whole hist g guests) = (id ≡ keeper) × (hist ≡ history) × (g ≡ dealt) × ((k : ℕ) (x : Sitting) → get_elem? guests k ≡ some x → Knows history dealt owner id x.number x.seen) × AreGuestsApart guests
 FitsSeat history keeper dealt owner id (Front n seen) = Knows history dealt owner id n seen
+FitsSeat history keeper dealt owner id (Beside n seen other) = Knows history dealt owner id n seen × IsBeginning other history
 FitsSeat history keeper dealt owner id Gone = Unit {0}
 
 -- There is one legal history, which the keeper knows whole. The word is the number of entries of its log. Each number but the
@@ -165,3 +170,30 @@ Compared st v found w = (w ≡ v) × AreTold (hist_of v.0) (guests_of v.0)
 -- a witness's seat, which has seen the whole history
 abbrev pub shown_out : Sight → Sight
 shown_out v = Front a_witness (hist_of v)
+
+-- what the witness has seen that the seat has beside it
+abbrev pub other_of : Sight → History
+other_of (Whole hist dealt guests) = []
+other_of (Front n seen) = []
+other_of (Beside n seen other) = other
+other_of Gone = []
+
+-- a seat with a witness beside it
+abbrev pub beside : Sight → Sight → Sight
+beside v w = Beside (number_of v) (hist_of v) (hist_of w)
+
+-- the seat by itself again
+abbrev pub alone : Sight → Sight
+alone v = Front (number_of v) (hist_of v)
+
+-- and the witness's
+abbrev pub witness_out : Sight → Sight
+witness_out v = Front a_witness (other_of v)
+
+-- both are beginnings of one history
+abbrev pub AreOfOne : History → History → Type 0
+AreOfOne seen other = (history : History) × IsBeginning seen history × IsBeginning other history
+
+-- what a look tells of a seat and the witness beside it; it changes nothing
+abbrev pub Met : Exchange Step → Me Step Sight → ℕ → Me Step Sight → Type 0
+Met st v found w = (w ≡ v) × AreOfOne (hist_of v.0) (other_of v.0)

@@ -77,3 +77,29 @@ impl Split<Sight> for Deal {
 
     ghost right = { new_front };
 }
+
+/// A seat takes a witness in, looks at what both have seen, and lets the witness go.
+pub struct Meet;
+
+impl Join<Sight> for Meet {
+    ghost use Rattle.pc_tie.specs.declared.sight.Sight.TheVariants.{Gone};
+    ghost use Rattle.pc_tie.specs.Rules.{beside};
+
+    ghost both = { beside };
+
+    ghost spent = { Gone };
+}
+
+impl Play<Step, Sight> for Meet {
+    ghost use Rattle.pc_tie.specs.Rules.{Met};
+
+    ghost then = { Met };
+}
+
+impl Split<Sight> for Meet {
+    ghost use Rattle.pc_tie.specs.Rules.{alone, witness_out};
+
+    ghost left = { alone };
+
+    ghost right = { witness_out };
+}

@@ -1,12 +1,16 @@
 //! The seats of sessions, of the checkpointer and of witnesses.
 ghost use Rattle.std.specs.Prelude.{◌≡◌};
-ghost use Rattle.pc_tie.specs.Seats.{IsSession};
+ghost use Rattle.pc_tie.specs.Rules.{a_witness, AreOfOne};
+ghost use Rattle.pc_tie.specs.Seats.{IsSeatAt, IsSession, seat_of};
 
 use crate::name::StoreName;
+use crate::rule::Meet;
 use crate::sight::Sight;
-use atomic_table::Badge;
-use pc_types::SessionNo;
+use crate::tie::Tie;
+use atomic_table::{Badge, Seat};
+use pc_types::{SessionNo, Step};
 use std::marker::{Model, PhantomData};
+use std::mem;
 
 /// A session's seat at the word of its store. Contracts see its number and the history that it has seen, which is legal.
 #[derive(Drop)]
@@ -36,6 +40,33 @@ impl<N: StoreName> SessionSeat<N> {
     {
         self.number
     }
+
+    /// Compares what the session has seen with what the witness has: both are beginnings of the store's one history. It needs no
+    /// keeper.
+    pub fn meet(&mut self, tie: &Tie<N>, witness: &mut Witness<N>)
+        ensures same { (self.new ≡ self.old) × (witness.new ≡ witness.old) }
+        ensures one { AreOfOne self.old.seen witness.old }
+    {
+        meet_at(tie, &mut self.badge, &mut witness.badge);
+    }
+}
+
+// Compares what the seats of both badges have seen, of which the second is a witness's.
+fn meet_at<N: StoreName>(tie: &Tie<N>, own: &mut Badge<Sight>, other: &mut Badge<Sight>)
+    requires seats { IsSeatAt N.name.table own.old × IsSeatAt N.name.table other.old }
+    requires witness { (seat_of other.old).number ≡ a_witness }
+    ensures seats { IsSeatAt N.name.table own.new × IsSeatAt N.name.table other.new }
+    ensures same { (seat_of own.new ≡ seat_of own.old) × (seat_of other.new ≡ seat_of other.old) }
+    ensures one { AreOfOne (seat_of own.old).seen (seat_of other.old).seen }
+{
+    let mut seat: Seat<Step, Sight> = mem::replace(own, Badge::blank()).into_seat();
+    let witness: Seat<Step, Sight> = mem::replace(other, Badge::blank()).into_seat();
+    let shared = &tie.table.shared;
+    shared.join_seat::<Meet>(&mut seat, witness);
+    let _found = shared.load::<Meet>(&mut seat, 0);
+    let parted = shared.split_seat::<Meet>(&mut seat);
+    *other = parted.into_badge();
+    *own = seat.into_badge();
 }
 
 /// The checkpointer's seat at the word of its store, which has one. Contracts see the history that it has seen, which is legal.

@@ -16,6 +16,8 @@ pub enum Sight {
     Whole(LinkedList<Step>, u64, LinkedList<Sitting>),
     /// As the seat of this number: a beginning of the history.
     Front(u64, LinkedList<Step>),
+    /// As the seat of this number beside that of a witness: what it has seen, and what the witness has.
+    Beside(u64, LinkedList<Step>, LinkedList<Step>),
     /// Nothing any more.
     Gone,
 }
