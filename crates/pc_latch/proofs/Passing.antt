@@ -1,7 +1,7 @@
 -- What a pass has handed out.
 use Rattle.std.proofs.Common.{◌≡◌, ℕ, zero, suc, ◌+◌, ◌≤◌, List, [], ◌∷◌, ◌++◌, length, length-append, take, drop, take_all, ap, sym, subst, ◌∙◌, arith}
 use Rattle.std.proofs.Math.Seq.{take-add}
-use Rattle.std.proofs.lemmas.List.{take-append-le, length-drop, length-take-le}
+use Rattle.std.proofs.lemmas.List.{take-append-drop, take-append-le, length-drop, length-take-le}
 use mathlib.Core.List.{IsPrefix}
 use Rattle.pc_types.specs.declared.Entry.{Entry}
 use Rattle.pc_model.specs.History.{History, log_of}
@@ -34,6 +34,10 @@ first_length n log given lt is = ap length (sym is) ∙ length-take-le n log lt
 -- what a pass has handed out, by what its witness sees then
 pub first_are : (n : ℕ) (seen hist : History) (given : List Entry) → IsBeginning seen hist → n ≤ length (log_of seen) → take n (log_of seen) ≡ given → given ≡ take (length given) (log_of hist)
 first_are n seen hist given told lt is = sym is ∙ (sym (still_first n seen hist told lt) ∙ ap (λ k. take k (log_of hist)) (sym (first_length n (log_of seen) given lt is)))
+
+-- the first entries of the log that a witness sees who sees the history as it is
+pub first_in : (n : ℕ) (hist now whole : History) → now ≡ hist → hist ≡ whole → IsPrefix (take n (log_of now)) (log_of whole)
+first_in n hist now whole sees is = (drop n (log_of now), take-append-drop n (log_of now) ∙ ap log_of (sees ∙ is))
 
 -- where that is all, each entry is there that a beginning of the history has
 pub all_handed : (mark hist : History) (log given : List Entry) → IsBeginning mark hist → given ≡ take (length given) (log_of hist) → log ≡ log_of hist → length log ≤ length given → IsPrefix (log_of mark) given

@@ -188,6 +188,7 @@ impl<N: StoreName> Latched<N> {
     ) -> Result<LogTexts, Refusal>
         ensures held { self.new ≡ self.old }
         ensures list { IfOk result (λ next. pass.new ≡ pass.old ++ batch room (drop (length pass.old) (log_of self.old))) }
+        ensures first { IfOk result (λ next. IsPrefix pass.new (log_of self.old)) }
         ensures next { IfOk result (λ next. IsNext room pass.old pass.new next.text.items next.count) }
         ensures same { OnErr result (pass.new ≡ pass.old) }
         ensures memory { IfErr result (λ e. e ≡ Refusal.OutOfMemory) }

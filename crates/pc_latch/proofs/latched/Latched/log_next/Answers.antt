@@ -2,7 +2,7 @@ use Rattle.std.proofs.Common.{◌+◌, ◌≤◌, ◌++◌, List, length, take, 
 use Rattle.pc_types.specs.declared.Entry.{Entry}
 use Rattle.pc_model.specs.History.{History, log_of}
 use Rattle.pc_kept_log.specs.Logs.{entries_of}
-use Rattle.pc_latch.proofs.Passing.{legal_now, still_within, still_first, more_listed, first_length}
+use Rattle.pc_latch.proofs.Passing.{legal_now, still_within, still_first, more_listed, first_length, first_in}
 use Rattle.pc_latch.specs.Batches.{batch}
 use Rattle.pc_latch.proofs.Batching.{batch_again, batch_behind, counted, next_first}
 use Rattle.pc_latch.proofs.latched.Latched.log_next.Goals as goal
@@ -44,6 +44,9 @@ returns-clause-list g c =
     (next_first p.count c.in-Ok.next.count all more c.in-Ok.ensures.batch c.in-Ok.ensures.within) (counted p.count c.in-Ok.next.count all more c.in-Ok.ensures.batch c.in-Ok.ensures.within)
     ∙ ap (λ (l : List Entry). l ++ more) c.pass.view_is
     ∙ ap (λ (l : List Entry). c.args.pass.now ++ l) (batch_behind c.args.room p.count all more c.self.inside.keeper.history c.args.self.now c.args.pass.now refl is c.self.view_is (first_length p.count (log_of p.witness) c.args.pass.now c.pass.invariant.0 c.pass.view_is))
+
+pub returns-clause-first : goal.returns-clause-first
+returns-clause-first g c = first_in (c.pass.inside.count + c.in-Ok.next.count) c.self.inside.keeper.history c.renew.new.witness c.args.self.now c.renew.ensures.sees c.self.view_is
 
 pub returns-clause-next : goal.returns-clause-next
 returns-clause-next g c =
