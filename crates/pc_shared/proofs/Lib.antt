@@ -1,4 +1,5 @@
 mod Calling
+mod GoneOutLaws
 mod Keeping
 mod Lending
 mod Settling

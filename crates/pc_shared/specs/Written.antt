@@ -1,8 +1,33 @@
--- What has gone out to a writer.
-use Rattle.std.specs.Prelude.{ℕ, List, Option, Ok}
+-- What has gone out to a writer, and of which entries of a log.
+use Rattle.std.specs.Prelude.{◌≡◌, ◌≤◌, ℕ, List, Option, Ok, length, take}
+use mathlib.Core.List.{IsPrefix}
 use Rattle.pc_types.specs.Tallies.{Puts}
+use Rattle.pc_types.specs.declared.Entry.{Entry}
 use Rattle.pc_types.specs.declared.tally.Tally.{Tally}
+use Rattle.pc_model.specs.History.{History, log_of}
+use Rattle.pc_log.specs.Texts.{log_text}
 
 -- since some earlier state of the writer all of the text has gone out, and nothing failed
 abbrev pub HasGoneOut : {T : Type 0} → (T → Option (List ℕ)) → Tally T → List ℕ → Type 0
 HasGoneOut {T} contents now text = (earlier : Tally T) × Puts contents earlier now (Ok tt) text
+
+-- whatever has gone out to such a writer counts as gone out
+abbrev pub CountsAsOut : {T : Type 0} → (T → Option (List ℕ)) → (List ℕ → Type 0) → Type 0
+CountsAsOut {T} contents out = (now : Tally T) (text : List ℕ) → HasGoneOut contents now text → out text
+
+-- a text has gone out that is that of a run's log, of which these are the first entries
+pub record HasOut (out : List ℕ → Type 0) (run : ℕ) (first : List Entry) : Type 0 where
+  pub entries : List Entry
+  pub begins : IsPrefix first entries
+  pub gone : out (log_text run entries)
+
+-- so have the first entries, so many, of the log of what is seen, if that is one at least
+abbrev pub AreOut : (List ℕ → Type 0) → ℕ → History → ℕ → Type 0
+AreOut out run seen number = 1 ≤ number → HasOut out run (take number (log_of seen))
+
+-- the text of just so many entries has, which are the first of the log of what is seen
+pub record IsFirstOut (out : List ℕ → Type 0) (run : ℕ) (seen : History) (count : ℕ) : Type 0 where
+  pub entries : List Entry
+  pub as_many : length entries ≡ count
+  pub first : IsPrefix entries (log_of seen)
+  pub gone : out (log_text run entries)

@@ -4,6 +4,7 @@
 mod asks;
 mod closing;
 mod ending;
+mod gone_out;
 mod logged;
 mod session;
 mod store;
@@ -12,7 +13,7 @@ mod written;
 
 pub use closing::Closed;
 pub use ending::{EndMark, Marked};
-pub use logged::{LastEntry, LogBatch};
+pub use logged::{LastEntry, LogBatch, LogEndMark, LogEnded};
 pub use pc_latch::{LogPass, PartTicket};
 pub use pc_tie::{CheckpointerSeat, Witness};
 pub use pc_txn::Commits;

@@ -1,18 +1,22 @@
 //! How far a store's log is written, and who waits for that.
-ghost use Rattle.std.specs.Prelude.{◌≡◌, ◌≤◌, true, IfSome};
+ghost use Rattle.std.specs.Prelude.{◌≡◌, ◌≤◌, true, IfErr, IfOk, IfSome};
+ghost use mathlib.Core.List.{IsPrefix};
+ghost use Rattle.pc_model.specs.History.{log_of};
+ghost use Rattle.pc_model.specs.Receipts.{own_of};
 ghost use Rattle.pc_log.specs.Texts.{log_text};
 ghost use Rattle.pc_latch.specs.Batches.{HasEntries};
-ghost use Rattle.pc_shared.specs.Written.{HasGoneOut};
+ghost use Rattle.pc_shared.specs.Written.{HasGoneOut, AreOut};
 
+use crate::gone_out::GoneOut;
+use crate::session::Session;
 use crate::store::{Shared, pause};
 use crate::written::Written;
 use pc_latch::LogPass;
-use pc_tie::{StoreName, Witness};
+use pc_tie::{SessionSeat, StoreName, Tie, Witness};
 use pc_types::{Lsn, Tally};
-use std::alloc::{AllocError, Global};
 use std::io;
-use std::sync::atomic::{AtomicBool, AtomicU64, Ordering};
-use std::sync::{Condvar, Mutex, Wait};
+use std::sync::atomic::{AtomicU64, Ordering};
+use std::sync::{Condvar, Mutex, OnceLock, OnceToken, Wait};
 
 // How often who waits for an entry looks for it before it sleeps, and how often it lets others run after each look.
 const LOOKS: u32 = 32;
@@ -39,56 +43,77 @@ pub struct LastEntry<N: StoreName> {
     pub seen: Witness<N>,
 }
 
+/// That no more of a store's log will be written.
+#[derive(Drop)]
+pub struct LogEnded;
+
+/// The mark that no more of a store's log will be written. Contracts see by its token of which store's log (`of`, which is the store's
+/// `logged.ended.id`).
+#[derive(Drop)]
+pub struct LogEndMark<'a> {
+    pub(crate) token: OnceToken<'a, LogEnded>,
+}
+
 /// How many entries of the log are written, whether that stays, and who waits for more.
 #[derive(Drop)]
 pub(crate) struct Logged<N: StoreName> {
     written: Written<N>,
-    has_ended: AtomicBool,
+    // That no more will be, once that is marked.
+    pub(crate) ended: OnceLock<LogEnded>,
     waiting: AtomicU64,
-    asleep: Mutex<Asleep>,
+    // What has gone out, which is held by who goes to sleep, or changes what is waited for.
+    gone_out: Mutex<GoneOut<N>>,
     told: Condvar,
 }
 
-// What is held by who goes to sleep, or changes what is waited for.
-#[derive(Drop)]
-struct Asleep;
-
 impl<N: StoreName> Logged<N> {
-    /// Nothing is written, and nobody waits.
-    pub(crate) fn new(alloc: Global) -> Result<Logged<N>, AllocError> {
-        let written = Written::new(alloc)?;
-        Ok(Logged {
+    /// Nothing is written, and nobody waits. The witness is of a store in which nothing has happened.
+    pub(crate) fn new(written: Written<N>, seen: Witness<N>) -> Logged<N> {
+        Logged {
             written,
-            has_ended: AtomicBool::new(false),
+            ended: OnceLock::new(),
             waiting: AtomicU64::new(0),
-            asleep: Mutex::new(Asleep),
+            gone_out: Mutex::new(GoneOut::none(seen)),
             told: Condvar::new(),
-        })
+        }
+    }
+
+    // The mark that no more will be written, if that was marked.
+    fn end_mark(&self) -> Option<LogEndMark<'_>>
+        ensures { IfSome result (λ mark. mark.token.of ≡ self.now.ended.id) }
+    {
+        match self.ended.witness() {
+            Some(token) => Some(LogEndMark { token }),
+            None => None,
+        }
     }
 
     fn has_ended(&self) -> bool {
-        self.has_ended.load(Ordering::SeqCst)
+        self.ended.witness().is_some()
     }
 
     fn is_awaited(&self) -> bool {
         self.waiting.load(Ordering::SeqCst) > 0
     }
 
-    // What the pass has handed out is written.
-    fn mark<R: Wait, W: io::Write>(&self, rt: &R, pass: &LogPass<N>, out: &Tally<W>)
-        requires { HasGoneOut W.contents out.now (log_text N.name.setting.run pass.now) }
+    // What the pass has handed out is written, the first entries of the log of what the witness has seen.
+    fn mark<R: Wait>(&self, rt: &R, pass: &LogPass<N>, seen: Witness<N>)
+        requires first { IsPrefix pass.now (log_of seen) }
+        requires out { N.out (log_text N.name.setting.run pass.now) }
     {
-        let asleep = self.asleep.lock(rt);
-        self.written.mark(pass, out);
-        drop(asleep);
+        let mut held = self.gone_out.lock(rt);
+        *held = GoneOut::of(pass, seen);
+        self.written.mark(pass);
+        drop(held);
         self.wake();
     }
 
     // No more will be written.
     fn end<R: Wait>(&self, rt: &R) {
-        let asleep = self.asleep.lock(rt);
-        self.has_ended.store(true, Ordering::SeqCst);
-        drop(asleep);
+        let held = self.gone_out.lock(rt);
+        let marked = self.ended.try_insert(rt, LogEnded);
+        drop(marked);
+        drop(held);
         self.wake();
     }
 
@@ -98,13 +123,25 @@ impl<N: StoreName> Logged<N> {
         }
     }
 
-    // Waits until so many are written, and gives how many are.
-    fn until<R: Wait>(&self, rt: &R, entries: u64) -> Option<u64>
-        ensures { IfSome result (λ written. (entries ≤ written) × HasEntries N.name.setting written) }
+    // Waits until so many are written, and gives how many are; those are among what has gone out, by the log that the session has seen.
+    fn until<R: Wait>(
+        &self,
+        rt: &R,
+        tie: &Tie<N>,
+        session: &mut SessionSeat<N>,
+        entries: u64,
+    ) -> Result<u64, LogEndMark<'_>>
+        ensures same { session.new ≡ session.old }
+        ensures written { IfOk result (λ written. (entries ≤ written) × HasEntries N.name.setting written) }
+        ensures out { IfOk result (λ written. AreOut N.out N.name.setting.run session.old.seen entries) }
+        ensures ended { IfErr result (λ mark. mark.token.of ≡ self.now.ended.id) }
     {
+        if entries <= self.written.get() {
+            return self.sleep(rt, tie, session, entries);
+        }
         self.waiting.fetch_add(1, Ordering::SeqCst);
         self.look(entries);
-        let written = self.sleep(rt, entries);
+        let written = self.sleep(rt, tie, session, entries);
         self.waiting.fetch_sub(1, Ordering::SeqCst);
         written
     }
@@ -120,31 +157,51 @@ impl<N: StoreName> Logged<N> {
     }
 
     // Sleeps until so many are written.
-    fn sleep<R: Wait>(&self, rt: &R, entries: u64) -> Option<u64>
-        ensures { IfSome result (λ written. (entries ≤ written) × HasEntries N.name.setting written) }
+    fn sleep<R: Wait>(
+        &self,
+        rt: &R,
+        tie: &Tie<N>,
+        session: &mut SessionSeat<N>,
+        entries: u64,
+    ) -> Result<u64, LogEndMark<'_>>
+        ensures same { session.new ≡ session.old }
+        ensures written { IfOk result (λ written. (entries ≤ written) × HasEntries N.name.setting written) }
+        ensures out { IfOk result (λ written. AreOut N.out N.name.setting.run session.old.seen entries) }
+        ensures ended { IfErr result (λ mark. mark.token.of ≡ self.now.ended.id) }
     {
-        let mut asleep = self.asleep.lock(rt);
+        let mut held = self.gone_out.lock(rt);
         for _ in rt.forever() {
-            let written = self.written.get();
+            let written = held.count();
             if entries <= written {
-                return Some(written);
+                held.compare(tie, session);
+                return Ok(written);
             }
-            if self.has_ended() {
-                return None;
+            if let Some(mark) = self.end_mark() {
+                return Err(mark);
             }
-            asleep = self.told.wait(rt, asleep);
+            held = self.told.wait(rt, held);
         }
         unreachable!()
     }
 }
 
 impl<N: StoreName> Shared<N> {
-    /// Marks as written the entries that the pass has handed out: since some earlier state of the writer the text of the log that
-    /// they make has gone out to it. Who waits for one of them goes on.
-    pub fn mark_logged<R: Wait, W: io::Write>(&self, rt: &R, pass: &LogPass<N>, out: &Tally<W>)
-        requires { HasGoneOut W.contents out.now (log_text N.name.setting.run pass.now) }
+    /// Marks as written the entries that the pass has handed out, the first of the log of what the witness has seen: since some
+    /// earlier state of the writer the text of the log that they make has gone out to it, and counts as gone out by the store's name.
+    /// Who waits for one of them goes on.
+    pub fn mark_logged<R: Wait, W: io::Write>(
+        &self,
+        rt: &R,
+        pass: &LogPass<N>,
+        seen: Witness<N>,
+        out: &Tally<W>,
+    )
+        requires text { HasGoneOut W.contents out.now (log_text N.name.setting.run pass.now) }
+        requires out { N.out (log_text N.name.setting.run pass.now) }
+        requires first { IsPrefix pass.now (log_of seen) }
     {
-        self.logged.mark(rt, pass, out);
+        let _ = out.failures();
+        self.logged.mark(rt, pass, seen);
     }
 
     /// Marks that no more entries will be written. Who waits for one goes on; that is promised by no clause.
@@ -169,11 +226,22 @@ impl<N: StoreName> Shared<N> {
         self.logged.is_awaited()
     }
 
-    /// Waits until the entry of this number was marked as written, and gives how many then are; nothing where it wasn't, and no
-    /// more will be.
-    pub fn until_logged<R: Wait>(&self, rt: &R, number: Lsn) -> Option<u64>
-        ensures { IfSome result (λ written. (number ≤ written) × HasEntries N.name.setting written) }
+    /// Waits until the entry of this number was marked as written, and gives how many then are; the mark of the log's end where it
+    /// wasn't, and no more will be. The first entries of the log that the session has seen, up to this number, are then the first of those whose
+    /// text has gone out.
+    pub fn until_logged<R: Wait>(
+        &self,
+        rt: &R,
+        session: &mut Session<N>,
+        number: Lsn,
+    ) -> Result<u64, LogEndMark<'_>>
+        ensures same { session.new ≡ session.old }
+        ensures written { IfOk result (λ written. (number ≤ written) × HasEntries N.name.setting written) }
+        ensures out { IfOk result (λ written. AreOut N.out N.name.setting.run session.old.seen number) }
+        ensures ended { IfErr result (λ mark. mark.token.of ≡ self.now.logged.ended.id) }
+        ensures receipts { session.old.receipts ≡ (own_of session.old.number session.old.seen).receipts }
     {
-        self.logged.until(rt, u64::from(number.0))
+        self.logged
+            .until(rt, &self.tie, &mut session.seat, u64::from(number.0))
     }
 }

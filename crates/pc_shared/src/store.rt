@@ -1,5 +1,6 @@
 //! The store that threads share.
 ghost use Rattle.std.specs.Prelude.{◌≡◌, ◌≢◌, ◌≤◌, ◌<◌, ◌⊎◌, ◌↔◌, ◌++◌, [], true, false, Some, Err, length, drop, IfOk, IfErr, IfSome, OnErr, All, MatchBool};
+ghost use mathlib.Core.List.{IsPrefix};
 ghost use Rattle.pc_model.specs.FewWrites.{HasFewWrites};
 ghost use Rattle.pc_model.specs.Files.{file_at, shelf};
 ghost use Rattle.pc_model.specs.Maps.{len};
@@ -29,6 +30,7 @@ use crate::closing::{Closed, close};
 use crate::logged::{LastEntry, LogBatch, Logged};
 use crate::session::Session;
 use crate::waits::{News, Waits, Woken, is_wait};
+use crate::written::Written;
 use pc_engine::World;
 use pc_latch::{Latched, LogPass, LogTexts, PartTicket};
 use pc_part::Base;
@@ -125,7 +127,7 @@ impl Opened {
             world,
             count,
         } = self;
-        let logged = Logged::new(alloc)?;
+        let written = Written::new(alloc)?;
         let (tie, checkpointer, mut dealer) = tie.named::<N>();
         let mut sessions = Vec::new(alloc);
         for _ in 0..count {
@@ -137,6 +139,7 @@ impl Opened {
             });
         }
         let pass = LogPass::new(world.base().run(), dealer.witness(&tie));
+        let logged = Logged::new(written, dealer.witness(&tie));
         let shared = Shared {
             alloc,
             tie,
@@ -387,6 +390,7 @@ impl<N: StoreName> Shared<N> {
     ) -> Result<LogBatch<N>, Refusal>
         ensures legal { IfOk result (λ next. IsLegalHistory N.name.setting next.seen) }
         ensures list { IfOk result (λ next. pass.new ≡ pass.old ++ batch room (drop (length pass.old) (log_of next.seen))) }
+        ensures first { IfOk result (λ next. IsPrefix pass.new (log_of next.seen)) }
         ensures some { IfOk result (λ next. 1 ≤ room → length pass.old < length (log_of next.seen) → 1 ≤ next.count) }
         ensures next { IfOk result (λ next. IsNext room pass.old pass.new next.text.items next.count) }
         ensures same { OnErr result (pass.new ≡ pass.old) }

@@ -2,14 +2,11 @@
 ghost use Rattle.std.specs.Prelude.{◌≡◌};
 ghost use Rattle.pc_log.specs.Texts.{log_text};
 ghost use Rattle.pc_latch.specs.Batches.{HasEntries};
-ghost use Rattle.pc_shared.specs.Written.{HasGoneOut};
 
 use atomic_table::{Play, Table, TableRule};
 use pc_latch::LogPass;
 use pc_tie::StoreName;
-use pc_types::Tally;
 use std::alloc::{AllocError, Global};
-use std::io;
 use std::marker::PhantomData;
 
 /// The rule of the number: the log has so many entries. Whoever looks at it learns that.
@@ -54,11 +51,10 @@ impl<N: StoreName> Written<N> {
         entries
     }
 
-    /// Those are that the pass has handed out, whose text has gone out to the writer.
-    pub(crate) fn mark<W: io::Write>(&self, pass: &LogPass<N>, out: &Tally<W>)
-        requires { HasGoneOut W.contents out.now (log_text N.name.setting.run pass.now) }
+    /// Those are that the pass has handed out, whose text has gone out.
+    pub(crate) fn mark(&self, pass: &LogPass<N>)
+        requires { N.out (log_text N.name.setting.run pass.now) }
     {
-        let _ = out.failures();
         let entries = pass.len() as u64;
         let (_before, _seat) = self
             .table
