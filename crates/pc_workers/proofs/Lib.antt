@@ -7,6 +7,7 @@ mod ShownLaws
 pub mod WholeCycles
 mod Holding
 pub mod CoverLaws
+mod WaitLaws
 mod OpenLaws
 mod AskedLaws
 pub mod AttemptLaws

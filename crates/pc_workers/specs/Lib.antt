@@ -1,3 +1,4 @@
+pub mod Waits
 pub mod Logging
 pub mod Checkpointing
 pub mod Clients

@@ -1,13 +1,14 @@
 //! A client's loop: a session runs jobs, each as a transaction.
-ghost use Rattle.std.specs.Prelude.{◌≡◌, ◌≢◌, ◌<◌, ◌-◌, ◌^◌, ◌+◌, true, false, [], length, IfOk, IfErr, OnErr, MatchBool};
+ghost use Rattle.std.specs.Prelude.{◌≡◌, ◌≢◌, ◌<◌, ◌-◌, ◌^◌, ◌+◌, true, false, [], length, IfOk, IfErr, IfSome, OnErr, MatchBool, is_some};
 ghost use Rattle.pc_model.specs.History.{is_open};
 ghost use Rattle.pc_workers.specs.Attempts.{WasAborted, AreMade, OneDies, IsRefusedOp, IsStuck, IsAttempt, IsTried};
 ghost use Rattle.pc_workers.specs.Clients.{HasCommitted, HasRun, HasTried, done_by, written_by, wrote, wrote_all, writes_of};
+ghost use Rattle.pc_workers.specs.Waits.{AreHeld, HasWaited, IsSeatedOut, KeepsMark};
 ghost use Rattle.pc_workers.specs.Courses.{IsInRange, IsAsked, IsCourse, IsRepeated, mark_of};
 
 use crate::client_gate::ClientGate;
 use pc_jobs::{Job, Op};
-use pc_shared::{CallAnswer, Session, Shared, pause};
+use pc_shared::{CallAnswer, LogEndMark, Session, Shared, pause};
 use pc_tie::StoreName;
 use pc_types::{GatePlace, Lsn, Refusal, number_fits};
 use std::alloc::Global;
@@ -18,6 +19,14 @@ use std::sync::Wait;
 pub struct Count {
     pub commits: u64,
     pub given_up: u64,
+}
+
+/// What a client's loop ends with.
+#[derive(Drop)]
+pub struct ClientEnd<'a> {
+    pub count: Count,
+    /// The mark of the log's end, where the client went on from a commit for that, and not since enough of the log was written.
+    pub log_end: Option<LogEndMark<'a>>,
 }
 
 impl Count {
@@ -40,6 +49,13 @@ pub const MOST_REPEATS: u32 = 10_000;
 // How often a client lets others run, at most, before it begins a job again: once after the first death, and after each further
 // one twice as often as after the one before.
 const LONGEST_PAUSE: u32 = 512;
+
+// How a client waits for the log: how many of its entries, up to that of a commit, may be unwritten when the client goes on from
+// that, if it waits at all; and the mark of the log's end, where it went on for that.
+struct Patience<'a> {
+    lag: Option<u32>,
+    log_end: Option<LogEndMark<'a>>,
+}
 
 // How a transaction ended.
 #[derive(Clone, Copy)]
@@ -126,36 +142,46 @@ fn make_all<N: StoreName, R: Wait, G: ClientGate>(
 }
 
 // The session has committed this entry: it waits until no more than so many up to it aren't written, as long as more will be.
-fn hold<N: StoreName, R: Wait, G: ClientGate>(
+fn hold<'a, N: StoreName, R: Wait, G: ClientGate>(
     rt: &R,
-    shared: &Shared<N>,
-    session: &Session<N>,
+    shared: &'a Shared<N>,
+    session: &mut Session<N>,
     entry: Lsn,
-    lag: Option<u32>,
+    patience: &mut Patience<'a>,
     gate: &G,
-) {
-    let Some(lag) = lag else {
+)
+    ensures same { session.new ≡ session.old }
+    ensures lag { patience.new.lag ≡ patience.old.lag }
+    ensures mark { KeepsMark (λ mark. mark.token.of ≡ shared.now.logged.ended.id) patience.old.log_end patience.new.log_end }
+    ensures out { IfSome patience.old.lag (λ most. is_some patience.new.log_end ≡ false → IsSeatedOut N.out N.name.setting.run session.old (entry - most)) }
+{
+    let Some(most) = patience.lag else {
         return;
     };
-    let due = Lsn(entry.0.saturating_sub(lag));
+    let due = Lsn(entry.0.saturating_sub(most));
     if !shared.is_logged(due) {
         gate.pass(GatePlace::Behind(session.number()));
-        let _ = shared.until_logged(rt, due);
+    }
+    if let Err(mark) = shared.until_logged(rt, session, due) {
+        patience.log_end = Some(mark);
     }
 }
 
 // Begins, makes the operations and commits; where it doesn't commit, the transaction stays open, if it was begun.
-fn transact<N: StoreName, R: Wait, G: ClientGate>(
+fn transact<'a, N: StoreName, R: Wait, G: ClientGate>(
     rt: &R,
     alloc: Global,
-    shared: &Shared<N>,
+    shared: &'a Shared<N>,
     session: &mut Session<N>,
     ops: &[Op],
-    lag: Option<u32>,
+    patience: &mut Patience<'a>,
     gate: &G,
 ) -> EndedTransaction
     ensures receipts { HasCommitted (done_by result (wrote_all [] ops.now)) session.old session.new }
     ensures course { IsCourse N.name.setting session.old.number ops.now result session.old.seen session.new.seen }
+    ensures lag { patience.new.lag ≡ patience.old.lag }
+    ensures mark { KeepsMark (λ mark. mark.token.of ≡ shared.now.logged.ended.id) patience.old.log_end patience.new.log_end }
+    ensures held { result ≡ EndedTransaction.Committed → HasWaited N.out N.name.setting patience.old.lag (is_some patience.new.log_end) session.new }
 {
     let number = session.number();
     gate.pass(GatePlace::Start(number));
@@ -178,7 +204,7 @@ fn transact<N: StoreName, R: Wait, G: ClientGate>(
             return EndedTransaction::Refused;
         }
     };
-    hold(rt, shared, session, entry, lag, gate);
+    hold(rt, shared, session, entry, patience, gate);
     gate.pass(GatePlace::Committed(number));
     EndedTransaction::Committed
 }
@@ -193,19 +219,22 @@ fn abort_open<N: StoreName, R: Wait>(rt: &R, shared: &Shared<N>, session: &mut S
 }
 
 // A transaction that is over when it returns: it commits, or is aborted.
-fn attempt<N: StoreName, R: Wait, G: ClientGate>(
+fn attempt<'a, N: StoreName, R: Wait, G: ClientGate>(
     rt: &R,
     alloc: Global,
-    shared: &Shared<N>,
+    shared: &'a Shared<N>,
     session: &mut Session<N>,
     ops: &[Op],
-    lag: Option<u32>,
+    patience: &mut Patience<'a>,
     gate: &G,
 ) -> EndedTransaction
     ensures receipts { HasCommitted (done_by result (wrote_all [] ops.now)) session.old session.new }
     ensures attempt { is_open session.old.number session.old.seen ≡ false → IsAttempt N.name.setting session.old.number ops.now result session.old.seen session.new.seen }
+    ensures lag { patience.new.lag ≡ patience.old.lag }
+    ensures mark { KeepsMark (λ mark. mark.token.of ≡ shared.now.logged.ended.id) patience.old.log_end patience.new.log_end }
+    ensures held { result ≡ EndedTransaction.Committed → HasWaited N.out N.name.setting patience.old.lag (is_some patience.new.log_end) session.new }
 {
-    let ended = transact(rt, alloc, shared, session, ops, lag, gate);
+    let ended = transact(rt, alloc, shared, session, ops, patience, gate);
     match ended {
         EndedTransaction::Committed => {}
         EndedTransaction::Died => {
@@ -219,22 +248,25 @@ fn attempt<N: StoreName, R: Wait, G: ClientGate>(
 
 // Runs the job again, until it doesn't die, and answers how it ended the last time. Before each time it lets others run, so that
 // the one that it lost to may end.
-fn repeat<N: StoreName, R: Wait, G: ClientGate>(
+fn repeat<'a, N: StoreName, R: Wait, G: ClientGate>(
     rt: &R,
     alloc: Global,
-    shared: &Shared<N>,
+    shared: &'a Shared<N>,
     session: &mut Session<N>,
     ops: &[Op],
-    lag: Option<u32>,
+    patience: &mut Patience<'a>,
     gate: &G,
 ) -> EndedTransaction
     ensures receipts { HasCommitted (done_by result (wrote_all [] ops.now)) session.old session.new }
     ensures repeated { is_open session.old.number session.old.seen ≡ false → IsRepeated N.name.setting session.old.number ops.now result session.old.seen session.new.seen }
+    ensures lag { patience.new.lag ≡ patience.old.lag }
+    ensures mark { KeepsMark (λ mark. mark.token.of ≡ shared.now.logged.ended.id) patience.old.log_end patience.new.log_end }
+    ensures held { result ≡ EndedTransaction.Committed → HasWaited N.out N.name.setting patience.old.lag (is_some patience.new.log_end) session.new }
 {
     let mut times = 1u32;
     for _ in 0..MOST_REPEATS {
         pause(times);
-        match attempt(rt, alloc, shared, session, ops, lag, gate) {
+        match attempt(rt, alloc, shared, session, ops, patience, gate) {
             EndedTransaction::Died => {}
             ended => return ended,
         }
@@ -245,42 +277,48 @@ fn repeat<N: StoreName, R: Wait, G: ClientGate>(
 
 // Tries the job, and again where it died, and answers how it ended the last time. Of the clients whose job has died one at a time
 // begins again, and the others sleep: so they don't die of one another over and over.
-fn try_job<N: StoreName, R: Wait, G: ClientGate>(
+fn try_job<'a, N: StoreName, R: Wait, G: ClientGate>(
     rt: &R,
     alloc: Global,
-    shared: &Shared<N>,
+    shared: &'a Shared<N>,
     session: &mut Session<N>,
     job: &Job,
-    lag: Option<u32>,
+    patience: &mut Patience<'a>,
     gate: &G,
 ) -> EndedTransaction
     ensures receipts { HasCommitted (done_by result (writes_of job.now)) session.old session.new }
     ensures tried { is_open session.old.number session.old.seen ≡ false → IsTried N.name.setting session.old.number job.now (mark_of result) session.old.seen session.new.seen }
+    ensures lag { patience.new.lag ≡ patience.old.lag }
+    ensures mark { KeepsMark (λ mark. mark.token.of ≡ shared.now.logged.ended.id) patience.old.log_end patience.new.log_end }
+    ensures held { result ≡ EndedTransaction.Committed → HasWaited N.out N.name.setting patience.old.lag (is_some patience.new.log_end) session.new }
 {
     let ops = job.ops.as_slice();
-    match attempt(rt, alloc, shared, session, ops, lag, gate) {
+    match attempt(rt, alloc, shared, session, ops, patience, gate) {
         EndedTransaction::Died => {
             let _turn = shared.turn_to_repeat(rt);
-            repeat(rt, alloc, shared, session, ops, lag, gate)
+            repeat(rt, alloc, shared, session, ops, patience, gate)
         }
         ended => ended,
     }
 }
 
 // Runs the job, and tells the gate where it is given up.
-fn run<N: StoreName, R: Wait, G: ClientGate>(
+fn run<'a, N: StoreName, R: Wait, G: ClientGate>(
     rt: &R,
     alloc: Global,
-    shared: &Shared<N>,
+    shared: &'a Shared<N>,
     session: &mut Session<N>,
     job: &Job,
-    lag: Option<u32>,
+    patience: &mut Patience<'a>,
     gate: &G,
 ) -> EndedTransaction
     ensures receipts { HasCommitted (done_by result (writes_of job.now)) session.old session.new }
     ensures tried { is_open session.old.number session.old.seen ≡ false → IsTried N.name.setting session.old.number job.now (mark_of result) session.old.seen session.new.seen }
+    ensures lag { patience.new.lag ≡ patience.old.lag }
+    ensures mark { KeepsMark (λ mark. mark.token.of ≡ shared.now.logged.ended.id) patience.old.log_end patience.new.log_end }
+    ensures held { result ≡ EndedTransaction.Committed → HasWaited N.out N.name.setting patience.old.lag (is_some patience.new.log_end) session.new }
 {
-    let ended = try_job(rt, alloc, shared, session, job, lag, gate);
+    let ended = try_job(rt, alloc, shared, session, job, patience, gate);
     if !matches!(ended, EndedTransaction::Committed) {
         gate.pass(GatePlace::GaveUp(session.number()));
     }
@@ -296,28 +334,34 @@ fn run<N: StoreName, R: Wait, G: ClientGate>(
 /// given up. If the session had no transaction open, each job was tried by just these calls, and none is open behind it: each
 /// attempt but the last one died, and a job that is given up has died so 10,001 times, or was refused as the store may after some
 /// legal history with all that the session had seen, or named a key of more than 16 bytes of its own or a value of
-/// more than 16, whose copy takes memory.
-pub fn client_loop<N: StoreName, R: Wait, G: ClientGate>(
+/// more than 16, whose copy takes memory. Where there is a lag and something was committed, all but so many of the entries of the
+/// log that the session had seen behind its last commit are the first of those whose text has gone out, with 0 each of its commits;
+/// or it has the mark of the log's end, for which it went on.
+pub fn client_loop<'a, N: StoreName, R: Wait, G: ClientGate>(
     rt: &R,
     alloc: Global,
-    shared: &Shared<N>,
+    shared: &'a Shared<N>,
     session: &mut Session<N>,
     jobs: &[Job],
     lag: Option<u32>,
     gate: &G,
-) -> Count
-    ensures run { HasRun jobs.now result.commits session.old session.new }
-    ensures tried { HasTried N.name.setting jobs.now result.commits session.old session.new }
-    ensures receipts { length session.new.receipts ≡ length session.old.receipts + result.commits }
-    ensures all { result.commits + result.given_up ≡ length jobs.now }
+) -> ClientEnd<'a>
+    ensures run { HasRun jobs.now result.count.commits session.old session.new }
+    ensures tried { HasTried N.name.setting jobs.now result.count.commits session.old session.new }
+    ensures receipts { length session.new.receipts ≡ length session.old.receipts + result.count.commits }
+    ensures all { result.count.commits + result.count.given_up ≡ length jobs.now }
+    ensures held { IfSome lag (λ most. 0 < result.count.commits → is_some result.log_end ≡ false → AreHeld N.out N.name.setting most session.new) }
+    ensures ended { IfSome result.log_end (λ mark. mark.token.of ≡ shared.now.logged.ended.id) }
 {
+    let mut patience = Patience { lag, log_end: None };
     let mut count = Count {
         commits: 0,
         given_up: 0,
     };
     for job in jobs {
-        let ended = run(rt, alloc, shared, session, job, lag, gate);
+        let ended = run(rt, alloc, shared, session, job, &mut patience, gate);
         count.note(ended);
     }
-    count
+    let Patience { lag: _, log_end } = patience;
+    ClientEnd { count, log_end }
 }

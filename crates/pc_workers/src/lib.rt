@@ -11,7 +11,7 @@ mod pace;
 
 pub use checkpointing::{CheckpointFault, checkpoint_loop};
 pub use client_gate::ClientGate;
-pub use clients::{Count, MOST_REPEATS, client_loop};
+pub use clients::{ClientEnd, Count, MOST_REPEATS, client_loop};
 pub use collapsing::collapse_loop;
 pub use covering::with_missing_points;
 pub use logging::{LogEnd, MOST_BATCH, has_all_until, log_loop, log_rest};

@@ -7,7 +7,7 @@ ghost use Rattle.pc_model.specs.History.{log_of};
 ghost use Rattle.pc_types.specs.declared.Entry.{Entry};
 ghost use Rattle.pc_log.specs.Texts.{entry_text, log_text};
 ghost use Rattle.pc_latch.specs.Batches.{IsNext};
-ghost use Rattle.pc_shared.specs.Written.{HasGoneOut};
+ghost use Rattle.pc_shared.specs.Written.{HasGoneOut, CountsAsOut};
 ghost use Rattle.pc_workers.specs.Logging.{Flushes, LogGoesOut, LogsMore, rest_text};
 
 use pc_log::encode_header;
@@ -40,17 +40,20 @@ fn write_batch<N: StoreName, R: Wait, W: io::Write, G: Gate>(
     rt: &R,
     shared: &Shared<N>,
     pass: &LogPass<N>,
-    next: &LogBatch<N>,
+    next: LogBatch<N>,
     out: &mut Tally<W>,
     gate: &G,
 ) -> Result<(), Refusal>
-    requires { (before : List Entry) × IsNext MOST_BATCH before pass.now next.now.text.items next.now.count × HasGoneOut W.contents out.old (log_text N.name.setting.run before) }
-    ensures { LogGoesOut W.contents out.old out.new result next.now.text.items }
+    requires next { (before : List Entry) × IsNext MOST_BATCH before pass.now next.text.items next.count × HasGoneOut W.contents out.old (log_text N.name.setting.run before) }
+    requires first { IsPrefix pass.now (log_of next.seen) }
+    requires counts { CountsAsOut W.contents N.out }
+    ensures { LogGoesOut W.contents out.old out.new result next.text.items }
 {
-    gate.pass(GatePlace::Writing((pass.len() - next.count) as u32));
-    out.put(next.text.as_slice())?;
+    let LogBatch { text, count, seen } = next;
+    gate.pass(GatePlace::Writing((pass.len() - count) as u32));
+    out.put(text.as_slice())?;
     flush(out)?;
-    shared.mark_logged(rt, pass, out);
+    shared.mark_logged(rt, pass, seen, out);
     gate.pass(GatePlace::Written(pass.len() as u32));
     Ok(())
 }
@@ -63,14 +66,15 @@ fn log_batch<N: StoreName, R: Wait, W: io::Write, G: Gate>(
     out: &mut Tally<W>,
     gate: &G,
 ) -> Result<bool, Refusal>
-    requires { HasGoneOut W.contents out.old (log_text N.name.setting.run pass.old) }
+    requires out { HasGoneOut W.contents out.old (log_text N.name.setting.run pass.old) }
+    requires counts { CountsAsOut W.contents N.out }
     ensures { LogsMore W.contents out.old out.new result pass.old pass.new }
 {
     let next = shared.log_next(rt, pass, MOST_BATCH)?;
     if next.count == 0 {
         return Ok(false);
     }
-    write_batch(rt, shared, pass, &next, out, gate)?;
+    write_batch(rt, shared, pass, next, out, gate)?;
     Ok(true)
 }
 
@@ -94,7 +98,8 @@ fn turn<'a, N: StoreName, R: Wait, W: io::Write, G: Gate>(
     seen: &mut u64,
     gate: &G,
 ) -> Result<Option<EndMark<'a, N>>, Refusal>
-    requires { HasGoneOut W.contents out.old (log_text N.name.setting.run pass.old) }
+    requires out { HasGoneOut W.contents out.old (log_text N.name.setting.run pass.old) }
+    requires counts { CountsAsOut W.contents N.out }
     ensures text { LogsMore W.contents out.old out.new result pass.old pass.new }
     ensures ours { IfOk result (λ end. IfSome end (λ mark. mark.token.of ≡ shared.now.end.id)) }
     ensures all { IfOk result (λ end. IfSome end (λ mark. IsPrefix (log_of mark.token.value) pass.new)) }
@@ -126,7 +131,7 @@ pub struct LogEnd<'a, N: StoreName> {
 /// which is how many they are, and the mark of the store's end: each entry that the log had when the end was marked is among them.
 /// Whatever it answers, the pass has what was handed out: on Ok and where memory ran out its whole text went out; `Device` is
 /// answered exactly where the device failed, and then a beginning of the text went out, and not all of it, or all of it, and a flush
-/// failed.
+/// failed. What goes out to the writer has to count as gone out by the store's name, since those are told of it who wait.
 pub fn log_loop<'a, N: StoreName, R: Wait, W: io::Write, G: Gate>(
     rt: &R,
     shared: &'a Shared<N>,
@@ -134,7 +139,8 @@ pub fn log_loop<'a, N: StoreName, R: Wait, W: io::Write, G: Gate>(
     out: &mut Tally<W>,
     gate: &G,
 ) -> Result<LogEnd<'a, N>, Refusal>
-    requires { pass.old ≡ [] }
+    requires fresh { pass.old ≡ [] }
+    requires counts { CountsAsOut W.contents N.out }
     ensures text { LogGoesOut W.contents out.old out.new result (log_text N.name.setting.run pass.new) }
     ensures last { IfOk result (λ end. end.last ≡ length pass.new) }
     ensures ours { IfOk result (λ end. end.mark.token.of ≡ shared.now.end.id) }
