@@ -15,7 +15,7 @@ use Rattle.pc_runs.specs.declared.files.RunFolder.{RunFolder}
 use Rattle.pc_runs.specs.declared.origin.Start.{Start}
 use Rattle.pc_runs.specs.declared.origin.Start.TheVariants as start
 use Rattle.pc_runs.specs.Faults.{EndsRun}
-use Rattle.pc_runs.specs.Runs.{Beginning, Begun, NotBegun, Unstarted, CanRun, IsWorkloadReadAs, IsRunUnanswered, IsUnstarted, IsUsable}
+use Rattle.pc_runs.specs.Runs.{Beginning, Begun, Unstarted, CanRun, IsWorkloadReadAs, IsRunUnanswered, IsUnstarted, IsUsable}
 
 if_some : {X : Type 0} (o : Option X) (P Q : X → Type 0) → ((x : X) → P x → Q x) → IfSome o P → IfSome o Q
 if_some None P Q on has = tt

@@ -1,6 +1,6 @@
 -- What a run of a script prints, all of it or a part, and what a failure of it is.
-use Rattle.std.proofs.Common.{◌≡◌, ◌≢◌, ◌⊎◌, true, false, ℕ, List, [], Option, Some, None, Result, Ok, Err, refl, subst, ap, sym, ◌∙◌, inl, inr, arith}
-use Rattle.std.specs.Prelude.{IsOk, IfOk, IfErr, IfSome}
+use Rattle.std.proofs.Common.{◌≡◌, ◌⊎◌, ℕ, List, [], Option, Some, None, Result, Ok, Err, refl, subst, ap, sym, ◌∙◌, inl, inr, arith}
+use Rattle.std.specs.Prelude.{IfOk, IfErr, IfSome}
 use Rattle.std.specs.Io.KnownBytes.{Appends, Keeps}
 use Rattle.std.proofs.lemmas.List.{append-nil}
 use Rattle.pc_types.specs.Counted.{HasRisen, AppendsBeginning}
