@@ -29,10 +29,10 @@ few_files st before point old new earlier later given next few cycled broken =
     omega (arith, was, all, both, old_files, new_files, next, few, places, points)
 
 -- where the shelf has a place left
-pub full_stops : (st : Setting) (seen : History) (writes : Bool) (transactions points last : ℕ) (given : Refusal) → last ≤ points → 0 < points → length (shelf st.run seen) < MOST_FILES → IsFull st seen last given
+pub full_stops : (st : Setting) (seen shown : History) (writes : Bool) (transactions points last : ℕ) (given : Refusal) → last ≤ points → 0 < points → length (shelf st.run seen) < MOST_FILES → IsFull st seen shown last given
     → IsStop writes transactions points given
-full_stops st seen writes transactions points last why.OutOfMemory low some room full = tt
-full_stops st seen writes transactions points last why.LogFull low some room full = some
-full_stops st seen writes transactions points last why.ShelfFull low some room full = absurd (omega (arith, room, full))
-full_stops st seen writes transactions points last why.PointsFull low some room full = omega (arith, low, full)
-full_stops st seen writes transactions points last other low some room full = absurd full
+full_stops st seen shown writes transactions points last why.OutOfMemory low some room full = tt
+full_stops st seen shown writes transactions points last why.LogFull low some room full = some
+full_stops st seen shown writes transactions points last why.ShelfFull low some room full = absurd (omega (arith, room, full))
+full_stops st seen shown writes transactions points last why.PointsFull low some room full = omega (arith, low, full)
+full_stops st seen shown writes transactions points last other low some room full = absurd full

@@ -5,3 +5,4 @@ pub mod ClientLaws
 pub mod SeatLaws
 pub mod FileLaws
 mod Numbering
+mod PointLaws

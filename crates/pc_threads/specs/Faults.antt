@@ -5,13 +5,16 @@ use Rattle.pc_types.specs.declared.limits.TheConstants.{MOST_POINTS}
 use Rattle.pc_types.specs.declared.refusal.Refusal.{Refusal}
 use Rattle.pc_types.specs.declared.refusal.Refusal.TheVariants as refusal
 use Rattle.pc_types.specs.declared.tally.Tally.{Tally}
-use Rattle.pc_model.specs.Replies.{Setting, IsLegalHistory}
+use Rattle.pc_model.specs.Calls.{IsBeginning}
+use Rattle.pc_model.specs.History.{History}
+use Rattle.pc_model.specs.Replies.{Setting, IsLegalHistory, log_is_full}
 use Rattle.pc_latch.specs.Tickets.{HasNoFile}
 use Rattle.pc_texts.specs.declared.file_names.FileName.{FileName}
 use Rattle.pc_threads.specs.declared.fault.ThreadsFault.{ThreadsFault}
 use Rattle.pc_threads.specs.declared.fault.ThreadsFault.TheVariants as fault
 use Rattle.pc_threads.specs.declared.files.FileFault.{FileFault}
 use Rattle.pc_threads.specs.declared.files.FileFault.TheVariants as lost
+use Rattle.pc_threads.specs.declared.points.PointsFault.{PointsFault}
 use Rattle.pc_threads.specs.declared.threads.CollapseFault.{CollapseFault}
 use Rattle.pc_threads.specs.declared.threads.LogFault.{LogFault}
 
@@ -38,6 +41,11 @@ abbrev pub CollapserHasStopped : {N : Type 0} → Setting → ℕ → CollapseFa
 CollapserHasStopped st points stop =
     (stop.why ≡ refusal.OutOfMemory) ⊎ ((stop.why ≡ refusal.NoFile) × IsLegalHistory st stop.seen × ((point : ℕ) × (1 ≤ point) × (point ≤ points) × HasNoFile st stop.seen point))
 
+-- a witness has seen a legal history that begins with this one, and whose log has no place left
+abbrev pub ShowsLogFull : Setting → History → Option History → Type 0
+ShowsLogFull st first None = ⊥
+ShowsLogFull st first (Some shown) = IsLegalHistory st shown × IsBeginning first shown × IsTrue (log_is_full shown)
+
 -- Why one of the threads of a run has stopped, where files are written or not, there are so many transactions, and so many points
 -- are due: memory ran out; a file that is written was lost; more transactions were given up than 64 bits can count; more points are
 -- due than there can be; or, where points are due, the log has no place left, or a point's file isn't there.
@@ -55,3 +63,9 @@ abbrev pub IsThreadsEnd : Bool → ℕ → ℕ → ThreadsFault → Type 0
 IsThreadsEnd writes transactions points (fault.Refused why) = IsStop writes transactions points why
 IsThreadsEnd writes transactions points (fault.Unmade file why) = IsTrue writes
 IsThreadsEnd writes transactions points fault.NoThread = ⊤
+
+-- The points up to this one are not all taken, where files are written or not, by a checkpointer that had seen this history: for one of
+-- these; and where the log has no place left, with a witness that shows it.
+pub record PointsHaveStopped {N : Type 0} (st : Setting) (writes : Bool) (first : History) (points : ℕ) (stop : PointsFault N) : Type 0 where
+  pub ends : IsThreadsEnd writes 0 points stop.why
+  pub shown : stop.why ≡ fault.Refused refusal.LogFull → ShowsLogFull st first stop.seen

@@ -5,17 +5,17 @@ ghost use Rattle.pc_types.specs.declared.limits.TheConstants.{MOST_POINTS};
 ghost use Rattle.pc_model.specs.History.{History, phase_of};
 ghost use Rattle.pc_workers.specs.Checkpointing.{HasCycled};
 ghost use Rattle.pc_texts.specs.declared.file_names.FileName.TheVariants as file;
-ghost use Rattle.pc_threads.specs.Faults.{IsThreadsEnd};
+ghost use Rattle.pc_threads.specs.Faults.{IsThreadsEnd, PointsHaveStopped};
 ghost use Rattle.pc_threads.specs.Files.{HasParts, HasWritten};
 
 use crate::fault::ThreadsFault;
 use crate::files::{NewFiles, write_part};
 use crate::hands::Seat;
 use crate::room::Room;
-use pc_shared::{CheckpointerSeat, PartTicket};
+use pc_shared::{CheckpointerSeat, PartTicket, Witness};
 use pc_tie::StoreName;
 use pc_types::{FileNo, Gate, Lsn, Point, Refusal};
-use pc_workers::checkpoint_loop;
+use pc_workers::{CheckpointFault, checkpoint_loop};
 use std::io::Write;
 use std::sync::Wait;
 
@@ -30,6 +30,48 @@ pub struct Checkpointer<'a, N: StoreName, D> {
     pub counted_from: Lsn,
     pub folder: Option<D>,
     pub written: Vec<PartTicket<N>>,
+}
+
+/// Why the points of a run are not all taken, and where the store has refused one the witness that came with that.
+#[derive(Drop)]
+pub(crate) struct PointsFault<N: StoreName> {
+    pub(crate) why: ThreadsFault,
+    pub(crate) seen: Option<Witness<N>>,
+}
+
+impl<N: StoreName> From<CheckpointFault<N>> for PointsFault<N> {
+    ghost use Rattle.std.specs.Prelude.{◌≡◌, Some};
+    ghost use Rattle.pc_threads.specs.declared.fault.ThreadsFault.TheVariants.{Refused};
+
+    ghost from_gives = { λ stop fault. (fault.why ≡ Refused stop.why) × (fault.seen ≡ Some stop.seen) };
+
+    fn from(stop: CheckpointFault<N>) -> PointsFault<N> {
+        let CheckpointFault { why, seen } = stop;
+        PointsFault {
+            why: ThreadsFault::Refused(why),
+            seen: Some(seen),
+        }
+    }
+}
+
+impl<N: StoreName> From<ThreadsFault> for PointsFault<N> {
+    ghost use Rattle.std.specs.Prelude.{◌≡◌};
+
+    ghost from_gives = { λ why fault. fault.why ≡ why };
+
+    fn from(why: ThreadsFault) -> PointsFault<N> {
+        PointsFault { why, seen: None }
+    }
+}
+
+impl<N: StoreName> From<PointsFault<N>> for ThreadsFault {
+    ghost use Rattle.std.specs.Prelude.{◌≡◌};
+
+    ghost from_gives = { λ stop fault. fault ≡ stop.why };
+
+    fn from(stop: PointsFault<N>) -> ThreadsFault {
+        stop.why
+    }
 }
 
 // How many entries of the log a point's cycle makes: one for each change of the phase.
@@ -77,14 +119,14 @@ impl<'a, N: StoreName, D: Drop> Checkpointer<'a, N, D> {
         rt: &R,
         room: &Room<'_, N, G>,
         point: Point,
-    ) -> Result<Checkpointer<'a, N, D>, ThreadsFault>
+    ) -> Result<Checkpointer<'a, N, D>, PointsFault<N>>
     where
         D: NewFiles<F>,
         requires { phase_of self.at_store ≡ Rest }
         ensures cycle { IfOk result (λ later. HasCycled N.name.setting 1 self.entry.at_store later.at_store) }
         ensures written { (first : Option D) (before : ℕ) → before + 1 ≡ point → HasWritten D.holds before first self.entry.folder self.entry.written.items → IfOk result (λ later. HasWritten D.holds point first later.folder later.written.items) }
         ensures there { IfOk result (λ later. is_some later.folder ≡ is_some self.entry.folder) }
-        ensures ended { (before : ℕ) → before + 1 ≡ point → point ≤ MOST_POINTS → HasCycled N.name.setting before [] self.entry.at_store → IfErr result (IsThreadsEnd (is_some self.entry.folder) 0 point) }
+        ensures ended { (before : ℕ) → before + 1 ≡ point → point ≤ MOST_POINTS → HasCycled N.name.setting before [] self.entry.at_store → IfErr result (PointsHaveStopped N.name.setting (is_some self.entry.folder) self.entry.at_store point) }
     {
         let Checkpointer {
             mut at_store,
@@ -138,19 +180,19 @@ pub(crate) fn take_points<
     checkpointer: Checkpointer<'a, N, D>,
     taken: u32,
     last: u32,
-) -> Result<Checkpointer<'a, N, D>, ThreadsFault>
+) -> Result<Checkpointer<'a, N, D>, PointsFault<N>>
     requires order { taken ≤ last }
     requires rest { phase_of checkpointer.at_store ≡ Rest }
     ensures rest { IfOk result (λ later. phase_of later.at_store ≡ Rest) }
     ensures cycles { (first : History) → HasCycled N.name.setting taken first checkpointer.entry.at_store → IfOk result (λ later. HasCycled N.name.setting last first later.at_store) }
     ensures written { (first : Option D) → HasWritten D.holds taken first checkpointer.entry.folder checkpointer.entry.written.items → IfOk result (λ later. HasWritten D.holds last first later.folder later.written.items) }
     ensures there { IfOk result (λ later. is_some later.folder ≡ is_some checkpointer.entry.folder) }
-    ensures ended { HasCycled N.name.setting taken [] checkpointer.entry.at_store → IfErr result (IsThreadsEnd (is_some checkpointer.entry.folder) 0 last) }
+    ensures ended { HasCycled N.name.setting taken [] checkpointer.entry.at_store → IfErr result (PointsHaveStopped N.name.setting (is_some checkpointer.entry.folder) checkpointer.entry.at_store last) }
 {
     let mut checkpointer = checkpointer;
     for others in taken..last {
         let Ok(point) = u16::try_from(others + 1) else {
-            return Err(ThreadsFault::Refused(Refusal::PointsFull));
+            return Err(PointsFault::from(ThreadsFault::Refused(Refusal::PointsFull)));
         };
         checkpointer.await_commits(rt, room);
         checkpointer = checkpointer.take(rt, room, Point(point))?;

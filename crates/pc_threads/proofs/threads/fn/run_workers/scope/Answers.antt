@@ -86,8 +86,8 @@ returns-in_err-checkpointer g c =
       left = tt;
       ended = λ fresh.
           let none : HasCycled st 0 [] seat = subst (λ (h : History). HasCycled st 0 h seat) fresh (cycled_none st seat c.requires.rest) in
-          point_ends c.captures.has_log (is_some c.captures.checkpointer.folder) (transactions_in (clients_in c.captures.workers.items)) c.saturating_sub-beside.result points c.in_err-checkpointer.field-0.0 low
-          (c.in_err-checkpointer.ensures.ended none);
+          point_ends c.captures.has_log (is_some c.captures.checkpointer.folder) (transactions_in (clients_in c.captures.workers.items)) c.saturating_sub-beside.result points c.in_err-checkpointer.field-0.0.why low
+          (c.in_err-checkpointer.ensures.ended none).ends;
     })
 
 pub returns-in_err-checkpointer-2 : goal.returns-in_err-checkpointer-2
@@ -96,12 +96,12 @@ returns-in_err-checkpointer-2 g c =
     let p = err_from_is_err_and c.from_residual-in_err-checkpointer-2.result c.from_residual-in_err-checkpointer-2.ensures.1 in
     let seat : History = c.captures.checkpointer.at_store in
     let points = c.captures.points in
-    let fault = c.in_err-checkpointer-2.field-0.0 in
+    let fault = c.in_err-checkpointer-2.field-0.0.why in
     rw (p.1, p.2)
     (record {
       left = tt;
       ended = λ fresh.
           let none : HasCycled st 0 [] seat = subst (λ (h : History). HasCycled st 0 h seat) fresh (cycled_none st seat c.requires.rest) in
           point_ends c.captures.has_log (is_some c.captures.checkpointer.folder) (transactions_in (clients_in c.captures.workers.items)) points points fault (omega arith)
-          (subst (λ (b : Bool). IsThreadsEnd b 0 points fault) c.in_ok-checkpointer.ensures.there (c.in_err-checkpointer-2.ensures.ended (c.in_ok-checkpointer.ensures.cycles [] none)));
+          (subst (λ (b : Bool). IsThreadsEnd b 0 points fault) c.in_ok-checkpointer.ensures.there (c.in_err-checkpointer-2.ensures.ended (c.in_ok-checkpointer.ensures.cycles [] none)).ends);
     })
