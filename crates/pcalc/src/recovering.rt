@@ -58,11 +58,7 @@ fn recover_to<'a, W: Write, E: Write>(
     Ok(ended.status)
 }
 
-fn tell_lacks<R, E: Write>(
-    dir: ReadFolder<'_>,
-    ended: &EndedRecovery<R>,
-    errors: &mut Tally<E>,
-) {
+fn tell_lacks<R, E: Write>(dir: ReadFolder<'_>, ended: &EndedRecovery<R>, errors: &mut Tally<E>) {
     if let Some(lacks) = &ended.lacks {
         let _ = Lacking { dir, lacks: *lacks }.put(errors);
     }
