@@ -188,7 +188,17 @@ impl<'a, N: StoreName + Send + Sync, R: Threads + Wait + Sync> Room<'a, N, R> {
                     rt,
                     || -> Result<u32, Refusal>
                         requires { IsOfBoard ours.now board.now × (phase_of seat.now ≡ Rest) }
-                    { Ok(checkpoint_loop(rt, shared, seat, board, ours, self.plan.points, self.gate)?) },
+                    {
+                        Ok(checkpoint_loop(
+                            rt,
+                            shared,
+                            seat,
+                            board,
+                            ours,
+                            self.plan.points,
+                            self.gate,
+                        )?)
+                    },
                     || self.run_clients(sessions),
                 );
                 self.end(seat);
