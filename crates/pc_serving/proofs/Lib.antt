@@ -1,2 +1,3 @@
 mod SweepLaws
 mod AnswerLaws
+mod InputLaws

@@ -2,3 +2,4 @@ pub mod Requests
 pub mod Points
 pub mod Serving
 pub mod Sweeps
+pub mod Inputs

@@ -2,9 +2,11 @@
 #![tactic(auto)]
 
 mod answers;
+mod lines;
 mod pace;
 mod request;
 
 pub use answers::Served;
+pub use lines::next_line;
 pub use pace::{Pace, Turned};
 pub use request::{Request, read_request};
