@@ -139,7 +139,7 @@ fn run_job<N: StoreName, R: Wait, G: ClientGate>(
     if room.lag.is_some() && room.shared.has_log_ended() {
         return Err(Refusal::Device);
     }
-    let count = client_loop(
+    let ended = client_loop(
         rt,
         room.alloc,
         room.shared,
@@ -148,7 +148,7 @@ fn run_job<N: StoreName, R: Wait, G: ClientGate>(
         room.lag,
         room.gate,
     );
-    Ok(count.given_up)
+    Ok(ended.count.given_up)
 }
 
 // The transaction of a fill of this number, made now, is tried; where memory ran out for its key or its value, which is of more

@@ -3,6 +3,7 @@ ghost use Rattle.std.specs.Prelude.{◌≡◌, ◌||◌, ℕ, Bool, false, [], A
 ghost use Rattle.pc_board.specs.Passes.{IsOfBoard};
 ghost use Rattle.pc_types.specs.declared.Phase.TheVariants.{Rest};
 ghost use Rattle.pc_model.specs.History.{phase_of};
+ghost use Rattle.pc_shared.specs.Written.{CountsAsOut};
 ghost use Rattle.pc_workers.specs.Covering.{HaveOnlyTo};
 ghost use Rattle.pc_threads.specs.Clients.{HaveWorked, clients_in, transactions_in};
 ghost use Rattle.pc_threads.specs.Faults.{CollapserHasStopped, IsThreadsEnd, LogHasStopped};
@@ -83,6 +84,7 @@ impl<N: StoreName, F: Write + Drop> Logger<N, F> {
         rt: &R,
         room: &Room<'_, N, G>,
     ) -> Result<Written<N, F>, LogFault<F>>
+        requires { CountsAsOut F.contents N.out }
         ensures logged { IfOk result (λ written. HasLogged F.contents N.name.setting.run self.out written.out written.pass) }
         ensures stopped { IfErr result (LogHasStopped self.out) }
     {
@@ -348,7 +350,7 @@ fn run_hands<
 
 /// Runs them all, and marks the end once the workers have ended and the points are taken, or whatever else keeps them from it: a
 /// thread can't be started, a point can't be taken, or memory ran out. It returns once all threads have ended. Where the log's file
-/// is lost it refuses for that, whatever else went wrong.
+/// is lost it refuses for that, whatever else went wrong. What goes out to such a file has to count as gone out by the store's name.
 pub fn run_threads<
     'x,
     N: StoreName + Send + Sync,
@@ -363,6 +365,7 @@ pub fn run_threads<
     logger: Logger<N, F>,
 ) -> Result<(Rested<N, D>, Written<N, F>), ThreadsFault>
     requires rest { phase_of hands.checkpointer.at_store ≡ Rest }
+    requires counts { CountsAsOut F.contents N.out }
     ensures left { IfOk result (λ r. IsLeftByHands D.holds N.name.setting room.now.points hands.entry.workers.items hands.entry.checkpointer r.0) }
     ensures logged { IfOk result (λ r. HasLogged F.contents N.name.setting.run logger.out r.1.out r.1.pass) }
     ensures ended { hands.entry.checkpointer.at_store ≡ [] → IfErr result (IsThreadsEnd (is_some room.now.lag || is_some hands.entry.checkpointer.folder || is_some logger.out) (transactions_in (clients_in hands.entry.workers.items)) room.now.points) }
@@ -375,7 +378,8 @@ pub fn run_threads<
         thread::scope_env(),
         rt,
         |scope| -> Result<(Rested<N, D>, Written<N, F>), ThreadsFault>
-            requires { phase_of hands.checkpointer.at_store ≡ Rest }
+            requires rest { phase_of hands.checkpointer.at_store ≡ Rest }
+            requires counts { CountsAsOut F.contents N.out }
             ensures left { IfOk result (λ r. IsLeftByHands D.holds N.name.setting room.entry.now.points hands.entry.workers.items hands.entry.checkpointer r.0) }
             ensures logged { IfOk result (λ r. HasLogged F.contents N.name.setting.run logger.out r.1.out r.1.pass) }
             ensures ended { hands.entry.checkpointer.at_store ≡ [] → IfErr result (IsThreadsEnd (is_some room.entry.now.lag || is_some hands.entry.checkpointer.folder || is_some logger.out) (transactions_in (clients_in hands.entry.workers.items)) room.entry.now.points) }
