@@ -1,6 +1,6 @@
 //! An example of the library: two sessions on threads of their own, a checkpointer and a collapser beside them, and a logger behind
 //! them, over one store from its opening to its close.
-ghost use Rattle.std.specs.Prelude.{◌≡◌, []};
+ghost use Rattle.std.specs.Prelude.{◌≡◌, ℕ, List, []};
 ghost use Rattle.pc_types.specs.declared.Phase.TheVariants.{Rest};
 ghost use Rattle.pc_model.specs.History.{phase_of};
 ghost use Rattle.pc_board.specs.Passes.{IsOfBoard};
@@ -46,10 +46,11 @@ pub fn use_store<N: StoreName + Send + Sync, R: Threads + Wait + Sync>(
     alloc: Global,
     opened: Opened,
 ) -> Result<Example, Refusal>
-    requires { opened ≡ N.name }
+    requires name { opened ≡ N.name }
+    requires counts { (text : List ℕ) → N.out text }
 {
     let (shared, mut sessions, mut seat, mut pass) = opened.named::<N>()?;
-    let mut text = TextOfLog::new(alloc);
+    let mut text = TextOfLog::<N>::new(alloc);
     let desk = Desk {
         rt,
         alloc,
@@ -76,7 +77,7 @@ impl<'a, N: StoreName + Send + Sync, R: Threads + Wait + Sync> Desk<'a, N, R> {
         seat: &mut CheckpointerSeat<N>,
         sessions: &mut Vec<Session<N>>,
         pass: &mut LogPass<N>,
-        text: &mut TextOfLog,
+        text: &mut TextOfLog<N>,
     ) -> Result<Done<N>, Refusal>
         requires pass { pass.old ≡ [] }
         requires seat { seat.old ≡ [] }

@@ -1,5 +1,5 @@
 //! A store from its opening to its close, with its clients, its checkpointer, its logger and a collapser on threads of their own.
-ghost use Rattle.std.specs.Prelude.{◌≡◌, []};
+ghost use Rattle.std.specs.Prelude.{◌≡◌, ℕ, List, []};
 ghost use Rattle.pc_types.specs.declared.Phase.TheVariants.{Rest};
 ghost use Rattle.pc_model.specs.History.{phase_of};
 ghost use Rattle.pc_board.specs.Passes.{IsOfBoard};
@@ -98,8 +98,8 @@ impl<'a, N: StoreName + Send + Sync, R: Threads + Wait + Sync> Room<'a, N, R> {
             return;
         };
         let Desk { rt, alloc, shared } = self.desk;
-        let count = client_loop(rt, alloc, shared, session, jobs, self.plan.lag, self.gate);
-        self.done.note(count);
+        let ended = client_loop(rt, alloc, shared, session, jobs, self.plan.lag, self.gate);
+        self.done.note(ended.count);
     }
 
     // All clients, each on a thread of its own.
@@ -141,7 +141,7 @@ impl<'a, N: StoreName + Send + Sync, R: Threads + Wait + Sync> Room<'a, N, R> {
         &self,
         board: &Board,
         theirs: &mut BoardPass,
-        text: &mut TextOfLog,
+        text: &mut TextOfLog<N>,
         pass: &mut LogPass<N>,
     ) -> Result<Vec<PartTicket<N>>, Refusal>
         requires theirs { IsOfBoard theirs.old board.now }
@@ -168,7 +168,7 @@ impl<'a, N: StoreName + Send + Sync, R: Threads + Wait + Sync> Room<'a, N, R> {
         board: &Board,
         ours: &mut BoardPass,
         theirs: &mut BoardPass,
-        text: &mut TextOfLog,
+        text: &mut TextOfLog<N>,
         pass: &mut LogPass<N>,
         seat: &mut CheckpointerSeat<N>,
         sessions: &mut [Session<N>],
@@ -215,7 +215,7 @@ impl<'a, N: StoreName + Send + Sync, R: Threads + Wait + Sync> Room<'a, N, R> {
     // All of them. Then the other tickets are taken.
     fn run_all(
         &self,
-        text: &mut TextOfLog,
+        text: &mut TextOfLog<N>,
         pass: &mut LogPass<N>,
         seat: &mut CheckpointerSeat<N>,
         sessions: &mut [Session<N>],
@@ -241,12 +241,13 @@ pub fn meet<N: StoreName + Send + Sync, R: Threads + Wait + Sync>(
     opened: Opened,
     plan: &Plan,
 ) -> Result<Left, Refusal>
-    requires { opened ≡ N.name }
+    requires name { opened ≡ N.name }
+    requires counts { (text : List ℕ) → N.out text }
 {
     let jobs = plan.work.jobs(alloc, plan.idle)?;
     let gate = Meeting::new(plan.stops, plan.alone, plan.idle);
     let done = Done::new();
-    let mut text = TextOfLog::new(alloc);
+    let mut text = TextOfLog::<N>::new(alloc);
     let (shared, mut sessions, mut seat, mut pass) = opened.named::<N>()?;
     let desk = Desk {
         rt,
@@ -271,7 +272,7 @@ fn left_by<N: StoreName>(
     closed: &Closed<N>,
     gate: &Meeting,
     done: &Done,
-    text: TextOfLog,
+    text: TextOfLog<N>,
 ) -> Result<Left, Refusal> {
     let log = closed.log().entries(alloc)?;
     let tokens = tokens_in(&log);

@@ -50,8 +50,8 @@ impl<'a, N: StoreName, R: Wait> Desk<'a, N, R> {
         for _ in 0..COMMITS {
             jobs.push(job_of(alloc)?)?;
         }
-        let count = client_loop(rt, alloc, shared, session, &jobs, None, &OpenGate);
-        Ok(count.commits)
+        let ended = client_loop(rt, alloc, shared, session, &jobs, None, &OpenGate);
+        Ok(ended.count.commits)
     }
 
     /// Marks that nothing more is to come.
