@@ -8,6 +8,7 @@ ghost use Rattle.pc_board.specs.declared.limits.TheConstants.{MOST_PASSES};
 ghost use Rattle.pc_board.specs.Passes.{IsOfBoard};
 ghost use Rattle.pc_outcomes.specs.Leaving.{AreLeftAfter, IsLegacy, IsUntoldAfter, commits_in};
 ghost use Rattle.pc_shared.specs.Sitters.{Sitter, new_sitters};
+ghost use Rattle.pc_shared.specs.Written.{CountsAsOut};
 ghost use Rattle.pc_threads.specs.Clients.{HaveSeats, HaveWorked, clients_in, transactions_in};
 ghost use Rattle.pc_threads.specs.Faults.{IsThreadsEnd};
 ghost use Rattle.pc_threads.specs.declared.fault.ThreadsFault.TheVariants as ThreadsFault;
@@ -119,6 +120,7 @@ fn use_store<
     requires some { 0 < length passes.items }
     requires few { length passes.items ≤ MOST_PASSES }
     requires ours { All (λ pass. IsOfBoard pass board.now) passes.items }
+    requires counts { CountsAsOut F.contents N.out }
     ensures clients { IfOk result (λ r. (more : List Sitter) × (r.0.sessions.items ≡ seating.idle.items ++ more) × HaveWorked N.name.setting (clients_in seating.workers.items) r.0.given_up more) }
     ensures cover { IfOk result (λ r. HaveJustTo room.now.points r.0.joined.items) }
     ensures written { IfOk result (λ r. HasWritten D.holds room.now.points folder r.0.folder r.0.written.items) }
@@ -148,8 +150,8 @@ fn all_tickets<N: StoreName>(
 
 /// Runs the workload over the store, which has a session for each of its clients, to its close, and tells what it leaves. Where there
 /// is a folder, which has the base's file and that of the log, which is blank, the log is written to it beside the threads, and its
-/// rest once the store is closed; and so is the file of each point, once the point was taken. It fails for nothing but what
-/// `specs/Faults` names.
+/// rest once the store is closed; and so is the file of each point, once the point was taken. What goes out to such a file has to count
+/// as gone out by the store's name. It fails for nothing but what `specs/Faults` names.
 pub fn run_store<
     N: StoreName + Send + Sync,
     F: Write + Drop + Send,
@@ -169,6 +171,7 @@ pub fn run_store<
     requires room { N.name.setting.capacity ≤ MOST_KEYS }
     requires seats { HaveSeats (new_sitters N.name.setting.sessions) workload.clients }
     requires begun { HasBegunFiles D.holds F.contents D.blank (base_of N.name.setting) folder log }
+    requires counts { CountsAsOut F.contents N.out }
     ensures run { IfOk result (λ r. IsWorkloadRun D.holds N.name.setting workload (is_some folder) r.1 r.0) }
     ensures ended { IfErr result (EndsRun N.name.setting workload (is_some folder)) }
 {

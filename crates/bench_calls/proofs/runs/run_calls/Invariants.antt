@@ -1,5 +1,5 @@
 use Rattle.bench_calls.proofs.runs.run_calls.Given as goal
 
--- the name of the store that was just opened
+-- the name of the store that was just opened; nobody writes its log
 abbrev pub ghosts-call_by_one : goal.ghosts-call_by_one
-ghosts-call_by_one g a = record { name = a.opened }
+ghosts-call_by_one g a = record { name = a.opened; out = λ text. ⊥ }

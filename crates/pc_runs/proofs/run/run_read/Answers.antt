@@ -15,6 +15,9 @@ run_store-requires-clause-seats g c κs within = subst (λ (st : Setting). HaveS
 pub run_store-requires-clause-room : goal.run_store-requires-clause-room
 run_store-requires-clause-room g c κs within = subst (λ (st : Setting). st.capacity ≤ MOST_KEYS) (sym c.in_ok-opened.ensures.setting) c.requires.capacity.1
 
+pub run_store-requires-clause-counts : goal.run_store-requires-clause-counts
+run_store-requires-clause-counts g c κs within now text gone = (now, gone)
+
 pub returns-in_err-folder-clause-ended : goal.returns-in_err-folder-clause-ended
 returns-in_err-folder-clause-ended g c =
     let p = err_from_is_err_and c.from_residual.result c.from_residual.ensures.1 in
