@@ -3,7 +3,7 @@ ghost use Rattle.std.specs.Prelude.{◌≡◌, IfSome, true};
 ghost use Rattle.pc_model.specs.History.{History};
 ghost use Rattle.pc_engine.specs.Stands.{Stands};
 ghost use Rattle.pc_engine.specs.Store.{setting_of};
-ghost use Rattle.pc_serving.specs.Points.{AreCheckpoints, is_checkpoint, IsShelvedAs};
+ghost use Rattle.pc_serving.specs.Points.{is_checkpoint, IsShelvedAs, IsTurn};
 
 use pc_engine::World;
 use pc_types::{Event, FileNo, Phase, Refusal, Reply};
@@ -80,10 +80,11 @@ impl Pace {
     }
 
     /// Asks the next event of the point's cycle, where one is due: of whatever history the store stands after, it then stands after
-    /// that history and at most one event of the checkpointer behind it. Refuses as the event is refused.
+    /// that history, or after that and one event of the checkpointer with its legal reply. It tells of a file exactly where the reply
+    /// put one on the shelf, and refuses exactly where the event was refused, as it was.
     pub fn go_on(&mut self, world: &mut World) -> Result<Turned, Refusal>
         ensures setting { setting_of world.new ≡ setting_of world.old }
-        ensures steps { (history : History) → Stands world.old history → (next : History) × Stands world.new next × AreCheckpoints history next }
+        ensures turn { (history : History) → Stands world.old history → (next : History) × Stands world.new next × IsTurn (setting_of world.old) history next result }
     {
         let Some(event) = self.due(world.phase()) else {
             return Ok(Turned::Nothing);
