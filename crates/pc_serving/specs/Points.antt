@@ -1,12 +1,15 @@
 -- What happens between the lines of a store that is served.
-use Rattle.std.specs.Prelude.{◌≡◌, ◌⊎◌, ⊤, Bool, true, false, ◌∷◌, Result, Ok, Err}
+use Rattle.std.specs.Prelude.{◌≡◌, ◌==◌, ◌||◌, ◌⊎◌, ⊤, Bool, true, false, nat_lt, ◌∷◌, Option, Some, None, Result, Ok, Err, if◌then◌else◌}
 use Rattle.pc_types.specs.declared.Event.{Event}
 use Rattle.pc_types.specs.declared.Event.TheVariants as asked
 use Rattle.pc_types.specs.declared.Refusal.{Refusal}
 use Rattle.pc_types.specs.declared.Reply.{Reply}
 use Rattle.pc_types.specs.declared.Reply.TheVariants as told
-use Rattle.pc_model.specs.History.{History}
+use Rattle.pc_types.specs.declared.Phase.{Phase}
+use Rattle.pc_types.specs.declared.Phase.TheVariants.{Rest, Prepare, Resolve, Capture, Complete}
+use Rattle.pc_model.specs.History.{History, phase_of}
 use Rattle.pc_model.specs.Replies.{Setting, IsLegal}
+use Rattle.pc_serving.specs.declared.pace.Pace.{Pace}
 use Rattle.pc_serving.specs.declared.pace.Turned.{Turned}
 use Rattle.pc_serving.specs.declared.pace.Turned.TheVariants as turned
 
@@ -28,8 +31,23 @@ IsShelvedAs other (Ok (turned.Shelved file)) = ⊥
 IsShelvedAs other (Ok t) = ⊤
 IsShelvedAs other (Err why) = ⊥
 
--- The checkpointer had its turn: nothing was due, and nothing was asked; or it asked an event of its own, which had a legal reply, and is
+-- The event of a point's cycle that is due in the phase, if one is: at rest a point begins once there were so many commits, and with 0
+-- none does; in capture keys are taken, until none is left.
+abbrev pub due_in : Pace → Phase → Option Event
+due_in pace Rest = if (pace.every == 0) || nat_lt pace.commits pace.every then None else Some asked.StartPoint
+due_in pace Prepare = Some asked.Seal
+due_in pace Resolve = Some asked.OpenCapture
+due_in pace Capture = if pace.has_left then Some asked.Take else Some asked.Done
+due_in pace Complete = Some asked.Rest
+
+-- what is due behind the reply: commits are counted from where a point begins, and keys are left until the reply says that none is
+abbrev pub noted : Pace → Reply → Pace
+noted pace told.NoneLeft = record pace { has_left = false }
+noted pace (told.Phase Prepare point) = record pace { commits = 0; has_left = true }
+noted pace other = pace
+
+-- The checkpointer had its turn: nothing was due, and nothing was asked; or it asked the event that was, which had a legal reply, and is
 -- told of it.
-abbrev pub IsTurn : Setting → History → History → Result Turned Refusal → Type 0
-IsTurn st before after result = ((after ≡ before) × (result ≡ Ok turned.Nothing))
-    ⊎ ((event : Event) × (reply : Reply) × (is_checkpoint event ≡ true) × IsLegal st before event reply × (after ≡ record { event = event; reply = reply } ∷ before) × IsShelvedAs reply result)
+abbrev pub IsTurn : Setting → Pace → History → Pace → History → Result Turned Refusal → Type 0
+IsTurn st old before new after result = ((due_in old (phase_of before) ≡ None) × (after ≡ before) × (new ≡ old) × (result ≡ Ok turned.Nothing))
+    ⊎ ((event : Event) × (reply : Reply) × (due_in old (phase_of before) ≡ Some event) × IsLegal st before event reply × (after ≡ record { event = event; reply = reply } ∷ before) × (new ≡ noted old reply) × IsShelvedAs reply result)

@@ -1,9 +1,9 @@
 //! Points that are taken between the lines of a store that is served.
-ghost use Rattle.std.specs.Prelude.{◌≡◌, IfSome, true};
+ghost use Rattle.std.specs.Prelude.{◌≡◌, ◌+◌, ◌-◌, ◌^◌, min, true};
 ghost use Rattle.pc_model.specs.History.{History};
 ghost use Rattle.pc_engine.specs.Stands.{Stands};
 ghost use Rattle.pc_engine.specs.Store.{setting_of};
-ghost use Rattle.pc_serving.specs.Points.{is_checkpoint, IsShelvedAs, IsTurn};
+ghost use Rattle.pc_serving.specs.Points.{due_in, noted, IsShelvedAs, IsTurn};
 
 use pc_engine::World;
 use pc_types::{Event, FileNo, Phase, Refusal, Reply};
@@ -30,7 +30,9 @@ pub struct Pace {
 
 impl Pace {
     /// A point begins after so many commits; with 0 none does.
-    pub fn new(every: u64) -> Pace {
+    pub fn new(every: u64) -> Pace
+        ensures { result ≡ record { every = every; commits = 0; has_left = true } }
+    {
         Pace {
             every,
             commits: 0,
@@ -38,14 +40,16 @@ impl Pace {
         }
     }
 
-    /// A transaction was committed.
-    pub fn note_commit(&mut self) {
+    /// A transaction was committed; the count stays at the greatest of 64 bits.
+    pub fn note_commit(&mut self)
+        ensures { self.new ≡ record self.old { commits = min (self.old.commits + 1) (2 ^ 64 - 1) } }
+    {
         self.commits = self.commits.saturating_add(1);
     }
 
     // What ends the phase, or takes a key in capture; nothing where no point is due.
     fn due(&self, phase: Phase) -> Option<Event>
-        ensures { IfSome result (λ event. is_checkpoint event ≡ true) }
+        ensures { result ≡ due_in self.now phase }
     {
         match phase {
             Phase::Rest if self.every == 0 || self.commits < self.every => None,
@@ -60,7 +64,8 @@ impl Pace {
 
     // Notes how the event was answered.
     fn note(&mut self, reply: &Reply) -> Result<Turned, Refusal>
-        ensures { IsShelvedAs reply.now result }
+        ensures told { IsShelvedAs reply.now result }
+        ensures noted { self.new ≡ noted self.old reply.now }
     {
         match reply {
             Reply::Refused(why) => Err(*why),
@@ -80,11 +85,11 @@ impl Pace {
     }
 
     /// Asks the next event of the point's cycle, where one is due: of whatever history the store stands after, it then stands after
-    /// that history, or after that and one event of the checkpointer with its legal reply. It tells of a file exactly where the reply
+    /// that history, or after that and the event that is due with its legal reply. It tells of a file exactly where the reply
     /// put one on the shelf, and refuses exactly where the event was refused, as it was.
     pub fn go_on(&mut self, world: &mut World) -> Result<Turned, Refusal>
         ensures setting { setting_of world.new ≡ setting_of world.old }
-        ensures turn { (history : History) → Stands world.old history → (next : History) × Stands world.new next × IsTurn (setting_of world.old) history next result }
+        ensures turn { (history : History) → Stands world.old history → (next : History) × Stands world.new next × IsTurn (setting_of world.old) self.old history self.new next result }
     {
         let Some(event) = self.due(world.phase()) else {
             return Ok(Turned::Nothing);
