@@ -8,3 +8,4 @@ pub mod FieldForms
 pub mod Heads
 pub mod Changes
 pub mod Keys
+pub mod KeyHashes

@@ -16,6 +16,7 @@ use crate::refusal::Refusal;
 use smallvec::SmallVec;
 use std::alloc::{AllocError, Global};
 use std::cmp::Ordering;
+use std::hash::{Hash, Hasher};
 use std::marker::Model;
 
 // A key has at most so many bytes with its space's.
@@ -84,6 +85,17 @@ impl Key {
             Format::First => joined(alloc, 0, text)?,
             Format::Second => SmallVec::from_slice(alloc, text)?,
         };
+        Ok(Key { bytes })
+    }
+
+    /// The key that is ordered by these bytes, which are given as `as_bytes` gives them. It takes memory only for more than 16
+    /// bytes of its own, and fails only where that ran out.
+    pub fn of_bytes(alloc: Global, bytes: &[u8]) -> Result<Key, AllocError>
+        requires { IsKey bytes.now }
+        ensures key { IfOk result (λ key. key ≡ bytes.now) }
+        ensures inline { length bytes.now ≤ 18 → IsOk result }
+    {
+        let bytes = SmallVec::from_slice(alloc, bytes)?;
         Ok(Key { bytes })
     }
 
@@ -179,6 +191,19 @@ impl Eq for Key {
     ghost use Rattle.std.specs.Cmp.Lexicographic.{nat_list_cmp_total};
 
     ghost laws = { eq_by_cmp_equiv nat_list_cmp_total };
+}
+
+impl Hash for Key {
+    ghost use Rattle.std.specs.Prelude.{[], ◌∷◌};
+    ghost use Rattle.pc_types.specs.KeyHashes.{same_input};
+
+    ghost hash_input = { λ key. key ∷ [] };
+
+    ghost respects_eq = { same_input };
+
+    fn hash<H: Hasher>(&self, state: &mut H) {
+        state.write(self.as_bytes());
+    }
 }
 
 impl PartialOrd for Key {
