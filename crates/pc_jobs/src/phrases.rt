@@ -5,7 +5,7 @@ ghost use Rattle.pc_jobs.specs.Phrases.{key_of, value_of, prefix_of, number_with
 
 use crate::prefixes::Prefix;
 use crate::works::{Fill, Op};
-use pc_lines::{is_comment, is_value, key_text_of, number, signed_number, text_of, words_of};
+use pc_lines::{first_words, is_comment, is_value, key_text_of, number, signed_number, text_of};
 use pc_types::{Key, MOST_SESSIONS, Refusal, SessionNo, Value};
 use std::alloc::Global;
 
@@ -44,8 +44,7 @@ pub(crate) fn spelled(alloc: Global, text: &[u8]) -> Result<Phrase, Refusal>
     if is_comment(text) {
         return Ok(Phrase::Silent);
     }
-    let words = words_of(alloc, text)?;
-    spelled_by(alloc, &words)
+    spelled_by(alloc, &first_words(text))
 }
 
 // What the words of a line spell.

@@ -1,2 +1,3 @@
 mod WordLemmas
 mod LineLemmas
+mod NextWord

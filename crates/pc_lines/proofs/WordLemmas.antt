@@ -1,13 +1,14 @@
 -- Numerals digit by digit, and texts byte by byte.
-use Rattle.std.proofs.Common.{◌≡◌, ℕ, ◌+◌, ◌*◌, ◌-◌, ◌^◌, ◌<◌, ◌≤◌, true, List, [], ◌∷◌, ◌++◌, length, get_or, take, drop, arith, append_assoc, add-one, length-drop, zero, suc}
-use Rattle.std.specs.Prelude.{Option, Some, None}
+use Rattle.std.proofs.Common.{◌≡◌, ℕ, ◌+◌, ◌*◌, ◌-◌, ◌^◌, ◌<◌, ◌≤◌, true, List, [], ◌∷◌, ◌++◌, length, get_or, take, drop, arith, append_assoc, add-one, length-drop, zero, suc, refl, sym, ap, ◌∙◌}
+use Rattle.std.specs.Prelude.{Option, Some, None, ◌==◌, ◌&&◌, Bool, false, if◌then◌else◌}
+use Rattle.std.specs.Str.{bytes_eq}
 use Rattle.std.specs.Option.{option_map}
 use Rattle.std.specs.List.{list_all}
 use Rattle.std.specs.Char.{digit_value}
 use Rattle.std.proofs.lemmas.Bool.Decides.{nat_tests}
 use Rattle.std.proofs.Math.Nat.{pow-le-pow_right, pow-suc}
 use Rattle.std.proofs.lemmas.List.{take_rest, drop-drop}
-use Rattle.pc_lines.specs.Words.{is_digit, with_byte, unescaped}
+use Rattle.pc_lines.specs.Words.{is_digit, is_plain, hex_byte, hex_value, escaped, with_byte, with_plain, with_escape, unescaped, text_of}
 
 -- a digit of a numeral is one of 0 to 9
 pub digit_at : (ds : List ℕ) (i : ℕ) → list_all is_digit ds ≡ true → i < length ds → (47 < get_or ds i 0) × (get_or ds i 0 < 58)
@@ -45,3 +46,29 @@ one_more text pushed word at n b within is_pushed first whole =
       rw is_pushed (one_byte text b (unescaped (drop (at + n) word)) (unescaped word)
           (rw (f.2, drop-drop) at whole)),
     )
+
+both : (a b : Bool) → (a && b) ≡ true → (a ≡ true) × (b ≡ true)
+both true b h = (refl, h)
+both false b h = absurd (grind arith)
+
+plain_in_front : (b : ℕ) (word : List ℕ) → is_plain b ≡ true → unescaped word ≡ Some word → with_plain b (unescaped word) ≡ Some (b ∷ word)
+plain_in_front b word h e = ap (λ x. if x then with_byte b (unescaped word) else None) h ∙ ap (with_byte b) e
+
+no_escape : (b x high low : ℕ) → is_plain b ≡ true → escaped b x high low ≡ None
+no_escape b x high low h =
+    let other : (b == 92) ≡ false = grind (arith, nat_tests) in
+    ap (λ y. if y && (x == 120) then hex_byte (hex_value high) (hex_value low) else None) other
+
+-- a word of plain bytes stands for them
+pub plain_word : (word : List ℕ) → list_all is_plain word ≡ true → unescaped word ≡ Some word
+plain_word [] h = refl
+plain_word (b ∷ []) h = plain_in_front b [] (both _ _ h).0 refl
+plain_word (b ∷ x ∷ []) h = plain_in_front b (x ∷ []) (both _ _ h).0 (plain_word (x ∷ []) (both _ _ h).1)
+plain_word (b ∷ x ∷ high ∷ []) h = plain_in_front b (x ∷ high ∷ []) (both _ _ h).0 (plain_word (x ∷ high ∷ []) (both _ _ h).1)
+plain_word (b ∷ x ∷ high ∷ low ∷ word) h =
+    ap (λ t. with_escape t (unescaped word) (with_plain b (unescaped (x ∷ high ∷ low ∷ word)))) (no_escape b x high low (both _ _ h).0)
+    ∙ plain_in_front b (x ∷ high ∷ low ∷ word) (both _ _ h).0 (plain_word (x ∷ high ∷ low ∷ word) (both _ _ h).1)
+
+-- and so does a key or value word that isn't a hyphen alone
+pub plain_text : (word : List ℕ) → bytes_eq word (45 ∷ []) ≡ false → list_all is_plain word ≡ true → Some word ≡ text_of word
+plain_text word other plain = sym (ap (λ x. if x then Some [] else unescaped word) other ∙ plain_word word plain)

@@ -7,32 +7,35 @@ ghost use Rattle.pc_lines.specs.Words.{space_in, key_in, key_behind, key_at_colo
 use crate::words::{number, text_of};
 use pc_types::{Key, MOST_KEY_BYTES, Refusal};
 use std::alloc::{AllocError, Global};
+use std::borrow::CowSlice;
 use std::marker::Model;
 
 /// What a key word stands for: a space, and bytes of a key's own, which may be too few or too many for a key.
 #[derive(Drop)]
-pub struct KeyText {
+pub struct KeyText<'a> {
     /// The space.
     pub space: u16,
     /// The bytes of the key's own.
-    pub own: Vec<u8>,
+    pub own: CowSlice<'a, u8>,
 }
 
-impl Model for KeyText {
+impl<'a> Model for KeyText<'a> {
     ghost use Rattle.std.specs.Prelude.{ℕ, List};
+    ghost use Rattle.std.specs.Cow.{cow_slice_items};
     ghost use Rattle.pc_types.specs.Keys.{key_of};
 
     ghost Value = { List ℕ };
 
-    ghost view = { λ text. key_of text.space text.own.items };
+    ghost view = { λ text. key_of text.space (cow_slice_items text.own) };
 }
 
-impl KeyText {
+impl<'a> KeyText<'a> {
     /// Whether it has as many bytes as a key may have of its own: 1 to 255.
     pub fn is_key(&self) -> bool
         ensures { result ≡ is_key self.now }
     {
-        !self.own.is_empty() && self.own.len() <= MOST_KEY_BYTES
+        let len = self.own.len();
+        len > 0 && len <= MOST_KEY_BYTES
     }
 
     /// The key. Refuses only with `OutOfMemory`.
@@ -48,7 +51,7 @@ impl KeyText {
 /// What a key word stands for: `\sN:` before the rest of the word tells the space, where N is 1 to 65535 in decimal digits
 /// without zeros before it, and the space is 0 without it; the rest, which isn't empty behind `\sN:`, spells the key's own bytes as a value
 /// word does. `None` for any other word. It fails only where memory ran out.
-pub fn key_text_of(alloc: Global, word: &[u8]) -> Result<Option<KeyText>, AllocError>
+pub fn key_text_of(alloc: Global, word: &[u8]) -> Result<Option<KeyText<'_>>, AllocError>
     ensures { IfOk result (λ text. text ≡ key_text_of word.now) }
 {
     match word {
@@ -58,7 +61,7 @@ pub fn key_text_of(alloc: Global, word: &[u8]) -> Result<Option<KeyText>, AllocE
 }
 
 // What a space's digits, a colon, and the word behind it stand for.
-fn key_at_colon(alloc: Global, text: &[u8]) -> Result<Option<KeyText>, AllocError>
+fn key_at_colon(alloc: Global, text: &[u8]) -> Result<Option<KeyText<'_>>, AllocError>
     ensures { IfOk result (λ key. key ≡ key_at_colon text.now (position (λ c. c == 58) text.now)) }
 {
     match colon(text) {
@@ -76,7 +79,11 @@ fn colon(text: &[u8]) -> Option<usize>
 }
 
 // The key of a space, where there is one, and a word of own bytes, which isn't empty.
-fn key_behind(alloc: Global, space: Option<u16>, word: &[u8]) -> Result<Option<KeyText>, AllocError>
+fn key_behind(
+    alloc: Global,
+    space: Option<u16>,
+    word: &[u8],
+) -> Result<Option<KeyText<'_>>, AllocError>
     ensures { IfOk result (λ key. key ≡ key_behind space word.now) }
 {
     match space {
@@ -106,7 +113,7 @@ fn space_in(digits: &[u8]) -> Option<u16>
 }
 
 // The key of a space and a word of own bytes.
-fn key_in(alloc: Global, space: u16, word: &[u8]) -> Result<Option<KeyText>, AllocError>
+fn key_in(alloc: Global, space: u16, word: &[u8]) -> Result<Option<KeyText<'_>>, AllocError>
     ensures { IfOk result (λ key. key ≡ key_in space (text_of word.now)) }
 {
     match text_of(alloc, word)? {

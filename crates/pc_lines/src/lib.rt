@@ -6,5 +6,5 @@ mod lines;
 mod words;
 
 pub use key_words::{KeyText, key_text_of};
-pub use lines::{Line, View, is_comment, is_value, read_line, words_of};
+pub use lines::{Line, MOST_WORDS, View, first_words, is_comment, is_value, next_word, read_line};
 pub use words::{is_plain, number, signed_number, text_of};

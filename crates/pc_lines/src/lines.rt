@@ -1,13 +1,14 @@
 //! The lines of a script, and what each spells.
-ghost use Rattle.std.specs.Prelude.{◌≡◌, ◌==◌, ℕ, List, Some, map, length, IfOk, IfErr};
-ghost use Rattle.std.specs.List.{slice_split};
+ghost use Rattle.std.specs.Prelude.{◌≡◌, ◌==◌, ◌≤◌, not, ℕ, List, [], ◌∷◌, Some, map, take, length, IfOk, IfErr, MatchOption};
+ghost use Rattle.std.specs.List.{position_or_len};
 ghost use Rattle.pc_lines.specs.Words.{number_of, signed_number_of, text_of, key_text_of};
 ghost use Rattle.pc_lines.specs.Lines.{words_of, is_value, base_line, get_line, del_line, put_line, add_line, one_word, numbered_line, two_words, three_words, four_words, spelled_by, is_comment, spelled};
 
 use crate::key_words::{KeyText, key_text_of};
 use crate::words::{number, signed_number, text_of};
+use arrayvec::ArrayVec;
 use pc_types::{Event, FileNo, Key, MOST_VALUE_BYTES, Refusal, SessionNo, Value};
-use std::alloc::{AllocError, Global};
+use std::alloc::Global;
 
 /// What a line of a script spells.
 #[derive(Drop)]
@@ -39,6 +40,9 @@ pub enum View {
     Check,
 }
 
+/// A line is told by its first five words: no form has more than four.
+pub const MOST_WORDS: usize = 5;
+
 /// What the line, without its end, spells. Refuses only with `OutOfMemory`.
 pub fn read_line(alloc: Global, text: &[u8]) -> Result<Line, Refusal>
     ensures line { IfOk result (λ line. line ≡ spelled text.now) }
@@ -47,8 +51,7 @@ pub fn read_line(alloc: Global, text: &[u8]) -> Result<Line, Refusal>
     if is_comment(text) {
         return Ok(Line::Silent);
     }
-    let words = words_of(alloc, text)?;
-    spelled_by(alloc, &words)
+    spelled_by(alloc, &first_words(text))
 }
 
 // What the words of a line spell.
@@ -73,25 +76,60 @@ pub fn is_comment(text: &[u8]) -> bool
     !text.is_empty() && text[0] == b'#'
 }
 
-// The pieces between spaces.
-fn pieces<'a>(alloc: Global, text: &'a [u8]) -> Result<Vec<&'a [u8]>, AllocError>
-    ensures { IfOk result (λ v. map (λ w. w.now) v.items ≡ slice_split (λ b. b == 32) text.now) }
+/// The first word of a text, which is the longest run of bytes other than space that begins first, and the text behind the space that ends
+/// it; `None` where the text has no word.
+pub fn next_word(text: &[u8]) -> Option<(&[u8], &[u8])>
+    ensures { MatchOption result (words_of text.now ≡ []) (λ next. words_of text.now ≡ next.0.now ∷ words_of next.1.now) }
 {
-    text.split(|b| *b == b' ').collect(alloc)
+    let text = &text[word_at(text)..];
+    if text.is_empty() {
+        return None;
+    }
+    let end = space_at(text);
+    if end == text.len() {
+        return Some((text, &text[end..]));
+    }
+    Some((&text[..end], &text[end + 1..]))
 }
 
-/// The words of a line, which are the longest runs of bytes other than space. It fails only where memory ran out.
-pub fn words_of<'a>(alloc: Global, text: &'a [u8]) -> Result<Vec<&'a [u8]>, AllocError>
-    ensures { IfOk result (λ v. map (λ w. w.now) v.items ≡ words_of text.now) }
+// How many spaces a text begins with.
+fn word_at(text: &[u8]) -> usize
+    ensures place { result ≡ position_or_len (λ b. not (b == 32)) text.now }
+    ensures bound { result ≤ length text.now }
 {
-    let mut words = Vec::new(alloc);
-    let pieces = pieces(alloc, text)?;
-    for piece in &pieces {
-        if !piece.is_empty() {
-            words.push(*piece)?;
+    match text.iter().position(|byte| *byte != b' ') {
+        Some(at) => at,
+        None => text.len(),
+    }
+}
+
+// How many bytes stand before the first space of a text, or in all of it where it has none.
+fn space_at(text: &[u8]) -> usize
+    ensures place { result ≡ position_or_len (λ b. b == 32) text.now }
+    ensures bound { result ≤ length text.now }
+{
+    match text.iter().position(|byte| *byte == b' ') {
+        Some(at) => at,
+        None => text.len(),
+    }
+}
+
+/// The first five words of a line, or all where it has fewer: no line that means anything has more than four. It takes no memory.
+pub fn first_words(text: &[u8]) -> ArrayVec<&[u8], MOST_WORDS>
+    ensures { map (λ w. w.now) result.items ≡ take MOST_WORDS (words_of text.now) }
+{
+    let mut words = ArrayVec::new();
+    let mut rest = text;
+    for _ in 0..MOST_WORDS {
+        match next_word(rest) {
+            Some((word, behind)) => {
+                words.push(word);
+                rest = behind;
+            }
+            None => return words,
         }
     }
-    Ok(words)
+    words
 }
 
 fn one_word(verb: &[u8]) -> Line
@@ -220,7 +258,7 @@ fn add_words(alloc: Global, first: &[u8], second: &[u8], third: &[u8]) -> Result
     }
 }
 
-fn base_line(alloc: Global, key: &KeyText, value: &[u8]) -> Result<Line, Refusal>
+fn base_line(alloc: Global, key: &KeyText<'_>, value: &[u8]) -> Result<Line, Refusal>
     ensures line { IfOk result (λ line. line ≡ base_line (Some key.now) (Some value.now)) }
     ensures refusals { IfErr result (λ e. e ≡ Refusal.OutOfMemory) }
 {
@@ -233,7 +271,7 @@ fn base_line(alloc: Global, key: &KeyText, value: &[u8]) -> Result<Line, Refusal
     Ok(Line::Sets(key.key(alloc)?, Value::new(alloc, value)?))
 }
 
-fn get_line(alloc: Global, session: u32, key: &KeyText) -> Result<Line, Refusal>
+fn get_line(alloc: Global, session: u32, key: &KeyText<'_>) -> Result<Line, Refusal>
     ensures line { IfOk result (λ line. line ≡ get_line (Some session) (Some key.now)) }
     ensures refusals { IfErr result (λ e. e ≡ Refusal.OutOfMemory) }
 {
@@ -244,7 +282,7 @@ fn get_line(alloc: Global, session: u32, key: &KeyText) -> Result<Line, Refusal>
     Ok(Line::Asks(Event::Get(SessionNo(session), key)))
 }
 
-fn del_line(alloc: Global, session: u32, key: &KeyText) -> Result<Line, Refusal>
+fn del_line(alloc: Global, session: u32, key: &KeyText<'_>) -> Result<Line, Refusal>
     ensures line { IfOk result (λ line. line ≡ del_line (Some session) (Some key.now)) }
     ensures refusals { IfErr result (λ e. e ≡ Refusal.OutOfMemory) }
 {
@@ -255,7 +293,7 @@ fn del_line(alloc: Global, session: u32, key: &KeyText) -> Result<Line, Refusal>
     Ok(Line::Asks(Event::Del(SessionNo(session), key)))
 }
 
-fn put_line(alloc: Global, session: u32, key: &KeyText, value: &[u8]) -> Result<Line, Refusal>
+fn put_line(alloc: Global, session: u32, key: &KeyText<'_>, value: &[u8]) -> Result<Line, Refusal>
     ensures line { IfOk result (λ line. line ≡ put_line (Some session) (Some key.now) (Some value.now)) }
     ensures refusals { IfErr result (λ e. e ≡ Refusal.OutOfMemory) }
 {
@@ -270,7 +308,7 @@ fn put_line(alloc: Global, session: u32, key: &KeyText, value: &[u8]) -> Result<
     Ok(Line::Asks(Event::Put(SessionNo(session), key, value)))
 }
 
-fn add_line(alloc: Global, session: u32, key: &KeyText, delta: i64) -> Result<Line, Refusal>
+fn add_line(alloc: Global, session: u32, key: &KeyText<'_>, delta: i64) -> Result<Line, Refusal>
     ensures line { IfOk result (λ line. line ≡ add_line (Some session) (Some key.now) (Some delta)) }
     ensures refusals { IfErr result (λ e. e ≡ Refusal.OutOfMemory) }
 {

@@ -1,11 +1,13 @@
 //! The words of a script: numbers, and the texts of keys and values.
 ghost use Rattle.std.specs.Prelude.{◌≡◌, ℕ, ◌<◌, ◌≤◌, ◌==◌, ◌^◌, length, drop, IsTrue, IfOk, true, MatchOption, Some, None};
 ghost use Rattle.std.specs.List.{list_all};
+ghost use Rattle.std.specs.Cow.{cow_slice_items};
 ghost use Rattle.std.specs.Option.{option_map};
 ghost use Rattle.std.specs.Str.Parse.{digits_value};
 ghost use Rattle.pc_lines.specs.Words.{is_digit, is_numeral, is_long_numeral, number_of, signed_by, number_by, signed_number_of, is_plain, hex_value, escaped, unescaped, with_byte, text_of};
 
 use std::alloc::{AllocError, Global};
+use std::borrow::CowSlice;
 
 /// The number that 1 to 9 decimal digits write; `None` for any other word.
 pub fn number(word: &[u8]) -> Option<u32>
@@ -158,13 +160,27 @@ fn unescaped(alloc: Global, word: &[u8]) -> Result<Option<Vec<u8>>, AllocError>
     Ok(Some(text))
 }
 
+// Whether each byte of the word stands for itself.
+fn are_plain(word: &[u8]) -> bool
+    ensures { result ≡ list_all is_plain word.now }
+{
+    word.iter().all(|byte| is_plain(*byte))
+}
+
 /// The text of a key or value word, in which `\xHH` stands for a byte and `-` alone for none; `None` where the word
-/// has a byte outside 0x21 to 0x7E or any other use of the backslash.
-pub fn text_of(alloc: Global, word: &[u8]) -> Result<Option<Vec<u8>>, AllocError>
-    ensures { IfOk result (λ text. option_map (λ v. v.items) text ≡ text_of word.now) }
+/// has a byte outside 0x21 to 0x7E or any other use of the backslash. The text of a word without escapes is the word itself, lent, and
+/// takes no memory; else it fails only where memory ran out.
+pub fn text_of(alloc: Global, word: &[u8]) -> Result<Option<CowSlice<'_, u8>>, AllocError>
+    ensures { IfOk result (λ text. option_map cow_slice_items text ≡ text_of word.now) }
 {
     if word == b"-".as_slice() {
-        return Ok(Some(Vec::new(alloc)));
+        return Ok(Some(CowSlice::Borrowed(&word[1..])));
     }
-    unescaped(alloc, word)
+    if are_plain(word) {
+        return Ok(Some(CowSlice::Borrowed(word)));
+    }
+    match unescaped(alloc, word)? {
+        Some(text) => Ok(Some(CowSlice::Owned(text))),
+        None => Ok(None),
+    }
 }

@@ -9,7 +9,7 @@ use crate::faults::{LineFault, WordKind};
 use crate::kinds::{no_word, one_word, three_words, two_words};
 use crate::line_lists::{lines_in, told_of};
 use crate::told_lines::{BadLine, put_bad_lines};
-use pc_lines::{is_comment, words_of};
+use pc_lines::{first_words, is_comment};
 use pc_types::{Refusal, Tally};
 use std::alloc::{AllocError, Global};
 use std::io::Write;
@@ -30,8 +30,7 @@ fn line_fault(alloc: Global, line: &[u8]) -> Result<Option<LineFault>, AllocErro
     if is_comment(line) {
         return Ok(None);
     }
-    let words = words_of(alloc, line)?;
-    let fault = words_fault(alloc, &words)?;
+    let fault = words_fault(alloc, &first_words(line))?;
     Ok(told_of(line, fault))
 }
 

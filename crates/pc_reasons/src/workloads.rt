@@ -13,7 +13,7 @@ use crate::faults::{LineFault, WordKind};
 use crate::kinds::{no_word, one_word, three_words, two_words};
 use crate::line_lists::{ends_with_cr, lines_in};
 use crate::told_lines::put_place;
-use pc_lines::{is_comment, words_of};
+use pc_lines::{first_words, is_comment};
 use pc_types::{Refusal, Tally};
 use std::alloc::{AllocError, Global};
 use std::io::Write;
@@ -152,8 +152,7 @@ fn role_of(alloc: Global, line: &[u8]) -> Result<LineRole, AllocError>
     if is_comment(line) {
         return Ok(LineRole::Silent);
     }
-    let words = words_of(alloc, line)?;
-    let role = words_role(alloc, &words)?;
+    let role = words_role(alloc, &first_words(line))?;
     Ok(told_role(line, role))
 }
 
