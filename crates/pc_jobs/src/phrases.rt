@@ -5,7 +5,7 @@ ghost use Rattle.pc_jobs.specs.Phrases.{key_of, value_of, prefix_of, number_with
 
 use crate::prefixes::Prefix;
 use crate::works::{Fill, Op};
-use pc_lines::{first_words, is_comment, is_value, key_text_of, number, signed_number, text_of};
+use pc_lines::{KeyText, first_words, is_comment, is_value, key_text_of, number, signed_number, text_of};
 use pc_types::{Key, MOST_SESSIONS, Refusal, SessionNo, Value};
 use std::alloc::Global;
 
@@ -254,7 +254,10 @@ fn prefix_of(alloc: Global, word: &[u8]) -> Result<Option<Prefix>, Refusal>
     ensures refusals { IfErr result (λ e. e ≡ Refusal.OutOfMemory) }
 {
     match key_text_of(alloc, word)? {
-        Some(text) => Ok(Prefix::new(text.space, text.own)),
+        Some(text) => {
+            let KeyText { space, own } = text;
+            Ok(Prefix::new(space, own.into_owned(alloc)?))
+        }
         None => Ok(None),
     }
 }

@@ -1,4 +1,5 @@
 mod WordLemmas
+mod FirstWords
 mod ScriptLemmas
 mod TextLemmas
 mod RoleLemmas

@@ -4,7 +4,7 @@ ghost use Rattle.pc_reasons.specs.LineFaults.{is_within, is_of, first_of, word_f
 
 use crate::faults::{LineFault, WordKind, WordPlace};
 use pc_jobs::{MOST_FILL, MOST_RUN_POINTS, Prefix};
-use pc_lines::{is_value, key_text_of, number, signed_number, text_of};
+use pc_lines::{KeyText, is_value, key_text_of, number, signed_number, text_of};
 use pc_types::MOST_SESSIONS;
 use std::alloc::{AllocError, Global};
 
@@ -58,7 +58,10 @@ fn is_key_prefix(alloc: Global, word: &[u8]) -> Result<bool, AllocError>
     ensures { IfOk result (λ is. is ≡ is_of WordKind.KeyPrefix word.now) }
 {
     match key_text_of(alloc, word)? {
-        Some(text) => Ok(Prefix::new(text.space, text.own).is_some()),
+        Some(text) => {
+            let KeyText { space, own } = text;
+            Ok(Prefix::new(space, own.into_owned(alloc)?).is_some())
+        }
         None => Ok(false),
     }
 }
