@@ -1,0 +1,228 @@
+-- What each act of a process that serves leaves.
+use Rattle.std.proofs.Common.{◌≡◌, ℕ, ◌+◌, ◌≤◌, ◌⊎◌, inl, inr, ◌==◌, ◌&&◌, ◌||◌, Bool, true, false, List, [], ◌∷◌, ◌++◌, Ok, Err, length, refl, sym, ap, subst, ◌∙◌, arith, append_assoc}
+use Rattle.std.specs.Prelude.{codes, Option, Result, OnOk, IfSome, Some, None, MatchBool, cond}
+use Rattle.std.specs.Global.{Vec}
+use Rattle.std.proofs.lemmas.Bool.Decides.{nat_tests}
+use Rattle.std.proofs.lemmas.List.{length-append, append-nil}
+use Rattle.pc_types.specs.Tallies.{Puts, inner_of}
+use Rattle.pc_types.specs.declared.Event.{Event}
+use Rattle.pc_types.specs.declared.Reply.{Reply}
+use Rattle.pc_types.specs.declared.Phase.{Phase}
+use Rattle.pc_types.specs.declared.Phase.TheVariants.{Rest, Prepare, Resolve, Capture, Complete}
+use Rattle.pc_types.specs.declared.Refusal.{Refusal}
+use Rattle.pc_types.specs.declared.Step.{Step}
+use Rattle.pc_types.specs.declared.tally.Tally.{Tally}
+use Rattle.pc_model.specs.History.{History, log_of, effect, entries_by, phase_of}
+use Rattle.pc_model.specs.Replies.{Setting, IsLegal}
+use Rattle.pc_engine.specs.Stands.{Stands}
+use Rattle.pc_engine.specs.Store.{Store, setting_of}
+use Rattle.pc_model.specs.Calls.{session_of}
+use Rattle.pc_engine.specs.Waiting.{waits_after}
+use Rattle.pc_texts.specs.Texts.{reply_text}
+use Rattle.pc_lines.specs.declared.lines.Line.{Line}
+use Rattle.pc_lines.specs.declared.lines.Line.TheVariants as line
+use Rattle.pc_types.specs.declared.Entry.{Entry}
+use Rattle.pc_turn.specs.Turns.{IsKept, IsLogOut, TurnEnds, is_due, rest_text}
+use Rattle.pc_turn.specs.declared.turn.TurnEnd.{TurnEnd}
+use Rattle.pc_turn.specs.declared.turn.TurnEnd.TheVariants as end
+use Rattle.pc_serving.specs.Points.{due_in, is_checkpoint, IsTurn}
+use Rattle.pc_serving.specs.Requests.{request_of}
+use Rattle.pc_serving.specs.Serving.{AnswersServed, Serves, awaits, granted_text, is_of_client, is_wait, wrong_phase}
+use Rattle.pc_serving.specs.declared.answers.Served.{Served}
+use Rattle.pc_serving.specs.declared.pace.Pace.{Pace}
+use Rattle.pc_serving.specs.declared.pace.Turned.{Turned}
+use Rattle.pc_serving.specs.declared.request.Request.{Request}
+use Rattle.pc_serving.specs.declared.request.Request.TheVariants as request
+use Rattle.pc_server.specs.Acts.{Act, Lead, AnswersRequest, answers_of}
+use Rattle.pc_server.specs.Acts.Act.{Answered, WentOn}
+use Rattle.pc_server.specs.Turns.{Stays}
+use Rattle.pc_server.specs.declared.server.Server.{Server}
+
+-- what is due is the checkpointer's
+due_is_checkpoint : (pace : Pace) (phase : Phase) → IfSome (due_in pace phase) (λ event. is_checkpoint event ≡ true)
+due_is_checkpoint pace Rest = by _
+  where
+    by : (b : Bool) → IfSome (cond b None (Some Event.StartPoint)) (λ event. is_checkpoint event ≡ true)
+    by true = tt
+    by false = refl
+due_is_checkpoint pace Prepare = refl
+due_is_checkpoint pace Resolve = refl
+due_is_checkpoint pace Capture = by pace.has_left
+  where
+    by : (b : Bool) → IfSome (cond b (Some Event.Take) (Some Event.Done)) (λ event. is_checkpoint event ≡ true)
+    by true = refl
+    by false = refl
+due_is_checkpoint pace Complete = refl
+
+-- who waits goes on waiting while the checkpointer takes a step
+awaits_on : (st : Setting) (s : ℕ) (step : Step) (h : History) → is_checkpoint step.event ≡ true → awaits st s h ≡ awaits st s (step ∷ h)
+awaits_on st s step h e = sym (ap (λ b. cond b (awaits st s h) (waits_after st s (step ∷ h) && ((is_wait step.reply && (s == session_of step.event)) || awaits st s h))) e)
+
+-- the later history's log has more behind that of the earlier one
+abbrev pub Extends : History → History → Type 0
+Extends before after = (more : List Entry) × (log_of after ≡ log_of before ++ more)
+
+pub no_shorter : (before after : History) → Extends before after → length (log_of before) ≤ length (log_of after)
+no_shorter before after (more, e) = subst (λ l. length (log_of before) ≤ length l) (sym e) (omega (arith, length-append (log_of before) more))
+
+-- a step adds to the log, or leaves it
+pub step_extends : (step : Step) (h : History) → Extends h (step ∷ h)
+step_extends step h = (entries_by (effect step) h, refl)
+
+abbrev pub went_on : Server → Store → Pace → Server
+went_on old world pace = record { served = record { world = world; waiting = old.served.waiting }; pace = pace; answers = old.answers; written = old.written; lag = old.lag }
+
+-- the checkpointer had its turn
+pub went : (st : Setting) (gone turn : List Act) (at history next : History) (old : Server) (world : Store) (pace : Pace) (result : Result Turned Refusal) → Stays st gone at turn history old
+    → setting_of world ≡ setting_of old.served.world → Stands world next → IsTurn (setting_of old.served.world) old.pace history pace next result
+    → Stays st gone at turn history (went_on old world pace) ⊎ ((step : Step) × Stays st gone at (WentOn step ∷ turn) (step ∷ history) (went_on old world pace))
+went st gone turn at history next old world pace result stays kept stands (inl none) =
+    inl (record {
+      serves = record { stands = subst (Stands world) none.1 stands; setting = kept ∙ stays.serves.setting; awaited = stays.serves.awaited };
+      gone_by = stays.gone_by;
+      turn_by = stays.turn_by;
+      waiting = stays.waiting;
+      kept = stays.kept;
+      within = stays.within;
+    })
+went st gone turn at history next old world pace result stays kept stands (inr (event, reply, due, legal, after, noted, shelved)) =
+    let is : is_checkpoint event ≡ true = subst (λ o. IfSome o (λ e. is_checkpoint e ≡ true)) due (due_is_checkpoint old.pace (phase_of history)) in
+    let step : Step = record { event = event; reply = reply } in
+    inr (step, record {
+      serves = record { stands = subst (Stands world) after stands; setting = kept ∙ stays.serves.setting; awaited = λ s. stays.serves.awaited s ∙ awaits_on st s step history is };
+      gone_by = stays.gone_by;
+      turn_by = (history, stays.turn_by, is, subst (λ t. IsLegal t history event reply) stays.serves.setting legal, refl);
+      waiting = stays.waiting;
+      kept = stays.kept;
+      within = omega (arith, stays.within, no_shorter history (step ∷ history) (step_extends step history));
+    })
+
+same_extends : (before after : History) → after ≡ before → Extends before after
+same_extends before after e = ([], ap log_of e ∙ sym (append-nil (log_of before)))
+
+one_more : (before after : History) (step : Step) → after ≡ step ∷ before → Extends before after
+one_more before after step e = subst (Extends before) (sym e) (step_extends step before)
+
+extends_on : (a b c : History) → Extends a b → Extends b c → Extends a c
+extends_on a b c (x, p) (y, q) = (x ++ y, q ∙ ap (λ l. l ++ y) p ∙ append_assoc (log_of a) x y)
+
+-- an answer adds to the log, or leaves it
+line_extends : (st : Setting) (before after : History) (l : Line) (text : List ℕ) → AnswersServed st before l text after → Extends before after
+line_extends st before after (line.Asks event) text a = by (is_of_client event) a
+  where
+    by : (b : Bool) → MatchBool b
+            ((reply : Reply) × IsLegal st before event reply × (after ≡ record { event = event; reply = reply } ∷ before) × (text ≡ (reply_text reply ++ codes "\n") ++ granted_text st (record { event = event; reply = reply }) before))
+            ((text ≡ wrong_phase) × (after ≡ before))
+        → Extends before after
+    by true (reply, legal, e, t) = one_more before after (record { event = event; reply = reply }) e
+    by false (t, e) = same_extends before after e
+line_extends st before after line.Silent text (said, (s, e), t) = same_extends before after e
+line_extends st before after line.Malformed text (said, (s, e), t) = same_extends before after e
+line_extends st before after (line.Sets key value) text (said, (s, e), t) = same_extends before after e
+line_extends st before after (line.SetsRefused why) text (said, (s, e), t) = same_extends before after e
+line_extends st before after (line.AsksRefused why) text (said, (s, e), t) = same_extends before after e
+line_extends st before after (line.Shows view) text (said, (v, e), t) = same_extends before after e
+
+pub answer_extends : (st : Setting) (before after : History) (asked : Request) (text : List ℕ) → AnswersRequest st before asked text after → Extends before after
+answer_extends st before after (request.Line l) text a = line_extends st before after l text a
+answer_extends st before after request.Run text (t, e) = same_extends before after e
+answer_extends st before after request.Stats text (t, e) = same_extends before after e
+answer_extends st before after request.Quit text (t, e) = same_extends before after e
+
+abbrev pub after_answer : Server → Served → Tally (Vec ℕ) → Server
+after_answer old served answers = record { served = served; pace = old.pace; answers = answers; written = old.written; lag = old.lag }
+
+-- a line was answered
+pub answered : (st : Setting) (gone turn : List Act) (at history next : History) (old : Server) (served : Served) (answers : Tally (Vec ℕ)) (line text : List ℕ) (asked : Request) → Stays st gone at turn history old
+    → Serves st served.world served.waiting next → AnswersRequest st history asked text next → (inner_of answers).items ≡ (inner_of old.answers).items ++ text → request_of line ≡ asked
+    → Stays st gone at (Answered line text ∷ turn) next (after_answer old served answers)
+answered st gone turn at history next old served answers line text asked stays serves told grown asks = record {
+  serves = serves;
+  gone_by = stays.gone_by;
+  turn_by = (history, stays.turn_by, subst (λ r. AnswersRequest st history r text next) (sym asks) told);
+  waiting = grown ∙ ap (λ t. t ++ text) stays.waiting;
+  kept = stays.kept;
+  within = omega (arith, stays.within, no_shorter history next (answer_extends st history next asked text told));
+}
+
+-- what holds of a success
+pub on_ok : {X E A B : Type 0} (r : Result X E) → (A → B) → OnOk r A → OnOk r B
+on_ok (Ok x) f a = f a
+on_ok (Err e) f a = tt
+
+-- what is answered to a request, be the line what it may
+abbrev pub Told : Setting → List Act → History → List Act → History → Server → Request → Server → Type 0
+Told st gone at turn history old asked new =
+    (text : List ℕ) × (next : History) × AnswersRequest st history asked text next × ((line : List ℕ) → request_of line ≡ asked → Stays st gone at (Answered line text ∷ turn) next new)
+
+abbrev items_known : Vec ℕ → Option (List ℕ)
+items_known bytes = Some bytes.items
+
+-- a request that asks no event was answered
+pub put_told : (st : Setting) (gone turn : List Act) (at history : History) (old : Server) (answers : Tally (Vec ℕ)) (result : Result (Unit {0}) Refusal) (text : List ℕ) (asked : Request) → Stays st gone at turn history old
+    → AnswersRequest st history asked text history → Puts items_known old.answers answers result text → OnOk result (Told st gone at turn history old asked (after_answer old old.served answers))
+put_told st gone turn at history old answers (Ok u) text asked stays told puts =
+    (text, history, told, λ line asks. answered st gone turn at history history old old.served answers line text asked stays stays.serves told puts.0 asks)
+put_told st gone turn at history old answers (Err e) text asked stays told puts = tt
+
+-- the end was asked for
+pub quit_told : (st : Setting) (gone turn : List Act) (at history : History) (old : Server) (asked : Request) → Stays st gone at turn history old → asked ≡ request.Quit → Told st gone at turn history old asked old
+quit_told st gone turn at history old asked stays is =
+    let told : AnswersRequest st history asked [] history = subst (λ r. AnswersRequest st history r [] history) (sym is) (refl, refl) in
+    ([], history, told, λ line asks. answered st gone turn at history history old old.served old.answers line [] asked stays stays.serves told (sym (append-nil (inner_of old.answers).items)) asks)
+
+-- the line of a script was answered
+pub line_told : (st : Setting) (gone turn : List Act) (at history : History) (old : Server) (served : Served) (answers : Tally (Vec ℕ)) (result : Result (Unit {0}) Refusal) (l : Line) (asked : Request) → Stays st gone at turn history old → asked ≡ request.Line l
+    → OnOk result ((next : History) × (text : List ℕ) × Serves st served.world served.waiting next × AnswersServed st history l text next × Puts items_known old.answers answers (Ok tt) text)
+    → OnOk result (Told st gone at turn history old asked (after_answer old served answers))
+line_told st gone turn at history old served answers result l asked stays is =
+    on_ok result (λ (next, text, serves, said, puts).
+        let told : AnswersRequest st history asked text next = subst (λ r. AnswersRequest st history r text next) (sym is) said in
+        (text, next, told, λ line asks. answered st gone turn at history next old served answers line text asked stays serves told puts.0 asks))
+
+-- acts behind others
+pub lead_on : (st : Setting) (start at history : History) (gone turn : List Act) → Lead st start gone at → Lead st at turn history → Lead st start (turn ++ gone) history
+lead_on st start at history gone [] before e = subst (Lead st start gone) (sym e) before
+lead_on st start at history gone (Answered line text ∷ turn) before (between, led, told) = (between, lead_on st start at between gone turn before led, told)
+lead_on st start at history gone (WentOn step ∷ turn) before (between, led, is, legal, e) = (between, lead_on st start at between gone turn before led, is, legal, e)
+
+-- The same end of a turn, of what is the same.
+pub same_ends : {T U : Type 0} (written kept : T → Option (List ℕ)) (contents : U → Option (List ℕ)) (entries log : List Entry) (lag : ℕ) (sent answers : List ℕ) (before after : ℕ) (log_old log_new : T) (out_old out_new : Tally U) (result : TurnEnd) → entries ≡ log → sent ≡ answers
+    → TurnEnds written kept contents entries lag sent before after log_old log_new out_old out_new result → TurnEnds written kept contents log lag answers before after log_old log_new out_old out_new result
+same_ends written kept contents entries log lag sent answers before after log_old log_new out_old out_new result same told ends =
+    subst (λ l. TurnEnds written kept contents l lag answers before after log_old log_new out_old out_new result) same
+        (subst (λ t. TurnEnds written kept contents entries lag t before after log_old log_new out_old out_new result) told ends)
+
+-- where the log went out, no more entries aren't kept than the lag
+pub kept_enough : {T : Type 0} (written kept : T → Option (List ℕ)) (log : List Entry) (lag before after : ℕ) (old new : T) → IsLogOut written kept log lag before after old new true → length log ≤ after + lag
+kept_enough written kept log lag before after old new out = by (is_due lag before log) refl out
+  where
+    by : (b : Bool) → is_due lag before log ≡ b → MatchBool b (IsKept written kept (rest_text before log) old new true × (after ≡ length log)) ((new ≡ old) × (after ≡ before)) → length log ≤ after + lag
+    by true e (kept, all) = omega (arith, all)
+    by false e (same, none) = grind (arith, nat_tests, e, none)
+
+-- a whole turn ended
+pub turn_ended : {T U : Type 0} (written kept : T → Option (List ℕ)) (contents : U → Option (List ℕ)) (st : Setting) (gone turn : List Act) (at history : History) (old : Server) (answers : Tally (Vec ℕ)) (after : ℕ) (log_old log_new : T) (out_old out_new : Tally U) (result : TurnEnd) → Stays st gone at turn history old
+    → TurnEnds written kept contents (log_of history) old.lag (answers_of turn) old.written after log_old log_new out_old out_new result → (inner_of answers).items ≡ [] → after ≤ length (log_of history)
+    → result ≡ end.Whole → Stays st (turn ++ gone) history [] history (record { served = old.served; pace = old.pace; answers = answers; written = after; lag = old.lag })
+turn_ended written kept contents st gone turn at history old answers after log_old log_new out_old out_new result stays ends none within whole =
+    record {
+      serves = stays.serves;
+      gone_by = lead_on st [] at history gone turn stays.gone_by stays.turn_by;
+      turn_by = refl;
+      waiting = none;
+      kept = kept_enough written kept (log_of history) old.lag old.written after log_old log_new (subst (TurnEnds written kept contents (log_of history) old.lag (answers_of turn) old.written after log_old log_new out_old out_new) whole ends).0;
+      within = within;
+    }
+
+-- acts add to the log, or leave it
+pub lead_extends : (st : Setting) (before after : History) (acts : List Act) → Lead st before acts after → Extends before after
+lead_extends st before after [] e = same_extends before after e
+lead_extends st before after (Answered line text ∷ acts) (between, led, told) = extends_on before between after (lead_extends st before between acts led) (answer_extends st between after (request_of line) text told)
+lead_extends st before after (WentOn step ∷ acts) (between, led, is, legal, e) = extends_on before between after (lead_extends st before between acts led) (one_more between after step e)
+
+-- the answers of acts behind others
+pub answers_on : (gone turn : List Act) → answers_of (turn ++ gone) ≡ answers_of gone ++ answers_of turn
+answers_on gone [] = sym (append-nil (answers_of gone))
+answers_on gone (Answered line text ∷ turn) = ap (λ t. t ++ text) (answers_on gone turn) ∙ append_assoc (answers_of gone) (answers_of turn) text
+answers_on gone (WentOn step ∷ turn) = answers_on gone turn

@@ -1,0 +1,159 @@
+-- What has gone out, act by act.
+use Rattle.std.proofs.Common.{◌≡◌, ℕ, zero, suc, ◌+◌, ◌-◌, ◌≤◌, ◌⊎◌, inl, inr, Bool, true, false, List, [], ◌∷◌, ◌++◌, Ok, Err, length, take, drop, take_all, append-nil, refl, sym, ap, subst, ◌∙◌, arith, append_assoc}
+use Rattle.std.specs.Prelude.{Option, Some, None, MatchBool}
+use Rattle.std.specs.List.{flat_map}
+use Rattle.std.specs.Io.KnownBytes.{Appends}
+use Rattle.std.proofs.lemmas.List.{take-append-drop, take-append-le}
+use Rattle.std.proofs.lemmas.List.Concat.{flat_map-append}
+use Rattle.pc_types.specs.Counted.{AppendsBeginning}
+use Rattle.pc_types.specs.Tallies.{inner_of}
+use Rattle.pc_types.specs.declared.Entry.{Entry}
+use Rattle.pc_types.specs.declared.Refusal.TheVariants.{Device}
+use Rattle.pc_types.specs.declared.Step.{Step}
+use Rattle.pc_types.specs.declared.tally.Tally.{Tally}
+use Rattle.pc_types.proofs.KnownBytesLaws.{appends_nothing, appends_then, begins_after}
+use Rattle.pc_model.specs.History.{History, log_of}
+use Rattle.pc_model.specs.Replies.{Setting}
+use Rattle.pc_log.specs.Texts.{entry_text}
+use Rattle.pc_turn.specs.Devices.{Grows}
+use Rattle.pc_turn.specs.Turns.{IsKept, IsLogOut, IsSent, TurnEnds, is_due, rest_text}
+use Rattle.pc_turn.specs.declared.turn.TurnEnd.TheVariants as end
+use Rattle.pc_serving.specs.Requests.{request_of}
+use Rattle.pc_server.specs.Acts.{Act, Lead, AnswersRequest, answers_of}
+use Rattle.pc_server.specs.Acts.Act.{Answered, WentOn}
+use Rattle.pc_server.specs.Turns.{Stays}
+use Rattle.pc_server.specs.Services.{GrowsFrom, Holds, IsCutOff, first_text}
+use Rattle.pc_server.specs.declared.server.Server.{Server}
+use Rattle.pc_server.specs.declared.service.Service.{Service}
+use Rattle.pc_server.proofs.ServerLaws.{Extends, answer_extends, answers_on, kept_enough, lead_extends, lead_on, step_extends}
+
+-- all of a text is a beginning of it
+all_begins : (a b : Option (List ℕ)) (x : List ℕ) → Appends a b x → AppendsBeginning a b x
+all_begins None b x p = tt
+all_begins (Some a) None x p = absurd p
+all_begins (Some a) (Some b) x p = (length x, omega arith, p ∙ ap (λ t. a ++ t) (sym (take_all (length x) x (omega arith))))
+
+grows_on : (a b c : Option (List ℕ)) → Grows a b → Grows b c → Grows a c
+grows_on a b c (x, p) (y, q) = (x ++ y, appends_then a b c x y p q)
+
+-- what has grown by a text has grown by its beginning
+less_grown : (a b : Option (List ℕ)) (x y : List ℕ) → GrowsFrom a b (x ++ y) → GrowsFrom a b x
+less_grown a b x y (between, p, q) = by a between p q
+  where
+    by : (a between : Option (List ℕ)) → Appends a between (x ++ y) → Grows between b → GrowsFrom a b x
+    by None between p q = (between, tt, q)
+    by (Some a) None p q = absurd p
+    by (Some a) (Some c) p q = (Some (a ++ x), refl, grows_on (Some (a ++ x)) (Some c) b (y, p ∙ sym (append_assoc a x y)) q)
+
+-- the first entries of a log that goes on
+first_stay : (count : ℕ) (before after : History) → Extends before after → count ≤ length (log_of before) → first_text count (log_of before) ≡ first_text count (log_of after)
+first_stay count before after (more, e) within = ap (flat_map entry_text) (sym (take-append-le count (log_of before) more within) ∙ ap (take count) (sym e))
+
+-- the first entries, and those behind them
+all_entries : (count : ℕ) (log : List Entry) → first_text count log ++ rest_text count log ≡ first_text (length log) log
+all_entries count log = sym (flat_map-append entry_text (take count log) (drop count log)) ∙ ap (flat_map entry_text) (take-append-drop count log ∙ sym (take_all (length log) log (omega arith)))
+
+take_begins : {X : Type 0} (n : ℕ) (xs ys : List X) → (rest : List X) × (take n (xs ++ ys) ≡ take n xs ++ rest)
+take_begins zero xs ys = ([], refl)
+take_begins (suc n) [] ys = (take (suc n) ys, refl)
+take_begins (suc n) (x ∷ xs) ys = let r = take_begins n xs ys in (r.0, ap (λ t. x ∷ t) r.1)
+
+-- the first entries of an earlier log are a beginning of the first ones of a later one
+first_begin : (count : ℕ) (before after : History) → Extends before after → (rest : List ℕ) × (first_text count (log_of after) ≡ first_text count (log_of before) ++ rest)
+first_begin count before after (more, e) =
+    let r = take_begins count (log_of before) more in
+    (flat_map entry_text r.0, ap (first_text count) e ∙ ap (flat_map entry_text) r.1 ∙ flat_map-append entry_text (take count (log_of before)) r.0)
+
+module _ {T U : Type 0} (written keeps : T → Option (List ℕ)) (contents : U → Option (List ℕ)) (log out : Option (List ℕ)) (st : Setting) where
+  -- nothing went out
+  pub begins : (server : Server) (device : T) (answers : Tally U) → Stays st [] [] [] [] server → server.written ≡ 0 → log ≡ written device → out ≡ contents (inner_of answers) → Grows (written device) (keeps device)
+      → Holds written keeps contents log out st [] [] [] [] (record { server = server; log = device; out = answers })
+  begins server device answers stays none from to grows =
+      let nothing : Appends log (written device) (first_text server.written (log_of [])) =
+          subst (λ n. Appends log (written device) (first_text n (log_of []))) (sym none) (subst (λ o. Appends o (written device) []) (sym from) (appends_nothing (written device))) in
+      record {
+        stays = stays;
+        sent = subst (λ o. Appends o (contents (inner_of answers)) []) (sym to) (appends_nothing (contents (inner_of answers)));
+        logged = nothing;
+        kept = (written device, nothing, grows);
+      }
+
+  -- the server went on, and nothing went out
+  goes_on : (gone turn turn_new : List Act) (at history next : History) (old : Service T U) (server : Server) → Holds written keeps contents log out st gone at turn history old → Extends history next → Stays st gone at turn_new next server → server.written ≡ old.server.written
+      → Holds written keeps contents log out st gone at turn_new next (record { server = server; log = old.log; out = old.out })
+  goes_on gone turn turn_new at history next old server holds extends stays same =
+      let text : first_text old.server.written (log_of history) ≡ first_text server.written (log_of next) =
+          first_stay old.server.written history next extends holds.stays.within ∙ ap (λ n. first_text n (log_of next)) (sym same) in
+      record {
+        stays = stays;
+        sent = holds.sent;
+        logged = subst (Appends log (written old.log)) text holds.logged;
+        kept = subst (GrowsFrom log (keeps old.log)) text holds.kept;
+      }
+
+  -- a line was answered
+  pub line_answered : (gone turn : List Act) (at history next : History) (old : Service T U) (server : Server) (line text : List ℕ) → Holds written keeps contents log out st gone at turn history old
+      → AnswersRequest st history (request_of line) text next → Stays st gone at (Answered line text ∷ turn) next server → server.written ≡ old.server.written
+      → Holds written keeps contents log out st gone at (Answered line text ∷ turn) next (record { server = server; log = old.log; out = old.out })
+  line_answered gone turn at history next old server line text holds told stays same =
+      goes_on gone turn (Answered line text ∷ turn) at history next old server holds (answer_extends st history next (request_of line) text told) stays same
+
+  -- the checkpointer had its turn
+  pub point_went : (gone turn : List Act) (at history : History) (old : Service T U) (server : Server) → Holds written keeps contents log out st gone at turn history old → server.written ≡ old.server.written
+      → Stays st gone at turn history server ⊎ ((step : Step) × Stays st gone at (WentOn step ∷ turn) (step ∷ history) server)
+      → Holds written keeps contents log out st gone at turn history (record { server = server; log = old.log; out = old.out })
+          ⊎ ((step : Step) × Holds written keeps contents log out st gone at (WentOn step ∷ turn) (step ∷ history) (record { server = server; log = old.log; out = old.out }))
+  point_went gone turn at history old server holds same (inl stays) = inl (goes_on gone turn turn at history history old server holds ([], sym (append-nil (log_of history))) stays same)
+  point_went gone turn at history old server holds same (inr (step, stays)) = inr (step, goes_on gone turn (WentOn step ∷ turn) at history (step ∷ history) old server holds (step_extends step history) stays same)
+
+  -- what has gone out of the log
+  log_is_out : (turn_log : List Entry) (lag before after : ℕ) (a b : T) → Appends log (written a) (first_text before turn_log) → GrowsFrom log (keeps a) (first_text before turn_log) → IsLogOut written keeps turn_log lag before after a b true
+      → Appends log (written b) (first_text after turn_log) × GrowsFrom log (keeps b) (first_text after turn_log)
+  log_is_out turn_log lag before after a b logged kept is_out = by (is_due lag before turn_log) is_out
+    where
+      by : (due : Bool) → MatchBool due (IsKept written keeps (rest_text before turn_log) a b true × (after ≡ length turn_log)) ((b ≡ a) × (after ≡ before)) → Appends log (written b) (first_text after turn_log) × GrowsFrom log (keeps b) (first_text after turn_log)
+      by true ((appended, all, grown), e) =
+          let text : first_text before turn_log ++ rest_text before turn_log ≡ first_text after turn_log = all_entries before turn_log ∙ ap (λ n. first_text n turn_log) (sym e) in
+          let whole : Appends log (written b) (first_text after turn_log) = subst (Appends log (written b)) text (appends_then log (written a) (written b) (first_text before turn_log) (rest_text before turn_log) logged appended) in
+          (whole, (written b, whole, subst (Grows (written b)) (sym all) ([], appends_nothing (written b))))
+      by false (same, e) =
+          (subst (λ d. Appends log (written d) (first_text after turn_log)) (sym same) (subst (λ n. Appends log (written a) (first_text n turn_log)) (sym e) logged),
+          subst (λ d. GrowsFrom log (keeps d) (first_text after turn_log)) (sym same) (subst (λ n. GrowsFrom log (keeps a) (first_text n turn_log)) (sym e) kept))
+
+  -- a turn ended
+  pub turn_whole : (gone turn : List Act) (at history : History) (old : Service T U) (server : Server) (device : T) (answers : Tally U) → Holds written keeps contents log out st gone at turn history old
+      → TurnEnds written keeps contents (log_of history) old.server.lag (answers_of turn) old.server.written server.written old.log device old.out answers end.Whole → Stays st (turn ++ gone) history [] history server
+      → Holds written keeps contents log out st (turn ++ gone) history [] history (record { server = server; log = device; out = answers })
+  turn_whole gone turn at history old server device answers holds (is_out, (sent, failures)) stays =
+      let logged = log_is_out (log_of history) old.server.lag old.server.written server.written old.log device holds.logged holds.kept is_out in
+      record {
+        stays = stays;
+        sent = subst (Appends out (contents (inner_of answers))) (sym (answers_on gone turn)) (appends_then out (contents (inner_of old.out)) (contents (inner_of answers)) (answers_of gone) (answers_of turn) holds.sent sent);
+        logged = logged.0;
+        kept = logged.1;
+      }
+
+  -- the log's device failed
+  pub log_cut : (gone turn : List Act) (at history : History) (old : Service T U) (after : ℕ) (device : T) (answers : Tally U) → Holds written keeps contents log out st gone at turn history old
+      → TurnEnds written keeps contents (log_of history) old.server.lag (answers_of turn) old.server.written after old.log device old.out answers end.LogCut
+      → IsCutOff keeps contents log out st old.server.lag gone at device (inner_of answers)
+  log_cut gone turn at history old after device answers holds ((due, (appended, grown), e), same) =
+      let begun = first_begin old.server.written at history (lead_extends st at history turn holds.stays.turn_by) in
+      let before = less_grown log (keeps old.log) (first_text old.server.written (log_of at)) begun.0 (subst (GrowsFrom log (keeps old.log)) begun.1 holds.kept) in
+      record {
+        gone_by = holds.stays.gone_by;
+        sent = subst (λ o. AppendsBeginning out (contents (inner_of o)) (answers_of gone)) (sym same) (all_begins out (contents (inner_of old.out)) (answers_of gone) holds.sent);
+        kept = (old.server.written, holds.stays.kept, (before.0, before.1, grows_on before.0 (keeps old.log) (keeps device) before.2 grown));
+      }
+
+  -- the answers' device failed
+  pub answers_cut : (gone turn : List Act) (at history : History) (old : Service T U) (after : ℕ) (device : T) (answers : Tally U) → Holds written keeps contents log out st gone at turn history old
+      → TurnEnds written keeps contents (log_of history) old.server.lag (answers_of turn) old.server.written after old.log device old.out answers end.AnswersCut
+      → IsCutOff keeps contents log out st old.server.lag (turn ++ gone) history device (inner_of answers)
+  answers_cut gone turn at history old after device answers holds (is_out, (e, risen, sent)) =
+      let logged = log_is_out (log_of history) old.server.lag old.server.written after old.log device holds.logged holds.kept is_out in
+      record {
+        gone_by = lead_on st [] at history gone turn holds.stays.gone_by holds.stays.turn_by;
+        sent = subst (AppendsBeginning out (contents (inner_of answers))) (sym (answers_on gone turn)) (begins_after out (contents (inner_of old.out)) (contents (inner_of answers)) (answers_of gone) (answers_of turn) holds.sent sent);
+        kept = (after, kept_enough written keeps (log_of history) old.server.lag old.server.written after old.log device is_out, logged.1);
+      }

@@ -1,0 +1,38 @@
+-- What a process that serves has put out, and what of it comes back.
+use Rattle.std.specs.Prelude.{◌≡◌, ◌≤◌, ◌+◌, ℕ, List, [], ◌++◌, Option, take, length}
+use Rattle.std.specs.List.{flat_map}
+use Rattle.std.specs.Io.KnownBytes.{Appends}
+use Rattle.pc_types.specs.Counted.{AppendsBeginning}
+use Rattle.pc_types.specs.Tallies.{inner_of}
+use Rattle.pc_types.specs.declared.Entry.{Entry}
+use Rattle.pc_model.specs.History.{History, log_of}
+use Rattle.pc_model.specs.Replies.{Setting}
+use Rattle.pc_log.specs.Texts.{entry_text}
+use Rattle.pc_turn.specs.Devices.{Grows}
+use Rattle.pc_server.specs.Acts.{Act, Lead, answers_of}
+use Rattle.pc_server.specs.Turns.{Stays}
+use Rattle.pc_server.specs.declared.service.Service.{Service}
+
+-- the text of the first entries of a log
+abbrev pub first_text : ℕ → List Entry → List ℕ
+first_text count log = flat_map entry_text (take count log)
+
+-- known bytes have grown by this text at the front, and maybe by more
+abbrev pub GrowsFrom : Option (List ℕ) → Option (List ℕ) → List ℕ → Type 0
+GrowsFrom old new text = (between : Option (List ℕ)) × Appends old between text × Grows between new
+
+-- Since the log's device had the one and the output the other text: the answers of the acts `gone` were sent, and no others; the first
+-- entries of the log are written and kept, and of those that it had when the last answers were sent no more aren't than the lag.
+pub record Holds {T U : Type 0} (written keeps : T → Option (List ℕ)) (contents : U → Option (List ℕ)) (log out : Option (List ℕ)) (st : Setting) (gone : List Act) (at : History) (turn : List Act) (history : History)
+    (service : Service T U) : Type 0 where
+  pub stays : Stays st gone at turn history service.server
+  pub sent : Appends out (contents (inner_of service.out)) (answers_of gone)
+  pub logged : Appends log (written service.log) (first_text service.server.written (log_of history))
+  pub kept : GrowsFrom log (keeps service.log) (first_text service.server.written (log_of history))
+
+-- The same of one that a device has cut off, maybe in the middle of a text: some first acts `gone` were answered, and of their answers a
+-- beginning was sent, and nothing else; of the log as it was then no more entries aren't kept than the lag.
+pub record IsCutOff {T U : Type 0} (keeps : T → Option (List ℕ)) (contents : U → Option (List ℕ)) (log out : Option (List ℕ)) (st : Setting) (lag : ℕ) (gone : List Act) (at : History) (log_device : T) (out_device : U) : Type 0 where
+  pub gone_by : Lead st [] gone at
+  pub sent : AppendsBeginning out (contents out_device) (answers_of gone)
+  pub kept : (count : ℕ) × (length (log_of at) ≤ count + lag) × GrowsFrom log (keeps log_device) (first_text count (log_of at))

@@ -1,0 +1,18 @@
+-- How far a process that serves has come.
+use Rattle.std.specs.Prelude.{◌≡◌, ◌≤◌, ◌+◌, ℕ, List, [], length}
+use Rattle.pc_types.specs.Tallies.{inner_of}
+use Rattle.pc_model.specs.History.{History, log_of}
+use Rattle.pc_model.specs.Replies.{Setting}
+use Rattle.pc_serving.specs.Serving.{Serves}
+use Rattle.pc_server.specs.Acts.{Act, Lead, answers_of}
+use Rattle.pc_server.specs.declared.server.Server.{Server}
+
+-- It did the acts `gone`, whose answers were sent, and then those of the turn, whose answers wait. Of the log as it was when the last
+-- answers were sent no more entries aren't kept than the lag.
+pub record Stays (st : Setting) (gone : List Act) (at : History) (turn : List Act) (history : History) (server : Server) : Type 0 where
+  pub serves : Serves st server.served.world server.served.waiting history
+  pub gone_by : Lead st [] gone at
+  pub turn_by : Lead st at turn history
+  pub waiting : (inner_of server.answers).items ≡ answers_of turn
+  pub kept : length (log_of at) ≤ server.written + server.lag
+  pub within : server.written ≤ length (log_of history)

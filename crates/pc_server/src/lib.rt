@@ -1,0 +1,9 @@
+//! A process that serves a store: it answers lines and takes points between them, and at the end of a turn what the log has more is kept
+//! before the answers go out.
+#![tactic(auto)]
+
+mod server;
+mod service;
+
+pub use server::Server;
+pub use service::{CutOff, Service};

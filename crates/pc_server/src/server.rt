@@ -1,0 +1,135 @@
+//! The store that is served, in turns.
+ghost use Rattle.std.specs.Prelude.{◌≡◌, ◌⊎◌, ◌≤◌, ◌++◌, ◌∷◌, [], not, ℕ, List, length, OnOk, IfOk, IfErr};
+ghost use Rattle.pc_types.specs.Tallies.{Puts, inner_of};
+ghost use Rattle.pc_types.specs.declared.Step.{Step};
+ghost use Rattle.pc_model.specs.History.{History, log_of};
+ghost use Rattle.pc_model.specs.Replies.{Setting};
+ghost use Rattle.pc_engine.specs.Stands.{Stands};
+ghost use Rattle.pc_engine.specs.Store.{setting_of};
+ghost use Rattle.pc_turn.specs.Turns.{TurnEnds};
+ghost use Rattle.pc_serving.specs.Requests.{request_of};
+ghost use Rattle.pc_server.specs.Acts.{Act, AnswersRequest, answers_of, is_quit, run_line, stats_line};
+ghost use Rattle.pc_server.specs.Acts.Act.{Answered, WentOn};
+ghost use Rattle.pc_server.specs.Turns.{Stays};
+
+use itoa::Buffer;
+use pc_engine::World;
+use pc_lines::Line;
+use pc_serving::{Pace, Request, Served, Turned, read_request};
+use pc_turn::{LogDevice, TurnEnd, end_turn};
+use pc_types::{Refusal, Tally};
+use std::alloc::Global;
+use std::io::Write;
+use std::mem;
+
+/// A store that is served in turns: the answers of a turn wait until what the log has more is kept.
+#[derive(Drop)]
+pub struct Server {
+    served: Served,
+    pace: Pace,
+    answers: Tally<Vec<u8>>,
+    // How many entries of the log are kept.
+    written: usize,
+    lag: usize,
+}
+
+impl Server {
+    /// The store is served from now on; nothing was asked of it. At the end of a turn at most as many entries of the log may not be kept
+    /// as the lag says. A point begins after each `every` commits, and none does with 0.
+    pub fn new(alloc: Global, world: World, every: u64, lag: usize) -> Server
+        ensures stays { Stands world [] → Stays (setting_of world) [] [] [] [] result }
+        ensures lag { result.lag ≡ lag }
+        ensures written { result.written ≡ 0 }
+    {
+        Server {
+            served: Served::new(world),
+            pace: Pace::new(every),
+            answers: Tally::new(Vec::new(alloc)),
+            written: 0,
+            lag,
+        }
+    }
+
+    /// Answers a line, which is given without its end, and keeps the answer until the turn ends. False if and only if the line asks for
+    /// the end: nothing is answered then. Refuses only with `OutOfMemory`; the line may then have been asked of the store, and what was
+    /// kept is no more what was answered.
+    pub fn answer(&mut self, alloc: Global, line: &[u8]) -> Result<bool, Refusal>
+        ensures answered { (st : Setting) (gone turn : List Act) (at history : History) → Stays st gone at turn history self.old
+            → OnOk result ((text : List ℕ) × (next : History) × AnswersRequest st history (request_of line.now) text next × Stays st gone at (Answered line.now text ∷ turn) next self.new) }
+        ensures goes_on { IfOk result (λ goes_on. goes_on ≡ not (is_quit (request_of line.now))) }
+        ensures refusals { IfErr result (λ e. e ≡ Refusal.OutOfMemory) }
+        ensures same { (self.new.lag ≡ self.old.lag) × (self.new.written ≡ self.old.written) }
+    {
+        let request = read_request(alloc, line)?;
+        let goes_on = !matches!(&request, Request::Quit);
+        match self.tell(alloc, request) {
+            Ok(()) => Ok(goes_on),
+            Err(_) => Err(Refusal::OutOfMemory),
+        }
+    }
+
+    // Answers what a line asks.
+    fn tell(&mut self, alloc: Global, request: Request) -> Result<(), Refusal>
+        ensures told { (st : Setting) (gone turn : List Act) (at history : History) → Stays st gone at turn history self.old
+            → OnOk result ((text : List ℕ) × (next : History) × AnswersRequest st history request text next
+                × ((line : List ℕ) → request_of line ≡ request → Stays st gone at (Answered line text ∷ turn) next self.new)) }
+        ensures same { (self.new.lag ≡ self.old.lag) × (self.new.written ≡ self.old.written) }
+    {
+        match request {
+            Request::Quit => Ok(()),
+            Request::Run => put_run(self.served.world.base().run(), &mut self.answers),
+            Request::Stats => put_stats(self.served.world.log().len(), &mut self.answers),
+            Request::Line(line) => self.served.answer(alloc, line, &mut self.answers),
+        }
+    }
+
+    /// Asks the next event of the point's cycle, where one is due, as `Pace::go_on` does. No client is answered by it.
+    pub fn go_on(&mut self) -> Result<Turned, Refusal>
+        ensures went { (st : Setting) (gone turn : List Act) (at history : History) → Stays st gone at turn history self.old
+            → Stays st gone at turn history self.new ⊎ ((step : Step) × Stays st gone at (WentOn step ∷ turn) (step ∷ history) self.new) }
+        ensures same { (self.new.lag ≡ self.old.lag) × (self.new.written ≡ self.old.written) }
+    {
+        self.pace.go_on(&mut self.served.world)
+    }
+
+    /// The turn ends, as `pc_turn` `end_turn` says: what the log has more than was kept goes out, where it is more than the lag, and
+    /// is kept; and then the answers of the turn are sent.
+    pub fn end_turn<L: LogDevice, W: Write>(
+        &mut self,
+        alloc: Global,
+        log: &mut L,
+        out: &mut Tally<W>,
+    ) -> TurnEnd
+        requires within { self.old.written ≤ length self.old.served.world.log }
+        ensures ends { (st : Setting) (gone turn : List Act) (at history : History) → Stays st gone at turn history self.old
+            → TurnEnds L.written L.kept W.contents (log_of history) self.old.lag (answers_of turn) self.old.written self.new.written log.old log.new out.old out.new result
+            × (result ≡ TurnEnd.Whole → Stays st (turn ++ gone) history [] history self.new) }
+        ensures lag { self.new.lag ≡ self.old.lag }
+    {
+        let answers = take_all(alloc, &mut self.answers);
+        let kept = self.served.world.log();
+        end_turn(kept, &mut self.written, self.lag, log, &answers, out)
+    }
+}
+
+// Takes what waits in the writer out of it.
+fn take_all(alloc: Global, answers: &mut Tally<Vec<u8>>) -> Vec<u8>
+    ensures all { result.items ≡ (inner_of answers.old).items }
+    ensures none { (inner_of answers.new).items ≡ [] }
+{
+    mem::replace(answers, Tally::new(Vec::new(alloc))).into_inner()
+}
+
+fn put_run<W: Write>(run: u64, out: &mut Tally<W>) -> Result<(), Refusal>
+    ensures { Puts W.contents out.old out.new result (run_line run) }
+{
+    let mut buffer = Buffer::new();
+    out.put_all(&[b"run ", buffer.format(run).as_bytes(), b"\n"])
+}
+
+fn put_stats<W: Write>(entries: usize, out: &mut Tally<W>) -> Result<(), Refusal>
+    ensures { Puts W.contents out.old out.new result (stats_line entries) }
+{
+    let mut buffer = Buffer::new();
+    out.put_all(&[b"entries=", buffer.format(entries).as_bytes(), b"\n"])
+}

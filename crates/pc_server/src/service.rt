@@ -1,0 +1,93 @@
+//! The store that is served, with the devices to which its log and its answers go.
+ghost use Rattle.std.specs.Prelude.{◌≡◌, ◌⊎◌, ◌≤◌, ◌++◌, ◌∷◌, [], not, ℕ, List, length, Option, OnOk, OnErr, IfOk, IfErr, MatchResult};
+ghost use Rattle.pc_types.specs.Tallies.{inner_of};
+ghost use Rattle.pc_types.specs.declared.Step.{Step};
+ghost use Rattle.pc_model.specs.History.{History};
+ghost use Rattle.pc_model.specs.Replies.{Setting};
+ghost use Rattle.pc_engine.specs.Stands.{Stands};
+ghost use Rattle.pc_engine.specs.Store.{setting_of};
+ghost use Rattle.pc_serving.specs.Requests.{request_of};
+ghost use Rattle.pc_turn.specs.Devices.{Grows};
+ghost use Rattle.pc_server.specs.Acts.{Act, is_quit};
+ghost use Rattle.pc_server.specs.Acts.Act.{Answered, WentOn};
+ghost use Rattle.pc_server.specs.Services.{Holds, IsCutOff};
+
+use crate::server::Server;
+use pc_engine::World;
+use pc_serving::Turned;
+use pc_turn::{LogDevice, TurnEnd};
+use pc_types::{Refusal, Tally};
+use std::alloc::Global;
+use std::io::Write;
+
+/// Which device failed at the end of a turn.
+#[derive(Clone, Copy, Debug, PartialEq, Eq)]
+pub enum CutOff {
+    /// The log's: no answer of the turn was sent.
+    Log,
+    /// The answers', once the log was kept.
+    Answers,
+}
+
+/// A store that is served in turns, with the log's device and the output for answers.
+#[derive(Drop)]
+pub struct Service<L: Drop, W: Drop> {
+    server: Server,
+    log: L,
+    out: Tally<W>,
+}
+
+impl<L: LogDevice + Drop, W: Write + Drop> Service<L, W> {
+    /// The store is served from now on, as `Server::new` says. What the log's device has, a header say, has to be kept.
+    pub fn new(
+        alloc: Global,
+        world: World,
+        every: u64,
+        lag: usize,
+        log: L,
+        out: Tally<W>,
+    ) -> Service<L, W>
+        ensures { Stands world [] → Grows (L.written log) (L.kept log) → Holds L.written L.kept W.contents (L.written log) (W.contents (inner_of out)) (setting_of world) [] [] [] [] result }
+    {
+        let server = Server::new(alloc, world, every, lag);
+        Service { server, log, out }
+    }
+
+    /// Answers a line, as `Server::answer` does; nothing goes out.
+    pub fn answer(&mut self, alloc: Global, line: &[u8]) -> Result<bool, Refusal>
+        ensures answered { (st : Setting) (log out : Option (List ℕ)) (gone turn : List Act) (at history : History) → Holds L.written L.kept W.contents log out st gone at turn history self.old
+            → OnOk result ((text : List ℕ) × (next : History) × Holds L.written L.kept W.contents log out st gone at (Answered line.now text ∷ turn) next self.new) }
+        ensures goes_on { IfOk result (λ goes_on. goes_on ≡ not (is_quit (request_of line.now))) }
+        ensures refusals { IfErr result (λ e. e ≡ Refusal.OutOfMemory) }
+        ensures devices { (self.new.log ≡ self.old.log) × (self.new.out ≡ self.old.out) }
+    {
+        self.server.answer(alloc, line)
+    }
+
+    /// Asks the next event of the point's cycle, where one is due; nothing goes out.
+    pub fn go_on(&mut self) -> Result<Turned, Refusal>
+        ensures went { (st : Setting) (log out : Option (List ℕ)) (gone turn : List Act) (at history : History) → Holds L.written L.kept W.contents log out st gone at turn history self.old
+            → Holds L.written L.kept W.contents log out st gone at turn history self.new ⊎ ((step : Step) × Holds L.written L.kept W.contents log out st gone at (WentOn step ∷ turn) (step ∷ history) self.new) }
+        ensures devices { (self.new.log ≡ self.old.log) × (self.new.out ≡ self.old.out) }
+    {
+        self.server.go_on()
+    }
+
+    /// The turn ends: what the log has more than was kept is kept, where it is more than the lag, and then the answers of the turn are
+    /// sent. Where a device fails, what was sent before, or a beginning of it with the answers of this turn, is all that was, and of the
+    /// log as it was then no more entries aren't kept than the lag.
+    pub fn end_turn(&mut self, alloc: Global) -> Result<(), CutOff>
+        requires within { self.old.server.written ≤ length self.old.server.served.world.log }
+        ensures ended { (st : Setting) (log out : Option (List ℕ)) (gone turn : List Act) (at history : History) → Holds L.written L.kept W.contents log out st gone at turn history self.old
+            → MatchResult result
+                (λ _. Holds L.written L.kept W.contents log out st (turn ++ gone) history [] history self.new)
+                (λ _. IsCutOff L.kept W.contents log out st self.old.server.lag gone at self.new.log (inner_of self.new.out)
+                    ⊎ IsCutOff L.kept W.contents log out st self.old.server.lag (turn ++ gone) history self.new.log (inner_of self.new.out)) }
+    {
+        match self.server.end_turn(alloc, &mut self.log, &mut self.out) {
+            TurnEnd::Whole => Ok(()),
+            TurnEnd::LogCut => Err(CutOff::Log),
+            TurnEnd::AnswersCut => Err(CutOff::Answers),
+        }
+    }
+}
