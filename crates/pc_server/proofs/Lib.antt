@@ -1,2 +1,3 @@
 mod ServerLaws
 mod ServiceLaws
+mod ServingLaws

@@ -133,6 +133,17 @@ module _ {T U : Type 0} (written keeps : T → Option (List ℕ)) (contents : U 
         kept = logged.1;
       }
 
+  -- what was sent so far, wherever it ends
+  pub held_cut : (gone turn : List Act) (at history : History) (service : Service T U) → Holds written keeps contents log out st gone at turn history service → IsCutOff keeps contents log out st service.server.lag gone at service.log (inner_of service.out)
+  held_cut gone turn at history service holds =
+      let begun = first_begin service.server.written at history (lead_extends st at history turn holds.stays.turn_by) in
+      let before = less_grown log (keeps service.log) (first_text service.server.written (log_of at)) begun.0 (subst (GrowsFrom log (keeps service.log)) begun.1 holds.kept) in
+      record {
+        gone_by = holds.stays.gone_by;
+        sent = all_begins out (contents (inner_of service.out)) (answers_of gone) holds.sent;
+        kept = (service.server.written, holds.stays.kept, before);
+      }
+
   -- the log's device failed
   pub log_cut : (gone turn : List Act) (at history : History) (old : Service T U) (after : ℕ) (device : T) (answers : Tally U) → Holds written keeps contents log out st gone at turn history old
       → TurnEnds written keeps contents (log_of history) old.server.lag (answers_of turn) old.server.written after old.log device old.out answers end.LogCut

@@ -3,7 +3,9 @@
 #![tactic(auto)]
 
 mod server;
+mod serve;
 mod service;
 
+pub use serve::{PointFiles, ServeFault, serve_input};
 pub use server::Server;
 pub use service::{CutOff, Service};

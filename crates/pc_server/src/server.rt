@@ -1,11 +1,12 @@
 //! The store that is served, in turns.
-ghost use Rattle.std.specs.Prelude.{◌≡◌, ◌⊎◌, ◌≤◌, ◌++◌, ◌∷◌, [], not, ℕ, List, length, OnOk, IfOk, IfErr};
+ghost use Rattle.std.specs.Prelude.{◌≡◌, ◌⊎◌, ◌≤◌, ◌++◌, ◌∷◌, [], not, ℕ, List, length, option_copied, OnOk, IfOk, IfErr};
 ghost use Rattle.pc_types.specs.Tallies.{Puts, inner_of};
 ghost use Rattle.pc_types.specs.declared.Step.{Step};
 ghost use Rattle.pc_model.specs.History.{History, log_of};
 ghost use Rattle.pc_model.specs.Replies.{Setting};
 ghost use Rattle.pc_engine.specs.Stands.{Stands};
 ghost use Rattle.pc_engine.specs.Store.{setting_of};
+ghost use Rattle.pc_model.specs.Files.{file_at};
 ghost use Rattle.pc_turn.specs.Turns.{TurnEnds};
 ghost use Rattle.pc_serving.specs.Requests.{request_of};
 ghost use Rattle.pc_server.specs.Acts.{Act, AnswersRequest, answers_of, is_quit, run_line, stats_line};
@@ -14,10 +15,10 @@ ghost use Rattle.pc_server.specs.Turns.{Stays};
 
 use itoa::Buffer;
 use pc_engine::World;
-use pc_lines::Line;
+use pc_part::Part;
 use pc_serving::{Pace, Request, Served, Turned, read_request};
 use pc_turn::{LogDevice, TurnEnd, end_turn};
-use pc_types::{Refusal, Tally};
+use pc_types::{FileNo, Refusal, Tally};
 use std::alloc::Global;
 use std::io::Write;
 use std::mem;
@@ -90,6 +91,13 @@ impl Server {
         ensures same { (self.new.lag ≡ self.old.lag) × (self.new.written ≡ self.old.written) }
     {
         self.pace.go_on(&mut self.served.world)
+    }
+
+    /// The shelf's file of this number.
+    pub fn file(&self, number: FileNo) -> Option<&Part>
+        ensures { option_copied result ≡ file_at self.now.served.world.shelf number }
+    {
+        self.served.world.file(number)
     }
 
     /// The turn ends, as `pc_turn` `end_turn` says: what the log has more than was kept goes out, where it is more than the lag, and

@@ -1,11 +1,12 @@
 //! The store that is served, with the devices to which its log and its answers go.
-ghost use Rattle.std.specs.Prelude.{◌≡◌, ◌⊎◌, ◌≤◌, ◌++◌, ◌∷◌, [], not, ℕ, List, length, Option, OnOk, OnErr, IfOk, IfErr, MatchResult};
+ghost use Rattle.std.specs.Prelude.{◌≡◌, ◌⊎◌, ◌≤◌, ◌++◌, ◌∷◌, [], not, ℕ, List, length, Option, option_copied, OnOk, OnErr, IfOk, IfErr, MatchResult};
 ghost use Rattle.pc_types.specs.Tallies.{inner_of};
 ghost use Rattle.pc_types.specs.declared.Step.{Step};
 ghost use Rattle.pc_model.specs.History.{History};
 ghost use Rattle.pc_model.specs.Replies.{Setting};
 ghost use Rattle.pc_engine.specs.Stands.{Stands};
 ghost use Rattle.pc_engine.specs.Store.{setting_of};
+ghost use Rattle.pc_model.specs.Files.{file_at};
 ghost use Rattle.pc_serving.specs.Requests.{request_of};
 ghost use Rattle.pc_turn.specs.Devices.{Grows};
 ghost use Rattle.pc_server.specs.Acts.{Act, is_quit};
@@ -14,9 +15,10 @@ ghost use Rattle.pc_server.specs.Services.{Holds, IsCutOff};
 
 use crate::server::Server;
 use pc_engine::World;
+use pc_part::Part;
 use pc_serving::Turned;
 use pc_turn::{LogDevice, TurnEnd};
-use pc_types::{Refusal, Tally};
+use pc_types::{FileNo, Refusal, Tally};
 use std::alloc::Global;
 use std::io::Write;
 
@@ -60,6 +62,7 @@ impl<L: LogDevice + Drop, W: Write + Drop> Service<L, W> {
         ensures goes_on { IfOk result (λ goes_on. goes_on ≡ not (is_quit (request_of line.now))) }
         ensures refusals { IfErr result (λ e. e ≡ Refusal.OutOfMemory) }
         ensures devices { (self.new.log ≡ self.old.log) × (self.new.out ≡ self.old.out) }
+        ensures lag { self.new.server.lag ≡ self.old.server.lag }
     {
         self.server.answer(alloc, line)
     }
@@ -69,8 +72,16 @@ impl<L: LogDevice + Drop, W: Write + Drop> Service<L, W> {
         ensures went { (st : Setting) (log out : Option (List ℕ)) (gone turn : List Act) (at history : History) → Holds L.written L.kept W.contents log out st gone at turn history self.old
             → Holds L.written L.kept W.contents log out st gone at turn history self.new ⊎ ((step : Step) × Holds L.written L.kept W.contents log out st gone at (WentOn step ∷ turn) (step ∷ history) self.new) }
         ensures devices { (self.new.log ≡ self.old.log) × (self.new.out ≡ self.old.out) }
+        ensures lag { self.new.server.lag ≡ self.old.server.lag }
     {
         self.server.go_on()
+    }
+
+    /// The shelf's file of this number.
+    pub fn file(&self, number: FileNo) -> Option<&Part>
+        ensures { option_copied result ≡ file_at self.now.server.served.world.shelf number }
+    {
+        self.server.file(number)
     }
 
     /// The turn ends: what the log has more than was kept is kept, where it is more than the lag, and then the answers of the turn are
@@ -83,6 +94,7 @@ impl<L: LogDevice + Drop, W: Write + Drop> Service<L, W> {
                 (λ _. Holds L.written L.kept W.contents log out st (turn ++ gone) history [] history self.new)
                 (λ _. IsCutOff L.kept W.contents log out st self.old.server.lag gone at self.new.log (inner_of self.new.out)
                     ⊎ IsCutOff L.kept W.contents log out st self.old.server.lag (turn ++ gone) history self.new.log (inner_of self.new.out)) }
+        ensures lag { self.new.server.lag ≡ self.old.server.lag }
     {
         match self.server.end_turn(alloc, &mut self.log, &mut self.out) {
             TurnEnd::Whole => Ok(()),

@@ -1,0 +1,232 @@
+//! The lines of an input are answered until it ends.
+ghost use Rattle.std.specs.Prelude.{◌≡◌, ℕ, List, Option, MatchResult, MatchBool, IfOk, ◌++◌, ◌∷◌, [], OnOk};
+ghost use Rattle.std.specs.Io.Buffered.{reader_remaining};
+ghost use Rattle.pc_types.specs.Tallies.{inner_of};
+ghost use Rattle.pc_model.specs.Replies.{Setting};
+ghost use Rattle.pc_server.specs.Inputs.{shelved, IsRead, AreFirstLines, Serving, ServingWith, ServesOn, HasServed, EndsServed};
+
+use crate::service::{CutOff, Service};
+use pc_part::Part;
+use pc_serving::{Turned, next_line};
+use pc_turn::LogDevice;
+use pc_types::{FileNo, Refusal};
+use std::alloc::Global;
+use std::io::{BufRead, BufReader, Read, Write};
+
+/// Why a process that serves ended before its input did.
+#[derive(Clone, Copy, Debug, PartialEq, Eq)]
+pub enum ServeFault {
+    /// A read of the input failed.
+    Input,
+    /// Memory ran out, or the checkpointer was refused an event.
+    Refused(Refusal),
+    /// A device failed at the end of a turn.
+    CutOff(CutOff),
+}
+
+/// Where the files of points go.
+pub trait PointFiles {
+    /// Keeps the file of a point that was taken, or tells why it can't be.
+    fn keep(&mut self, file: &Part) -> Result<(), Refusal>;
+}
+
+// The next line is read into the vector; false at the end of the input.
+fn read_next<R: BufRead>(input: &mut R, line: &mut Vec<u8>) -> Result<bool, ServeFault>
+    ensures read { (text : Option (List ℕ)) (lines : List (List ℕ)) → IsRead text (R.remaining input.old) lines
+        → IfOk result (λ some. MatchBool some (IsRead text (R.remaining input.new) (lines ++ line.new.items ∷ [])) (AreFirstLines text lines)) }
+{
+    match next_line(input, line) {
+        Ok(some) => Ok(some),
+        Err(_) => Err(ServeFault::Input),
+    }
+}
+
+// The turn ends.
+fn send<L: LogDevice + Drop, W: Write + Drop>(
+    alloc: Global,
+    service: &mut Service<L, W>,
+) -> Result<(), ServeFault>
+    requires { (log out input left : Option (List ℕ)) × (st : Setting) × (lag : ℕ) × Serving L.written L.kept W.contents log out input st lag left service.old }
+    ensures { (log out input left : Option (List ℕ)) (st : Setting) (lag : ℕ) → Serving L.written L.kept W.contents log out input st lag left service.old
+        → MatchResult result (λ _. Serving L.written L.kept W.contents log out input st lag left service.new) (λ _. EndsServed L.kept W.contents log out input st lag service.new.log (inner_of service.new.out)) }
+{
+    match service.end_turn(alloc) {
+        Ok(()) => Ok(()),
+        Err(why) => Err(ServeFault::CutOff(why)),
+    }
+}
+
+// Answers the line that was read; false where it asks for the end.
+fn answer_line<L: LogDevice + Drop, W: Write + Drop>(
+    alloc: Global,
+    service: &mut Service<L, W>,
+    line: &[u8],
+) -> Result<bool, ServeFault>
+    ensures { (log out input left : Option (List ℕ)) (st : Setting) (lag : ℕ) → ServingWith L.written L.kept W.contents log out input st lag left line.now service.old
+        → MatchResult result (λ _. Serving L.written L.kept W.contents log out input st lag left service.new) (λ _. EndsServed L.kept W.contents log out input st lag service.new.log (inner_of service.new.out)) }
+{
+    match service.answer(alloc, line) {
+        Ok(goes_on) => Ok(goes_on),
+        Err(why) => Err(ServeFault::Refused(why)),
+    }
+}
+
+// Asks the next event of the point's cycle, where one is due, and keeps the file that it has put on the shelf.
+fn go_on<L: LogDevice + Drop, W: Write + Drop, P: PointFiles>(
+    service: &mut Service<L, W>,
+    points: &mut P,
+) -> Result<(), ServeFault>
+    ensures { (log out input left : Option (List ℕ)) (st : Setting) (lag : ℕ) → Serving L.written L.kept W.contents log out input st lag left service.old
+        → MatchResult result (λ _. Serving L.written L.kept W.contents log out input st lag left service.new) (λ _. EndsServed L.kept W.contents log out input st lag service.new.log (inner_of service.new.out)) }
+{
+    match service.go_on() {
+        Ok(turned) => keep_shelved(&*service, points, turned),
+        Err(why) => Err(ServeFault::Refused(why)),
+    }
+}
+
+// Keeps the file that was put on the shelf, if one was.
+fn keep_shelved<L: LogDevice + Drop, W: Write + Drop, P: PointFiles>(
+    service: &Service<L, W>,
+    points: &mut P,
+    turned: Turned,
+) -> Result<(), ServeFault> {
+    match shelved(turned) {
+        Some(number) => keep_file(service.file(number), points),
+        None => Ok(()),
+    }
+}
+
+// The number of the file that was put on the shelf.
+fn shelved(turned: Turned) -> Option<FileNo>
+    ensures { result ≡ shelved turned }
+{
+    match turned {
+        Turned::Shelved(number) => Some(number),
+        _ => None,
+    }
+}
+
+// Keeps a file that is on the shelf.
+fn keep_file<P: PointFiles>(file: Option<&Part>, points: &mut P) -> Result<(), ServeFault> {
+    let Some(file) = file else {
+        return Err(ServeFault::Refused(Refusal::NoFile));
+    };
+    match points.keep(file) {
+        Ok(()) => Ok(()),
+        Err(why) => Err(ServeFault::Refused(why)),
+    }
+}
+
+// The turn ends where no whole line is left of what was read.
+fn send_if_idle<R: Read + Drop, L: LogDevice + Drop, W: Write + Drop>(
+    alloc: Global,
+    service: &mut Service<L, W>,
+    input: &BufReader<R>,
+) -> Result<(), ServeFault>
+    requires { (log out text left : Option (List ℕ)) × (st : Setting) × (lag : ℕ) × Serving L.written L.kept W.contents log out text st lag left service.old }
+    ensures { (log out text left : Option (List ℕ)) (st : Setting) (lag : ℕ) → Serving L.written L.kept W.contents log out text st lag left service.old
+        → MatchResult result (λ _. Serving L.written L.kept W.contents log out text st lag left service.new) (λ _. EndsServed L.kept W.contents log out text st lag service.new.log (inner_of service.new.out)) }
+{
+    if input.buffer().contains(&b'\n') {
+        return Ok(());
+    }
+    send(alloc, service)
+}
+
+// Answers the line that was read, and takes the checkpointer's turn; false where the line asks for the end.
+fn take_turns<L: LogDevice + Drop, W: Write + Drop, P: PointFiles>(
+    alloc: Global,
+    service: &mut Service<L, W>,
+    line: &[u8],
+    points: &mut P,
+) -> Result<bool, ServeFault>
+    ensures { (log out text left : Option (List ℕ)) (st : Setting) (lag : ℕ) → ServingWith L.written L.kept W.contents log out text st lag left line.now service.old
+        → MatchResult result (λ _. Serving L.written L.kept W.contents log out text st lag left service.new) (λ _. EndsServed L.kept W.contents log out text st lag service.new.log (inner_of service.new.out)) }
+{
+    match answer_line(alloc, service, line) {
+        Ok(goes_on) => match go_on(service, points) {
+            Ok(()) => Ok(goes_on),
+            Err(why) => Err(why),
+        },
+        Err(why) => Err(why),
+    }
+}
+
+// Reads the next line, answers it, and takes the checkpointer's turn; false at the end of the input, or where the line asks for the end.
+fn serve_next<R: Read + Drop, L: LogDevice + Drop, W: Write + Drop, P: PointFiles>(
+    alloc: Global,
+    service: &mut Service<L, W>,
+    input: &mut BufReader<R>,
+    line: &mut Vec<u8>,
+    points: &mut P,
+) -> Result<bool, ServeFault>
+    ensures { (log out text : Option (List ℕ)) (st : Setting) (lag : ℕ) → Serving L.written L.kept W.contents log out text st lag (reader_remaining R.remaining input.old) service.old
+        → MatchResult result (ServesOn L.written L.kept W.contents log out text st lag (reader_remaining R.remaining input.new) service.new) (λ _. EndsServed L.kept W.contents log out text st lag service.new.log (inner_of service.new.out)) }
+{
+    match read_next(input, line) {
+        Ok(true) => take_turns(alloc, service, line, points),
+        Ok(false) => Ok(false),
+        Err(why) => Err(why),
+    }
+}
+
+// The same, once the turn has ended where no whole line is left of what was read.
+fn serve_line<R: Read + Drop, L: LogDevice + Drop, W: Write + Drop, P: PointFiles>(
+    alloc: Global,
+    service: &mut Service<L, W>,
+    input: &mut BufReader<R>,
+    line: &mut Vec<u8>,
+    points: &mut P,
+) -> Result<bool, ServeFault>
+    requires { (log out text : Option (List ℕ)) × (st : Setting) × (lag : ℕ) × Serving L.written L.kept W.contents log out text st lag (reader_remaining R.remaining input.old) service.old }
+    ensures { (log out text : Option (List ℕ)) (st : Setting) (lag : ℕ) → Serving L.written L.kept W.contents log out text st lag (reader_remaining R.remaining input.old) service.old
+        → MatchResult result (ServesOn L.written L.kept W.contents log out text st lag (reader_remaining R.remaining input.new) service.new) (λ _. EndsServed L.kept W.contents log out text st lag service.new.log (inner_of service.new.out)) }
+{
+    match send_if_idle(alloc, service, &*input) {
+        Ok(()) => serve_next(alloc, service, input, line, points),
+        Err(why) => Err(why),
+    }
+}
+
+// Answers line after line, until the input ends or a line asks for the end.
+fn serve_lines<R: Read + Drop, L: LogDevice + Drop, W: Write + Drop, P: PointFiles>(
+    alloc: Global,
+    service: &mut Service<L, W>,
+    input: &mut BufReader<R>,
+    points: &mut P,
+) -> Result<(), ServeFault>
+    requires { (log out text : Option (List ℕ)) × (st : Setting) × (lag : ℕ) × Serving L.written L.kept W.contents log out text st lag (reader_remaining R.remaining input.old) service.old }
+    ensures { (log out text : Option (List ℕ)) (st : Setting) (lag : ℕ) → Serving L.written L.kept W.contents log out text st lag (reader_remaining R.remaining input.old) service.old
+        → MatchResult result (λ _. HasServed L.written L.kept W.contents log out text st lag service.new) (λ _. EndsServed L.kept W.contents log out text st lag service.new.log (inner_of service.new.out)) }
+{
+    let mut line = Vec::new(alloc);
+    for _ in 0..u64::MAX {
+        match serve_line(alloc, service, input, &mut line, points) {
+            Ok(true) => {}
+            Ok(false) => return Ok(()),
+            Err(why) => return Err(why),
+        }
+    }
+    Ok(())
+}
+
+/// Answers the lines of the input, one after the other, until it ends or a line asks for the end (`quit`). A turn ends where no whole
+/// line is left of what was read, so it has at most as many bytes of lines as the reader's buffer; the points that are due are taken between the lines. At every end, and so
+/// whatever device fails at whatever call: some first lines of the input were answered, of their answers a beginning was sent, and
+/// nothing else, and of the log as it was then no more entries aren't kept than the lag.
+pub fn serve_input<R: Read + Drop, L: LogDevice + Drop, W: Write + Drop, P: PointFiles>(
+    alloc: Global,
+    service: &mut Service<L, W>,
+    input: &mut BufReader<R>,
+    points: &mut P,
+) -> Result<(), ServeFault>
+    requires { (log out text : Option (List ℕ)) × (st : Setting) × (lag : ℕ) × Serving L.written L.kept W.contents log out text st lag (reader_remaining R.remaining input.old) service.old }
+    ensures { (log out text : Option (List ℕ)) (st : Setting) (lag : ℕ) → Serving L.written L.kept W.contents log out text st lag (reader_remaining R.remaining input.old) service.old
+        → EndsServed L.kept W.contents log out text st lag service.new.log (inner_of service.new.out) }
+{
+    match serve_lines(alloc, service, input, points) {
+        Ok(()) => send(alloc, service),
+        Err(why) => Err(why),
+    }
+}
