@@ -88,14 +88,17 @@ went st gone turn at history next old world pace result stays kept stands (inl n
 went st gone turn at history next old world pace result stays kept stands (inr (event, reply, due, legal, after, noted, shelved)) =
     let is : is_checkpoint event ≡ true = subst (λ o. IfSome o (λ e. is_checkpoint e ≡ true)) due (due_is_checkpoint old.pace (phase_of history)) in
     let step : Step = record { event = event; reply = reply } in
-    inr (step, record {
-      serves = record { stands = subst (Stands world) after stands; setting = kept ∙ stays.serves.setting; awaited = λ s. stays.serves.awaited s ∙ awaits_on st s step history is };
-      gone_by = stays.gone_by;
-      turn_by = (history, stays.turn_by, is, subst (λ t. IsLegal t history event reply) stays.serves.setting legal, refl);
-      waiting = stays.waiting;
-      kept = stays.kept;
-      within = omega (arith, stays.within, no_shorter history (step ∷ history) (step_extends step history));
-    })
+    inr (
+      step,
+      record {
+        serves = record { stands = subst (Stands world) after stands; setting = kept ∙ stays.serves.setting; awaited = λ s. stays.serves.awaited s ∙ awaits_on st s step history is };
+        gone_by = stays.gone_by;
+        turn_by = (history, stays.turn_by, is, subst (λ t. IsLegal t history event reply) stays.serves.setting legal, refl);
+        waiting = stays.waiting;
+        kept = stays.kept;
+        within = omega (arith, stays.within, no_shorter history (step ∷ history) (step_extends step history));
+      },
+    )
 
 same_extends : (before after : History) → after ≡ before → Extends before after
 same_extends before after e = ([], ap log_of e ∙ sym (append-nil (log_of before)))
@@ -111,8 +114,8 @@ line_extends : (st : Setting) (before after : History) (l : Line) (text : List �
 line_extends st before after (line.Asks event) text a = by (is_of_client event) a
   where
     by : (b : Bool) → MatchBool b
-            ((reply : Reply) × IsLegal st before event reply × (after ≡ record { event = event; reply = reply } ∷ before) × (text ≡ (reply_text reply ++ codes "\n") ++ granted_text st (record { event = event; reply = reply }) before))
-            ((text ≡ wrong_phase) × (after ≡ before))
+        ((reply : Reply) × IsLegal st before event reply × (after ≡ record { event = event; reply = reply } ∷ before) × (text ≡ (reply_text reply ++ codes "\n") ++ granted_text st (record { event = event; reply = reply }) before))
+        ((text ≡ wrong_phase) × (after ≡ before))
         → Extends before after
     by true (reply, legal, e, t) = one_more before after (record { event = event; reply = reply }) e
     by false (t, e) = same_extends before after e
@@ -177,8 +180,8 @@ pub line_told : (st : Setting) (gone turn : List Act) (at history : History) (ol
     → OnOk result (Told st gone at turn history old asked (after_answer old served answers))
 line_told st gone turn at history old served answers result l asked stays is =
     on_ok result (λ (next, text, serves, said, puts).
-        let told : AnswersRequest st history asked text next = subst (λ r. AnswersRequest st history r text next) (sym is) said in
-        (text, next, told, λ line asks. answered st gone turn at history next old served answers line text asked stays serves told puts.0 asks))
+    let told : AnswersRequest st history asked text next = subst (λ r. AnswersRequest st history r text next) (sym is) said in
+    (text, next, told, λ line asks. answered st gone turn at history next old served answers line text asked stays serves told puts.0 asks))
 
 -- acts behind others
 pub lead_on : (st : Setting) (start at history : History) (gone turn : List Act) → Lead st start gone at → Lead st at turn history → Lead st start (turn ++ gone) history
@@ -191,7 +194,7 @@ pub same_ends : {T U : Type 0} (written kept : T → Option (List ℕ)) (content
     → TurnEnds written kept contents entries lag sent before after log_old log_new out_old out_new result → TurnEnds written kept contents log lag answers before after log_old log_new out_old out_new result
 same_ends written kept contents entries log lag sent answers before after log_old log_new out_old out_new result same told ends =
     subst (λ l. TurnEnds written kept contents l lag answers before after log_old log_new out_old out_new result) same
-        (subst (λ t. TurnEnds written kept contents entries lag t before after log_old log_new out_old out_new result) told ends)
+    (subst (λ t. TurnEnds written kept contents entries lag t before after log_old log_new out_old out_new result) told ends)
 
 -- where the log went out, no more entries aren't kept than the lag
 pub kept_enough : {T : Type 0} (written kept : T → Option (List ℕ)) (log : List Entry) (lag before after : ℕ) (old new : T) → IsLogOut written kept log lag before after old new true → length log ≤ after + lag

@@ -1,5 +1,5 @@
 -- What has gone out, act by act.
-use Rattle.std.proofs.Common.{◌≡◌, ℕ, zero, suc, ◌+◌, ◌-◌, ◌≤◌, ◌⊎◌, inl, inr, Bool, true, false, List, [], ◌∷◌, ◌++◌, Ok, Err, length, take, drop, take_all, append-nil, refl, sym, ap, subst, ◌∙◌, arith, append_assoc}
+use Rattle.std.proofs.Common.{◌≡◌, ℕ, zero, suc, ◌≤◌, ◌⊎◌, inl, inr, Bool, true, false, List, [], ◌∷◌, ◌++◌, length, take, drop, take_all, append-nil, refl, sym, ap, subst, ◌∙◌, arith, append_assoc}
 use Rattle.std.specs.Prelude.{Option, Some, None, MatchBool}
 use Rattle.std.specs.List.{flat_map}
 use Rattle.std.specs.Io.KnownBytes.{Appends}
@@ -8,7 +8,6 @@ use Rattle.std.proofs.lemmas.List.Concat.{flat_map-append}
 use Rattle.pc_types.specs.Counted.{AppendsBeginning}
 use Rattle.pc_types.specs.Tallies.{inner_of}
 use Rattle.pc_types.specs.declared.Entry.{Entry}
-use Rattle.pc_types.specs.declared.Refusal.TheVariants.{Device}
 use Rattle.pc_types.specs.declared.Step.{Step}
 use Rattle.pc_types.specs.declared.tally.Tally.{Tally}
 use Rattle.pc_types.proofs.KnownBytesLaws.{appends_nothing, appends_then, begins_after}
@@ -16,10 +15,10 @@ use Rattle.pc_model.specs.History.{History, log_of}
 use Rattle.pc_model.specs.Replies.{Setting}
 use Rattle.pc_log.specs.Texts.{entry_text}
 use Rattle.pc_turn.specs.Devices.{Grows}
-use Rattle.pc_turn.specs.Turns.{IsKept, IsLogOut, IsSent, TurnEnds, is_due, rest_text}
+use Rattle.pc_turn.specs.Turns.{IsKept, IsLogOut, TurnEnds, is_due, rest_text}
 use Rattle.pc_turn.specs.declared.turn.TurnEnd.TheVariants as end
 use Rattle.pc_serving.specs.Requests.{request_of}
-use Rattle.pc_server.specs.Acts.{Act, Lead, AnswersRequest, answers_of}
+use Rattle.pc_server.specs.Acts.{Act, AnswersRequest, answers_of}
 use Rattle.pc_server.specs.Acts.Act.{Answered, WentOn}
 use Rattle.pc_server.specs.Turns.{Stays}
 use Rattle.pc_server.specs.Services.{GrowsFrom, Holds, IsCutOff, first_text}
@@ -70,7 +69,7 @@ module _ {T U : Type 0} (written keeps : T → Option (List ℕ)) (contents : U 
       → Holds written keeps contents log out st [] [] [] [] (record { server = server; log = device; out = answers })
   begins server device answers stays none from to grows =
       let nothing : Appends log (written device) (first_text server.written (log_of [])) =
-          subst (λ n. Appends log (written device) (first_text n (log_of []))) (sym none) (subst (λ o. Appends o (written device) []) (sym from) (appends_nothing (written device))) in
+      subst (λ n. Appends log (written device) (first_text n (log_of []))) (sym none) (subst (λ o. Appends o (written device) []) (sym from) (appends_nothing (written device))) in
       record {
         stays = stays;
         sent = subst (λ o. Appends o (contents (inner_of answers)) []) (sym to) (appends_nothing (contents (inner_of answers)));
@@ -83,7 +82,7 @@ module _ {T U : Type 0} (written keeps : T → Option (List ℕ)) (contents : U 
       → Holds written keeps contents log out st gone at turn_new next (record { server = server; log = old.log; out = old.out })
   goes_on gone turn turn_new at history next old server holds extends stays same =
       let text : first_text old.server.written (log_of history) ≡ first_text server.written (log_of next) =
-          first_stay old.server.written history next extends holds.stays.within ∙ ap (λ n. first_text n (log_of next)) (sym same) in
+      first_stay old.server.written history next extends holds.stays.within ∙ ap (λ n. first_text n (log_of next)) (sym same) in
       record {
         stays = stays;
         sent = holds.sent;
@@ -102,7 +101,7 @@ module _ {T U : Type 0} (written keeps : T → Option (List ℕ)) (contents : U 
   pub point_went : (gone turn : List Act) (at history : History) (old : Service T U) (server : Server) → Holds written keeps contents log out st gone at turn history old → server.written ≡ old.server.written
       → Stays st gone at turn history server ⊎ ((step : Step) × Stays st gone at (WentOn step ∷ turn) (step ∷ history) server)
       → Holds written keeps contents log out st gone at turn history (record { server = server; log = old.log; out = old.out })
-          ⊎ ((step : Step) × Holds written keeps contents log out st gone at (WentOn step ∷ turn) (step ∷ history) (record { server = server; log = old.log; out = old.out }))
+      ⊎ ((step : Step) × Holds written keeps contents log out st gone at (WentOn step ∷ turn) (step ∷ history) (record { server = server; log = old.log; out = old.out }))
   point_went gone turn at history old server holds same (inl stays) = inl (goes_on gone turn turn at history history old server holds ([], sym (append-nil (log_of history))) stays same)
   point_went gone turn at history old server holds same (inr (step, stays)) = inr (step, goes_on gone turn (WentOn step ∷ turn) at history (step ∷ history) old server holds (step_extends step history) stays same)
 
@@ -116,9 +115,10 @@ module _ {T U : Type 0} (written keeps : T → Option (List ℕ)) (contents : U 
           let text : first_text before turn_log ++ rest_text before turn_log ≡ first_text after turn_log = all_entries before turn_log ∙ ap (λ n. first_text n turn_log) (sym e) in
           let whole : Appends log (written b) (first_text after turn_log) = subst (Appends log (written b)) text (appends_then log (written a) (written b) (first_text before turn_log) (rest_text before turn_log) logged appended) in
           (whole, (written b, whole, subst (Grows (written b)) (sym all) ([], appends_nothing (written b))))
-      by false (same, e) =
-          (subst (λ d. Appends log (written d) (first_text after turn_log)) (sym same) (subst (λ n. Appends log (written a) (first_text n turn_log)) (sym e) logged),
-          subst (λ d. GrowsFrom log (keeps d) (first_text after turn_log)) (sym same) (subst (λ n. GrowsFrom log (keeps a) (first_text n turn_log)) (sym e) kept))
+      by false (same, e) = (
+        subst (λ d. Appends log (written d) (first_text after turn_log)) (sym same) (subst (λ n. Appends log (written a) (first_text n turn_log)) (sym e) logged),
+        subst (λ d. GrowsFrom log (keeps d) (first_text after turn_log)) (sym same) (subst (λ n. GrowsFrom log (keeps a) (first_text n turn_log)) (sym e) kept),
+      )
 
   -- a turn ended
   pub turn_whole : (gone turn : List Act) (at history : History) (old : Service T U) (server : Server) (device : T) (answers : Tally U) → Holds written keeps contents log out st gone at turn history old

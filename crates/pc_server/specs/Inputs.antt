@@ -1,12 +1,12 @@
 -- How far the input of a process that serves was read and answered.
 use Rattle.std.specs.Prelude.{◌≡◌, ◌⊎◌, ⊤, ℕ, Bool, true, false, List, [], ◌∷◌, ◌++◌, Option, Some, None}
-use Rattle.pc_types.specs.Tallies.{inner_of}
 use Rattle.pc_model.specs.History.{History}
 use Rattle.pc_model.specs.Replies.{Setting}
 use Rattle.pc_lines.specs.Lines.{lines_in}
+use Rattle.pc_serving.specs.Requests.{request_of}
 use Rattle.pc_serving.specs.declared.pace.Turned.{Turned}
 use Rattle.pc_serving.specs.declared.pace.Turned.TheVariants as turned
-use Rattle.pc_server.specs.Acts.{Act, lines_of}
+use Rattle.pc_server.specs.Acts.{Act, is_quit, lines_of}
 use Rattle.pc_server.specs.Services.{Holds, IsCutOff}
 use Rattle.pc_server.specs.declared.service.Service.{Service}
 
@@ -26,27 +26,53 @@ abbrev pub AreFirstLines : Option (List ℕ) → List (List ℕ) → Type 0
 AreFirstLines None lines = ⊤
 AreFirstLines (Some text) lines = (rest : List (List ℕ)) × (lines_in text ≡ lines ++ rest)
 
--- The lines that were read are answered, and of these answers some are sent, and the others wait.
-abbrev pub Serving : {T U : Type 0} → (T → Option (List ℕ)) → (T → Option (List ℕ)) → (U → Option (List ℕ)) → Option (List ℕ) → Option (List ℕ) → Option (List ℕ) → Setting → ℕ → Option (List ℕ) → Service T U → Type 0
-Serving written keeps contents log out input st lag left service =
-    (gone turn : List Act) × (at history : History) × Holds written keeps contents log out st gone at turn history service × IsRead input left (lines_of (turn ++ gone)) × (service.server.lag ≡ lag)
+-- these are all lines of the input
+abbrev pub AreAllLines : Option (List ℕ) → List (List ℕ) → Type 0
+AreAllLines None lines = ⊤
+AreAllLines (Some text) lines = lines_in text ≡ lines
 
--- The same where one line more was read, which isn't answered yet.
-abbrev pub ServingWith : {T U : Type 0} → (T → Option (List ℕ)) → (T → Option (List ℕ)) → (U → Option (List ℕ)) → Option (List ℕ) → Option (List ℕ) → Option (List ℕ) → Setting → ℕ → Option (List ℕ) → List ℕ → Service T U → Type 0
-ServingWith written keeps contents log out input st lag left line service =
-    (gone turn : List Act) × (at history : History) × Holds written keeps contents log out st gone at turn history service × IsRead input left (lines_of (turn ++ gone) ++ line ∷ []) × (service.server.lag ≡ lag)
+-- the last of the lines asks for the end
+abbrev pub AskForEnd : List (List ℕ) → Type 0
+AskForEnd lines = (front : List (List ℕ)) × (line : List ℕ) × (lines ≡ front ++ line ∷ []) × (is_quit (request_of line) ≡ true)
 
--- Some first lines of the input were answered, and of their answers a beginning was sent, and nothing else; of the log as it was then no
+-- nothing more is to be answered behind these lines of the input
+abbrev pub IsEnd : Option (List ℕ) → List (List ℕ) → Type 0
+IsEnd input lines = AreFirstLines input lines × (AreAllLines input lines ⊎ AskForEnd lines)
+
+-- These lines are answered, and of the answers some are sent, and the others wait.
+abbrev pub Serving : {T U : Type 0} → (T → Option (List ℕ)) → (T → Option (List ℕ)) → (U → Option (List ℕ)) → Option (List ℕ) → Option (List ℕ) → Setting → ℕ → List (List ℕ) → Service T U → Type 0
+Serving written keeps contents log out st lag lines service =
+    (gone turn : List Act) × (at history : History) × Holds written keeps contents log out st gone at turn history service × (lines_of (turn ++ gone) ≡ lines) × (service.server.lag ≡ lag)
+
+-- These lines are answered, and the answers are sent.
+abbrev pub HasSent : {T U : Type 0} → (T → Option (List ℕ)) → (T → Option (List ℕ)) → (U → Option (List ℕ)) → Option (List ℕ) → Option (List ℕ) → Setting → ℕ → List (List ℕ) → Service T U → Type 0
+HasSent written keeps contents log out st lag lines service =
+    (gone : List Act) × (at : History) × Holds written keeps contents log out st gone at [] at service × (lines_of gone ≡ lines) × (service.server.lag ≡ lag)
+
+-- Some first ones of these lines were answered, and of their answers a beginning was sent, and nothing else; of the log as it was then no
 -- more entries aren't kept than the lag.
+abbrev pub EndsWithin : {T U : Type 0} → (T → Option (List ℕ)) → (U → Option (List ℕ)) → Option (List ℕ) → Option (List ℕ) → Setting → ℕ → List (List ℕ) → T → U → Type 0
+EndsWithin keeps contents log out st lag lines log_device out_device =
+    (gone : List Act) × (at : History) × (rest : List (List ℕ)) × IsCutOff keeps contents log out st lag gone at log_device out_device × (lines ≡ lines_of gone ++ rest)
+
+-- The same of some first lines of the input.
 abbrev pub EndsServed : {T U : Type 0} → (T → Option (List ℕ)) → (U → Option (List ℕ)) → Option (List ℕ) → Option (List ℕ) → Option (List ℕ) → Setting → ℕ → T → U → Type 0
 EndsServed keeps contents log out input st lag log_device out_device =
-    (gone : List Act) × (at : History) × IsCutOff keeps contents log out st lag gone at log_device out_device × AreFirstLines input (lines_of gone)
+    (lines : List (List ℕ)) × AreFirstLines input lines × EndsWithin keeps contents log out st lag lines log_device out_device
 
--- What was read is answered, however much of the input is left.
+-- The lines that were read are answered.
+abbrev pub ServesOn : {T U : Type 0} → (T → Option (List ℕ)) → (T → Option (List ℕ)) → (U → Option (List ℕ)) → Option (List ℕ) → Option (List ℕ) → Option (List ℕ) → Setting → ℕ → Option (List ℕ) → Service T U → Type 0
+ServesOn written keeps contents log out input st lag left service = (lines : List (List ℕ)) × IsRead input left lines × Serving written keeps contents log out st lag lines service
+
+-- Nothing more is to be answered.
 abbrev pub HasServed : {T U : Type 0} → (T → Option (List ℕ)) → (T → Option (List ℕ)) → (U → Option (List ℕ)) → Option (List ℕ) → Option (List ℕ) → Option (List ℕ) → Setting → ℕ → Service T U → Type 0
-HasServed written keeps contents log out input st lag service = (left : Option (List ℕ)) × Serving written keeps contents log out input st lag left service
+HasServed written keeps contents log out input st lag service = (lines : List (List ℕ)) × IsEnd input lines × Serving written keeps contents log out st lag lines service
 
--- A line was answered, and more may be; or there is none, or it asks for the end.
-abbrev pub ServesOn : {T U : Type 0} → (T → Option (List ℕ)) → (T → Option (List ℕ)) → (U → Option (List ℕ)) → Option (List ℕ) → Option (List ℕ) → Option (List ℕ) → Setting → ℕ → Option (List ℕ) → Service T U → Bool → Type 0
-ServesOn written keeps contents log out input st lag left service true = Serving written keeps contents log out input st lag left service
-ServesOn written keeps contents log out input st lag left service false = HasServed written keeps contents log out input st lag service
+-- And all answers were sent.
+abbrev pub HasServedAll : {T U : Type 0} → (T → Option (List ℕ)) → (T → Option (List ℕ)) → (U → Option (List ℕ)) → Option (List ℕ) → Option (List ℕ) → Option (List ℕ) → Setting → ℕ → Service T U → Type 0
+HasServedAll written keeps contents log out input st lag service = (lines : List (List ℕ)) × IsEnd input lines × HasSent written keeps contents log out st lag lines service
+
+-- what a line leaves, by whether more are to be answered
+abbrev pub ServesLine : {T U : Type 0} → (T → Option (List ℕ)) → (T → Option (List ℕ)) → (U → Option (List ℕ)) → Option (List ℕ) → Option (List ℕ) → Option (List ℕ) → Setting → ℕ → Option (List ℕ) → Service T U → Bool → Type 0
+ServesLine written keeps contents log out input st lag left service true = ServesOn written keeps contents log out input st lag left service
+ServesLine written keeps contents log out input st lag left service false = HasServed written keeps contents log out input st lag service

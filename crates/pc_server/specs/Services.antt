@@ -1,5 +1,5 @@
 -- What a process that serves has put out, and what of it comes back.
-use Rattle.std.specs.Prelude.{◌≡◌, ◌≤◌, ◌+◌, ℕ, List, [], ◌++◌, Option, take, length}
+use Rattle.std.specs.Prelude.{◌≤◌, ◌+◌, ℕ, List, [], Option, take, length}
 use Rattle.std.specs.List.{flat_map}
 use Rattle.std.specs.Io.KnownBytes.{Appends}
 use Rattle.pc_types.specs.Counted.{AppendsBeginning}

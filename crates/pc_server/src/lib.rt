@@ -2,8 +2,8 @@
 //! before the answers go out.
 #![tactic(auto)]
 
-mod server;
 mod serve;
+mod server;
 mod service;
 
 pub use serve::{PointFiles, ServeFault, serve_input};

@@ -1,9 +1,11 @@
 //! The lines of an input are answered until it ends.
-ghost use Rattle.std.specs.Prelude.{◌≡◌, ℕ, List, Option, MatchResult, MatchBool, IfOk, ◌++◌, ◌∷◌, [], OnOk};
+ghost use Rattle.std.specs.Prelude.{◌≡◌, ◌++◌, ◌∷◌, [], not, ℕ, List, Option, MatchResult, MatchBool, IfOk};
 ghost use Rattle.std.specs.Io.Buffered.{reader_remaining};
 ghost use Rattle.pc_types.specs.Tallies.{inner_of};
 ghost use Rattle.pc_model.specs.Replies.{Setting};
-ghost use Rattle.pc_server.specs.Inputs.{shelved, IsRead, AreFirstLines, Serving, ServingWith, ServesOn, HasServed, EndsServed};
+ghost use Rattle.pc_serving.specs.Requests.{request_of};
+ghost use Rattle.pc_server.specs.Acts.{is_quit};
+ghost use Rattle.pc_server.specs.Inputs.{shelved, IsRead, AreAllLines, Serving, HasSent, EndsWithin, EndsServed, ServesOn, ServesLine, HasServed, HasServedAll};
 
 use crate::service::{CutOff, Service};
 use pc_part::Part;
@@ -18,7 +20,8 @@ use std::io::{BufRead, BufReader, Read, Write};
 pub enum ServeFault {
     /// A read of the input failed.
     Input,
-    /// Memory ran out, or the checkpointer was refused an event.
+    /// Memory ran out, the checkpointer was refused an event, or the file of a point can't be kept; `Full` where 2^64 - 1 lines were
+    /// answered.
     Refused(Refusal),
     /// A device failed at the end of a turn.
     CutOff(CutOff),
@@ -33,7 +36,7 @@ pub trait PointFiles {
 // The next line is read into the vector; false at the end of the input.
 fn read_next<R: BufRead>(input: &mut R, line: &mut Vec<u8>) -> Result<bool, ServeFault>
     ensures read { (text : Option (List ℕ)) (lines : List (List ℕ)) → IsRead text (R.remaining input.old) lines
-        → IfOk result (λ some. MatchBool some (IsRead text (R.remaining input.new) (lines ++ line.new.items ∷ [])) (AreFirstLines text lines)) }
+        → IfOk result (λ some. MatchBool some (IsRead text (R.remaining input.new) (lines ++ line.new.items ∷ [])) (AreAllLines text lines)) }
 {
     match next_line(input, line) {
         Ok(some) => Ok(some),
@@ -46,9 +49,9 @@ fn send<L: LogDevice + Drop, W: Write + Drop>(
     alloc: Global,
     service: &mut Service<L, W>,
 ) -> Result<(), ServeFault>
-    requires { (log out input left : Option (List ℕ)) × (st : Setting) × (lag : ℕ) × Serving L.written L.kept W.contents log out input st lag left service.old }
-    ensures { (log out input left : Option (List ℕ)) (st : Setting) (lag : ℕ) → Serving L.written L.kept W.contents log out input st lag left service.old
-        → MatchResult result (λ _. Serving L.written L.kept W.contents log out input st lag left service.new) (λ _. EndsServed L.kept W.contents log out input st lag service.new.log (inner_of service.new.out)) }
+    requires { (log out : Option (List ℕ)) × (st : Setting) × (lag : ℕ) × (lines : List (List ℕ)) × Serving L.written L.kept W.contents log out st lag lines service.old }
+    ensures { (log out : Option (List ℕ)) (st : Setting) (lag : ℕ) (lines : List (List ℕ)) → Serving L.written L.kept W.contents log out st lag lines service.old
+        → MatchResult result (λ _. HasSent L.written L.kept W.contents log out st lag lines service.new) (λ _. EndsWithin L.kept W.contents log out st lag lines service.new.log (inner_of service.new.out)) }
 {
     match service.end_turn(alloc) {
         Ok(()) => Ok(()),
@@ -56,14 +59,31 @@ fn send<L: LogDevice + Drop, W: Write + Drop>(
     }
 }
 
-// Answers the line that was read; false where it asks for the end.
+// The turn ends where no whole line is left of what was read.
+fn send_if_idle<R: Read + Drop, L: LogDevice + Drop, W: Write + Drop>(
+    alloc: Global,
+    service: &mut Service<L, W>,
+    input: &BufReader<R>,
+) -> Result<(), ServeFault>
+    requires { (log out : Option (List ℕ)) × (st : Setting) × (lag : ℕ) × (lines : List (List ℕ)) × Serving L.written L.kept W.contents log out st lag lines service.old }
+    ensures { (log out : Option (List ℕ)) (st : Setting) (lag : ℕ) (lines : List (List ℕ)) → Serving L.written L.kept W.contents log out st lag lines service.old
+        → MatchResult result (λ _. Serving L.written L.kept W.contents log out st lag lines service.new) (λ _. EndsWithin L.kept W.contents log out st lag lines service.new.log (inner_of service.new.out)) }
+{
+    if input.buffer().contains(&b'\n') {
+        return Ok(());
+    }
+    send(alloc, service)
+}
+
+// Answers the line; false where it asks for the end.
 fn answer_line<L: LogDevice + Drop, W: Write + Drop>(
     alloc: Global,
     service: &mut Service<L, W>,
     line: &[u8],
 ) -> Result<bool, ServeFault>
-    ensures { (log out input left : Option (List ℕ)) (st : Setting) (lag : ℕ) → ServingWith L.written L.kept W.contents log out input st lag left line.now service.old
-        → MatchResult result (λ _. Serving L.written L.kept W.contents log out input st lag left service.new) (λ _. EndsServed L.kept W.contents log out input st lag service.new.log (inner_of service.new.out)) }
+    ensures asks { IfOk result (λ goes_on. goes_on ≡ not (is_quit (request_of line.now))) }
+    ensures served { (log out : Option (List ℕ)) (st : Setting) (lag : ℕ) (lines : List (List ℕ)) → Serving L.written L.kept W.contents log out st lag lines service.old
+        → MatchResult result (λ _. Serving L.written L.kept W.contents log out st lag (lines ++ line.now ∷ []) service.new) (λ _. EndsWithin L.kept W.contents log out st lag lines service.new.log (inner_of service.new.out)) }
 {
     match service.answer(alloc, line) {
         Ok(goes_on) => Ok(goes_on),
@@ -76,8 +96,8 @@ fn go_on<L: LogDevice + Drop, W: Write + Drop, P: PointFiles>(
     service: &mut Service<L, W>,
     points: &mut P,
 ) -> Result<(), ServeFault>
-    ensures { (log out input left : Option (List ℕ)) (st : Setting) (lag : ℕ) → Serving L.written L.kept W.contents log out input st lag left service.old
-        → MatchResult result (λ _. Serving L.written L.kept W.contents log out input st lag left service.new) (λ _. EndsServed L.kept W.contents log out input st lag service.new.log (inner_of service.new.out)) }
+    ensures { (log out : Option (List ℕ)) (st : Setting) (lag : ℕ) (lines : List (List ℕ)) → Serving L.written L.kept W.contents log out st lag lines service.old
+        → MatchResult result (λ _. Serving L.written L.kept W.contents log out st lag lines service.new) (λ _. EndsWithin L.kept W.contents log out st lag lines service.new.log (inner_of service.new.out)) }
 {
     match service.go_on() {
         Ok(turned) => keep_shelved(&*service, points, turned),
@@ -118,22 +138,6 @@ fn keep_file<P: PointFiles>(file: Option<&Part>, points: &mut P) -> Result<(), S
     }
 }
 
-// The turn ends where no whole line is left of what was read.
-fn send_if_idle<R: Read + Drop, L: LogDevice + Drop, W: Write + Drop>(
-    alloc: Global,
-    service: &mut Service<L, W>,
-    input: &BufReader<R>,
-) -> Result<(), ServeFault>
-    requires { (log out text left : Option (List ℕ)) × (st : Setting) × (lag : ℕ) × Serving L.written L.kept W.contents log out text st lag left service.old }
-    ensures { (log out text left : Option (List ℕ)) (st : Setting) (lag : ℕ) → Serving L.written L.kept W.contents log out text st lag left service.old
-        → MatchResult result (λ _. Serving L.written L.kept W.contents log out text st lag left service.new) (λ _. EndsServed L.kept W.contents log out text st lag service.new.log (inner_of service.new.out)) }
-{
-    if input.buffer().contains(&b'\n') {
-        return Ok(());
-    }
-    send(alloc, service)
-}
-
 // Answers the line that was read, and takes the checkpointer's turn; false where the line asks for the end.
 fn take_turns<L: LogDevice + Drop, W: Write + Drop, P: PointFiles>(
     alloc: Global,
@@ -141,8 +145,9 @@ fn take_turns<L: LogDevice + Drop, W: Write + Drop, P: PointFiles>(
     line: &[u8],
     points: &mut P,
 ) -> Result<bool, ServeFault>
-    ensures { (log out text left : Option (List ℕ)) (st : Setting) (lag : ℕ) → ServingWith L.written L.kept W.contents log out text st lag left line.now service.old
-        → MatchResult result (λ _. Serving L.written L.kept W.contents log out text st lag left service.new) (λ _. EndsServed L.kept W.contents log out text st lag service.new.log (inner_of service.new.out)) }
+    ensures asks { IfOk result (λ goes_on. goes_on ≡ not (is_quit (request_of line.now))) }
+    ensures served { (log out : Option (List ℕ)) (st : Setting) (lag : ℕ) (lines : List (List ℕ)) → Serving L.written L.kept W.contents log out st lag lines service.old
+        → MatchResult result (λ _. Serving L.written L.kept W.contents log out st lag (lines ++ line.now ∷ []) service.new) (λ _. EndsWithin L.kept W.contents log out st lag (lines ++ line.now ∷ []) service.new.log (inner_of service.new.out)) }
 {
     match answer_line(alloc, service, line) {
         Ok(goes_on) => match go_on(service, points) {
@@ -161,8 +166,8 @@ fn serve_next<R: Read + Drop, L: LogDevice + Drop, W: Write + Drop, P: PointFile
     line: &mut Vec<u8>,
     points: &mut P,
 ) -> Result<bool, ServeFault>
-    ensures { (log out text : Option (List ℕ)) (st : Setting) (lag : ℕ) → Serving L.written L.kept W.contents log out text st lag (reader_remaining R.remaining input.old) service.old
-        → MatchResult result (ServesOn L.written L.kept W.contents log out text st lag (reader_remaining R.remaining input.new) service.new) (λ _. EndsServed L.kept W.contents log out text st lag service.new.log (inner_of service.new.out)) }
+    ensures { (log out text : Option (List ℕ)) (st : Setting) (lag : ℕ) → ServesOn L.written L.kept W.contents log out text st lag (reader_remaining R.remaining input.old) service.old
+        → MatchResult result (ServesLine L.written L.kept W.contents log out text st lag (reader_remaining R.remaining input.new) service.new) (λ _. EndsServed L.kept W.contents log out text st lag service.new.log (inner_of service.new.out)) }
 {
     match read_next(input, line) {
         Ok(true) => take_turns(alloc, service, line, points),
@@ -179,9 +184,9 @@ fn serve_line<R: Read + Drop, L: LogDevice + Drop, W: Write + Drop, P: PointFile
     line: &mut Vec<u8>,
     points: &mut P,
 ) -> Result<bool, ServeFault>
-    requires { (log out text : Option (List ℕ)) × (st : Setting) × (lag : ℕ) × Serving L.written L.kept W.contents log out text st lag (reader_remaining R.remaining input.old) service.old }
-    ensures { (log out text : Option (List ℕ)) (st : Setting) (lag : ℕ) → Serving L.written L.kept W.contents log out text st lag (reader_remaining R.remaining input.old) service.old
-        → MatchResult result (ServesOn L.written L.kept W.contents log out text st lag (reader_remaining R.remaining input.new) service.new) (λ _. EndsServed L.kept W.contents log out text st lag service.new.log (inner_of service.new.out)) }
+    requires { (log out text : Option (List ℕ)) × (st : Setting) × (lag : ℕ) × ServesOn L.written L.kept W.contents log out text st lag (reader_remaining R.remaining input.old) service.old }
+    ensures { (log out text : Option (List ℕ)) (st : Setting) (lag : ℕ) → ServesOn L.written L.kept W.contents log out text st lag (reader_remaining R.remaining input.old) service.old
+        → MatchResult result (ServesLine L.written L.kept W.contents log out text st lag (reader_remaining R.remaining input.new) service.new) (λ _. EndsServed L.kept W.contents log out text st lag service.new.log (inner_of service.new.out)) }
 {
     match send_if_idle(alloc, service, &*input) {
         Ok(()) => serve_next(alloc, service, input, line, points),
@@ -196,8 +201,8 @@ fn serve_lines<R: Read + Drop, L: LogDevice + Drop, W: Write + Drop, P: PointFil
     input: &mut BufReader<R>,
     points: &mut P,
 ) -> Result<(), ServeFault>
-    requires { (log out text : Option (List ℕ)) × (st : Setting) × (lag : ℕ) × Serving L.written L.kept W.contents log out text st lag (reader_remaining R.remaining input.old) service.old }
-    ensures { (log out text : Option (List ℕ)) (st : Setting) (lag : ℕ) → Serving L.written L.kept W.contents log out text st lag (reader_remaining R.remaining input.old) service.old
+    requires { (log out text : Option (List ℕ)) × (st : Setting) × (lag : ℕ) × ServesOn L.written L.kept W.contents log out text st lag (reader_remaining R.remaining input.old) service.old }
+    ensures { (log out text : Option (List ℕ)) (st : Setting) (lag : ℕ) → ServesOn L.written L.kept W.contents log out text st lag (reader_remaining R.remaining input.old) service.old
         → MatchResult result (λ _. HasServed L.written L.kept W.contents log out text st lag service.new) (λ _. EndsServed L.kept W.contents log out text st lag service.new.log (inner_of service.new.out)) }
 {
     let mut line = Vec::new(alloc);
@@ -208,12 +213,13 @@ fn serve_lines<R: Read + Drop, L: LogDevice + Drop, W: Write + Drop, P: PointFil
             Err(why) => return Err(why),
         }
     }
-    Ok(())
+    Err(ServeFault::Refused(Refusal::Full))
 }
 
 /// Answers the lines of the input, one after the other, until it ends or a line asks for the end (`quit`). A turn ends where no whole
-/// line is left of what was read, so it has at most as many bytes of lines as the reader's buffer; the points that are due are taken between the lines. At every end, and so
-/// whatever device fails at whatever call: some first lines of the input were answered, of their answers a beginning was sent, and
+/// line is left of what was read, so it has at most as many bytes of lines as the reader's buffer; the points that are due are taken
+/// between the lines. Where nothing fails all lines were answered, or all up to that one, and all answers are sent. At every other end,
+/// and so whatever device fails at whatever call: some first lines of the input were answered, of their answers a beginning was sent, and
 /// nothing else, and of the log as it was then no more entries aren't kept than the lag.
 pub fn serve_input<R: Read + Drop, L: LogDevice + Drop, W: Write + Drop, P: PointFiles>(
     alloc: Global,
@@ -221,9 +227,9 @@ pub fn serve_input<R: Read + Drop, L: LogDevice + Drop, W: Write + Drop, P: Poin
     input: &mut BufReader<R>,
     points: &mut P,
 ) -> Result<(), ServeFault>
-    requires { (log out text : Option (List ℕ)) × (st : Setting) × (lag : ℕ) × Serving L.written L.kept W.contents log out text st lag (reader_remaining R.remaining input.old) service.old }
-    ensures { (log out text : Option (List ℕ)) (st : Setting) (lag : ℕ) → Serving L.written L.kept W.contents log out text st lag (reader_remaining R.remaining input.old) service.old
-        → EndsServed L.kept W.contents log out text st lag service.new.log (inner_of service.new.out) }
+    requires { (log out text : Option (List ℕ)) × (st : Setting) × (lag : ℕ) × ServesOn L.written L.kept W.contents log out text st lag (reader_remaining R.remaining input.old) service.old }
+    ensures { (log out text : Option (List ℕ)) (st : Setting) (lag : ℕ) → ServesOn L.written L.kept W.contents log out text st lag (reader_remaining R.remaining input.old) service.old
+        → MatchResult result (λ _. HasServedAll L.written L.kept W.contents log out text st lag service.new) (λ _. EndsServed L.kept W.contents log out text st lag service.new.log (inner_of service.new.out)) }
 {
     match serve_lines(alloc, service, input, points) {
         Ok(()) => send(alloc, service),

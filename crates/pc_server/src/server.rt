@@ -73,7 +73,7 @@ impl Server {
     fn tell(&mut self, alloc: Global, request: Request) -> Result<(), Refusal>
         ensures told { (st : Setting) (gone turn : List Act) (at history : History) → Stays st gone at turn history self.old
             → OnOk result ((text : List ℕ) × (next : History) × AnswersRequest st history request text next
-                × ((line : List ℕ) → request_of line ≡ request → Stays st gone at (Answered line text ∷ turn) next self.new)) }
+            × ((line : List ℕ) → request_of line ≡ request → Stays st gone at (Answered line text ∷ turn) next self.new)) }
         ensures same { (self.new.lag ≡ self.old.lag) × (self.new.written ≡ self.old.written) }
     {
         match request {

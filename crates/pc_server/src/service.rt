@@ -91,9 +91,9 @@ impl<L: LogDevice + Drop, W: Write + Drop> Service<L, W> {
         requires within { self.old.server.written ≤ length self.old.server.served.world.log }
         ensures ended { (st : Setting) (log out : Option (List ℕ)) (gone turn : List Act) (at history : History) → Holds L.written L.kept W.contents log out st gone at turn history self.old
             → MatchResult result
-                (λ _. Holds L.written L.kept W.contents log out st (turn ++ gone) history [] history self.new)
-                (λ _. IsCutOff L.kept W.contents log out st self.old.server.lag gone at self.new.log (inner_of self.new.out)
-                    ⊎ IsCutOff L.kept W.contents log out st self.old.server.lag (turn ++ gone) history self.new.log (inner_of self.new.out)) }
+            (λ _. Holds L.written L.kept W.contents log out st (turn ++ gone) history [] history self.new)
+            (λ _. IsCutOff L.kept W.contents log out st self.old.server.lag gone at self.new.log (inner_of self.new.out)
+            ⊎ IsCutOff L.kept W.contents log out st self.old.server.lag (turn ++ gone) history self.new.log (inner_of self.new.out)) }
         ensures lag { self.new.server.lag ≡ self.old.server.lag }
     {
         match self.server.end_turn(alloc, &mut self.log, &mut self.out) {

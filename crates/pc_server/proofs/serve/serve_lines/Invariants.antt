@@ -1,9 +1,9 @@
 use Rattle.std.specs.Prelude.{ℕ, List, Option}
 use Rattle.std.specs.Io.Buffered.{reader_remaining}
 use Rattle.pc_model.specs.Replies.{Setting}
-use Rattle.pc_server.specs.Inputs.{Serving}
+use Rattle.pc_server.specs.Inputs.{ServesOn}
 use Rattle.pc_server.proofs.serve.serve_lines.Given as goal
 
 abbrev pub invariant-loop : goal.invariant-loop
-invariant-loop g l = (log out text : Option (List ℕ)) (st : Setting) (lag : ℕ) → Serving g.L.LogDevice.written g.L.LogDevice.kept g.W.Write.contents log out text st lag (reader_remaining g.R.Read.remaining l.initial.input) l.initial.service
-    → Serving g.L.LogDevice.written g.L.LogDevice.kept g.W.Write.contents log out text st lag (reader_remaining g.R.Read.remaining l.input) l.service
+invariant-loop g l = (log out text : Option (List ℕ)) (st : Setting) (lag : ℕ) → ServesOn g.L.LogDevice.written g.L.LogDevice.kept g.W.Write.contents log out text st lag (reader_remaining g.R.Read.remaining l.initial.input) l.initial.service
+    → ServesOn g.L.LogDevice.written g.L.LogDevice.kept g.W.Write.contents log out text st lag (reader_remaining g.R.Read.remaining l.input) l.service

@@ -10,13 +10,13 @@ pub returns-in-Run-clause-told : goal.returns-in-Run-clause-told
 returns-in-Run-clause-told c = λ st gone turn at history stays.
     let run = c.run.ensures ∙ ap (λ b. b.run) c.base.ensures ∙ ap (λ t. t.run) stays.serves.setting in
     put_told st gone turn at history c.args.self.now c.put_run.new.out c.put_run.result (run_line c.run.result) c.args.request stays
-        (subst (λ r. AnswersRequest st history r (run_line c.run.result) history) (sym c.in-Run.is) (ap run_line run, refl)) c.put_run.ensures
+    (subst (λ r. AnswersRequest st history r (run_line c.run.result) history) (sym c.in-Run.is) (ap run_line run, refl)) c.put_run.ensures
 
 pub returns-in-Stats-clause-told : goal.returns-in-Stats-clause-told
 returns-in-Stats-clause-told c = λ st gone turn at history stays.
     let entries = c.len.ensures ∙ ap length (c.log.ensures.log ∙ stays.serves.stands.parts.log) in
     put_told st gone turn at history c.args.self.now c.put_stats.new.out c.put_stats.result (stats_line c.len.result) c.args.request stays
-        (subst (λ r. AnswersRequest st history r (stats_line c.len.result) history) (sym c.in-Stats.is) (ap stats_line entries, refl)) c.put_stats.ensures
+    (subst (λ r. AnswersRequest st history r (stats_line c.len.result) history) (sym c.in-Stats.is) (ap stats_line entries, refl)) c.put_stats.ensures
 
 pub returns-in-Line-clause-told : goal.returns-in-Line-clause-told
 returns-in-Line-clause-told c = λ st gone turn at history stays.
