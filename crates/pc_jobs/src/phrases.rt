@@ -5,7 +5,9 @@ ghost use Rattle.pc_jobs.specs.Phrases.{key_of, value_of, prefix_of, number_with
 
 use crate::prefixes::Prefix;
 use crate::works::{Fill, Op};
-use pc_lines::{KeyText, first_words, is_comment, is_value, key_text_of, number, signed_number, text_of};
+use pc_lines::{
+    KeyText, first_words, is_comment, is_value, key_text_of, number, signed_number, text_of,
+};
 use pc_types::{Key, MOST_SESSIONS, Refusal, SessionNo, Value};
 use std::alloc::Global;
 
