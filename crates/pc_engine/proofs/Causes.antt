@@ -5,7 +5,7 @@ use Rattle.pc_types.specs.declared.Outcome.TheVariants.{Granted, Queued, Died}
 use Rattle.pc_types.specs.declared.Change.TheVariants.{Add}
 use Rattle.pc_types.specs.declared.Change.{Change}
 use Rattle.std.proofs.Common.{◌≡◌, ℕ, List, [], ◌∷◌, Bool, true, false, Option, Some, None, refl, sym, ap, ◌∙◌, inl, inr, ◌++◌, is_some, is_none, not, ◌&&◌, ◌||◌}
-use Rattle.std.specs.Prelude.{MatchOption, if◌then◌else◌, ℤ}
+use Rattle.std.specs.Prelude.{MatchOption, if◌then◌else◌, ℤ, Result, Ok, Err, IfOk, IfErr, OnErr}
 use Rattle.pc_types.specs.declared.Reply.{Reply}
 use Rattle.pc_types.specs.declared.Reply.TheVariants as told
 use Rattle.pc_types.specs.declared.Refusal.{Refusal}
@@ -15,6 +15,8 @@ use Rattle.pc_types.specs.declared.Mode.TheVariants.{Exclusive}
 use Rattle.pc_types.specs.declared.Outcome.{Outcome}
 use Rattle.pc_model.specs.Database.{change_to, write_of, written}
 use Rattle.pc_model.specs.Replies.{first_refusal, by_outcome, is_granted}
+use Rattle.pc_answers.specs.Replies.{write_reply}
+use Rattle.pc_engine.specs.Ongoing.{Ongoing, own, after_answer}
 use Rattle.pc_engine.specs.Sessions.{with_session, after_writing, if_granted, writes_in, seen_in}
 use Rattle.pc_engine.specs.Steps.{OpenCause, WriteCause, Gets, WritesKey, Commits, is_log_full, Owes, outcome_in, after_asking, write_causes, adding_causes, AddsTo}
 use Rattle.pc_records.specs.RowSteps.{is_full_for, why_refused}
@@ -36,6 +38,10 @@ full_or_memory : (full : Bool) (old : Store) (Done : Type 0) → Owes (first_ref
 full_or_memory true old Done = (refl, refl)
 full_or_memory false old Done = inr (refl, refl)
 
+-- what goes on once the request of a write is answered
+abbrev asked_so : Ongoing → ℕ → List ℕ → Option (List ℕ) → Outcome → Ongoing
+asked_so was s key content o = after_answer was s key Exclusive o (if_granted o (with_session was.sessions s (after_writing (own was s) (write_of key (change_to content)))) was.sessions)
+
 -- a write that is answered
 pub write_answered : (old new : Store) (s : ℕ) (key : List ℕ) (content : Option (List ℕ)) (reply : Reply) (o : Outcome) → WriteCause old s key None → is_full_for old.kept key ≡ false → o ≡ outcome_in old s key Exclusive → reply ≡ by_outcome o told.Ok
     → new ≡ after_asking old s key Exclusive o (if_granted o (with_session old.sessions s (after_writing (active old s) (write_of key (change_to content)))) old.sessions) → WritesKey old s key content reply new
@@ -48,6 +54,14 @@ write_answered old new s key content reply o may room asked is leaves =
 -- a write that isn't answered, where nothing else stands against it
 pub write_unanswered : (w : Store) (s : ℕ) (key : List ℕ) (content : Option (List ℕ)) → WriteCause w s key None → WritesKey w s key content (told.Refused (why_refused w.kept key)) w
 write_unanswered w s key content may = rw (may.0.known, may.0.opened, may.0.ready, may.0.alive, may.1) (full_or_memory (is_full_for w.kept key) w _)
+
+-- a write whose request was answered so, or refused, where nothing stood against it before; the world holds what goes on
+pub write_requested : (W : Ongoing → Store) (was new : Ongoing) (s : ℕ) (key : List ℕ) (content : Option (List ℕ)) (r : Result Outcome Refusal) → WriteCause (W was) s key None →
+    ((o : Outcome) → W (asked_so was s key content o) ≡ after_asking (W was) s key Exclusive o (if_granted o (with_session (W was).sessions s (after_writing (active (W was) s) (write_of key (change_to content)))) (W was).sessions)) →
+    IfOk r (λ o. o ≡ outcome_in (W was) s key Exclusive) → IfOk r (λ o. new ≡ asked_so was s key content o) → IfOk r (λ o. is_full_for (W was).kept key ≡ false) →
+    IfErr r (λ e. e ≡ why_refused (W was).kept key) → OnErr r (new ≡ was) → WritesKey (W was) s key content (write_reply r) (W new)
+write_requested W was new s key content (Ok o) may same asked leaves room refusal stays = write_answered (W was) (W new) s key content (by_outcome o told.Ok) o may room asked refl (ap W leaves ∙ same o)
+write_requested W was new s key content (Err e) may same asked leaves room refusal stays = rw (refusal, stays) (write_unanswered (W was) s key content may)
 
 -- where the first of a list of causes stands, so it does before others
 stands_before : (causes more : List (Bool × Refusal)) (r : Reply) → first_refusal causes ≡ Some r → first_refusal (causes ++ more) ≡ Some r

@@ -13,6 +13,7 @@ mod Foretelling
 mod Requests
 mod Endings
 mod Standing
+mod Answered
 mod Runs
 mod Soundness
 mod Cycles

@@ -1,6 +1,7 @@
 //! The store's world: it answers events, one after the other, each by a legal reply.
 #![tactic(auto)]
 
+mod calls;
 mod lanes;
 mod laws;
 mod points;
@@ -14,5 +15,6 @@ mod writes;
 pub use laws::{
     standing_worlds_are_serial, standing_worlds_have_legal_queues, standing_worlds_keep_points,
 };
+pub use pc_answers::{AddAnswer, GetAnswer, TakeAnswer};
 pub use pc_types::{Event, Reply};
 pub use world::{World, run};

@@ -1,10 +1,12 @@
 //! What each event of the checkpointer does.
 ghost use Rattle.std.specs.Prelude.{◌≡◌, IfOk, option_copied};
+ghost use Rattle.pc_answers.specs.Replies.{take_reply};
 ghost use Rattle.pc_phase.specs.Agreement.{reply_of};
 ghost use Rattle.pc_engine.specs.Steps.{Changes, LeavesShelf, Takes, Shelves, Joins};
 
 use crate::shelving::{Shelvable, joined};
 use crate::world::World;
+use pc_answers::TakeAnswer;
 use pc_capture::SharedPart;
 use pc_log::TOKEN_SIZE;
 use pc_phase::{Change, Held};
@@ -37,24 +39,24 @@ impl World {
         Reply::Phase(phase, point)
     }
 
-    pub(crate) fn take(&mut self) -> Reply
-        ensures { Takes self.old result self.new }
+    pub(crate) fn take_key(&mut self) -> Result<TakeAnswer, Refusal>
+        ensures { Takes self.old (take_reply result) self.new }
     {
         if !self.sessions.phase().is(Phase::Capture) {
-            return Reply::Refused(Refusal::WrongPhase);
+            return Err(Refusal::WrongPhase);
         }
         let Some((first, at_point)) = self.sessions.first_closed() else {
-            return Reply::NoneLeft;
+            return Ok(TakeAnswer::NoneLeft);
         };
         let Ok((key, content, kept_key, kept_content)) = copied_twice(self.alloc, first, at_point)
         else {
-            return Reply::Refused(Refusal::OutOfMemory);
+            return Err(Refusal::OutOfMemory);
         };
         let Ok(()) = self.taken.put(kept_key, kept_content) else {
-            return Reply::Refused(Refusal::OutOfMemory);
+            return Err(Refusal::OutOfMemory);
         };
         self.sessions.take();
-        Reply::Took(key, content)
+        Ok(TakeAnswer::Took(key, content))
     }
 
     pub(crate) fn shelve(&mut self) -> Reply

@@ -1,6 +1,7 @@
 //! What is answered where whoever asks has no memory.
 ghost use Rattle.std.specs.Prelude.{◌≡◌, List, ℕ, Option};
 ghost use Rattle.pc_model.specs.History.{History};
+ghost use Rattle.pc_types.specs.declared.Event.TheVariants.{Get, Commit};
 ghost use Rattle.pc_types.specs.declared.Reply.TheVariants.{Refused};
 ghost use Rattle.pc_types.specs.declared.Refusal.{Refusal};
 ghost use Rattle.pc_engine.specs.Store.{setting_of};
@@ -22,58 +23,70 @@ impl World {
     {
         in_limits(event);
         match event {
-            Event::Get(session, key) => self.refuse_get(*session, key),
-            Event::Put(session, key, _) => self.refuse_write(*session, key),
-            Event::Del(session, key) => self.refuse_write(*session, key),
-            Event::Add(session, key, delta) => self.refuse_add(*session, key, *delta),
-            Event::Commit(session) => self.refuse_commit(*session),
+            Event::Get(session, key) => Reply::Refused(self.get_refusal(*session, key)),
+            Event::Put(session, key, _) => Reply::Refused(self.write_refusal(*session, key)),
+            Event::Del(session, key) => Reply::Refused(self.write_refusal(*session, key)),
+            Event::Add(session, key, delta) => {
+                Reply::Refused(self.add_refusal(*session, key, *delta))
+            }
+            Event::Commit(session) => Reply::Refused(self.commit_refusal(*session)),
             _ => unreachable!(),
         }
     }
 
-    fn refuse_get(&self, session: SessionNo, key: &Key) -> Reply
-        ensures gets { Gets self.now session key.now result self.now }
-        ensures refused { (why : Refusal) × (result ≡ Refused why) }
+    /// Refuses a read for which whoever asks has no memory, as `refuse` does.
+    pub fn refuse_get(&self, session: SessionNo, key: &Key) -> Refusal
+        ensures { (history : History) → Stands self.now history → Follows (setting_of self.now) history (Get session key.now) (Refused result) self.now }
+    {
+        self.get_refusal(session, key)
+    }
+
+    /// Refuses a commit for which whoever asks has no memory, as `refuse` does.
+    pub fn refuse_commit(&self, session: SessionNo) -> Refusal
+        ensures { (history : History) → Stands self.now history → Follows (setting_of self.now) history (Commit session) (Refused result) self.now }
+    {
+        self.commit_refusal(session)
+    }
+
+    fn get_refusal(&self, session: SessionNo, key: &Key) -> Refusal
+        ensures { Gets self.now session key.now (Refused result) self.now }
     {
         if let Some(why) = self.open_cause(session) {
-            return Reply::Refused(why);
+            return why;
         }
-        Reply::Refused(self.sessions.why_refused(key))
+        self.sessions.why_refused(key)
     }
 
-    fn refuse_write(&self, session: SessionNo, key: &Key) -> Reply
-        ensures writes { (content : Option (List ℕ)) → WritesKey self.now session key.now content result self.now }
-        ensures refused { (why : Refusal) × (result ≡ Refused why) }
+    fn write_refusal(&self, session: SessionNo, key: &Key) -> Refusal
+        ensures { (content : Option (List ℕ)) → WritesKey self.now session key.now content (Refused result) self.now }
     {
         if let Some(why) = self.write_cause(session, key) {
-            return Reply::Refused(why);
+            return why;
         }
-        Reply::Refused(self.sessions.why_refused(key))
+        self.sessions.why_refused(key)
     }
 
-    fn refuse_add(&self, session: SessionNo, key: &Key, delta: i64) -> Reply
-        ensures adds { AddsTo self.now session key.now delta result self.now }
-        ensures refused { (why : Refusal) × (result ≡ Refused why) }
+    fn add_refusal(&self, session: SessionNo, key: &Key, delta: i64) -> Refusal
+        ensures { AddsTo self.now session key.now delta (Refused result) self.now }
     {
         if let Some(why) = self.write_cause(session, key) {
-            return Reply::Refused(why);
+            return why;
         }
         match self.sessions.foretell(session, key, delta) {
-            Ok(_) => Reply::Refused(Refusal::OutOfMemory),
-            Err(why) => Reply::Refused(why),
+            Ok(_) => Refusal::OutOfMemory,
+            Err(why) => why,
         }
     }
 
-    fn refuse_commit(&self, session: SessionNo) -> Reply
-        ensures commits { Commits self.now session result self.now }
-        ensures refused { (why : Refusal) × (result ≡ Refused why) }
+    fn commit_refusal(&self, session: SessionNo) -> Refusal
+        ensures { Commits self.now session (Refused result) self.now }
     {
         if let Some(why) = self.open_cause(session) {
-            return Reply::Refused(why);
+            return why;
         }
         if self.log.is_full() {
-            return Reply::Refused(Refusal::LogFull);
+            return Refusal::LogFull;
         }
-        Reply::Refused(Refusal::OutOfMemory)
+        Refusal::OutOfMemory
     }
 }

@@ -12,6 +12,7 @@ ghost use Rattle.pc_model.specs.DistinctWrites.{AreDistinct};
 ghost use Rattle.pc_model.specs.Maps.{get};
 ghost use Rattle.pc_model.specs.Database.{KeysRise, database_of, written};
 ghost use Rattle.pc_model.specs.Replies.{by_outcome, read_reply};
+ghost use Rattle.pc_answers.specs.Replies.{reply_to_get};
 ghost use Rattle.pc_phase.specs.Phases.{held_back};
 ghost use Rattle.pc_records.specs.Rows.{record_of, stored};
 ghost use Rattle.pc_records.specs.RowSteps.{is_full_for, why_refused, is_waiting};
@@ -24,11 +25,11 @@ ghost use Rattle.pc_engine.specs.Ongoing.{own, at_start, answer_to, after_answer
 ghost use Rattle.pc_engine.specs.Store.{active_in};
 
 use crate::lanes::{Lane, Transaction};
+use pc_answers::GetAnswer;
 use pc_phase::{Change, Held, Phases};
 use pc_records::{Look, Reading, Records, Requested};
 use pc_types::{
-    Key, Outcome, Phase, Point, Refusal, Reply, SessionNo, SlotId, TxnNo, Value, Write, is_number,
-    sum,
+    Key, Outcome, Phase, Point, Refusal, SessionNo, SlotId, TxnNo, Value, Write, is_number, sum,
 };
 use std::alloc::{AllocError, Global};
 use std::hash::RandomState;
@@ -206,13 +207,13 @@ impl Sessions {
         alloc: Global,
         session: SessionNo,
         key: &Key,
-    ) -> Result<Reply, Refusal>
+    ) -> Result<GetAnswer, Refusal>
         requires place { session - 1 < length self.old.sessions }
         requires opened { is_none (own self.old session) ≡ false }
         requires ready { is_waiting self.old.kept.rows (number_in (own self.old session)) ≡ false }
-        ensures reply { IfOk result (λ reply. reply ≡ by_outcome (answer_to self.old session key.now Shared) (read_reply (seen_in self.old.kept.rows (own self.old session) key.now))) }
-        ensures answered { IfOk result (λ reply. self.new ≡ after_answer self.old session key.now Shared (answer_to self.old session key.now Shared) self.old.sessions) }
-        ensures room { IfOk result (λ reply. is_full_for self.old.kept key.now ≡ false) }
+        ensures reply { IfOk result (λ answer. reply_to_get answer ≡ by_outcome (answer_to self.old session key.now Shared) (read_reply (seen_in self.old.kept.rows (own self.old session) key.now))) }
+        ensures answered { IfOk result (λ answer. self.new ≡ after_answer self.old session key.now Shared (answer_to self.old session key.now Shared) self.old.sessions) }
+        ensures room { IfOk result (λ answer. is_full_for self.old.kept key.now ≡ false) }
         ensures refusal { IfErr result (λ why. why ≡ why_refused self.old.kept key.now) }
         ensures same { OnErr result (self.new ≡ self.old) }
     {
@@ -220,10 +221,10 @@ impl Sessions {
         let Reading { outcome, found } = self.records.read(alloc, number, key)?;
         match outcome {
             Outcome::Granted => Ok(answer(found)),
-            Outcome::Queued => Ok(Reply::Wait),
+            Outcome::Queued => Ok(GetAnswer::Wait),
             Outcome::Died => {
                 note_death(&mut self.lanes, session);
-                Ok(Reply::Died)
+                Ok(GetAnswer::Died)
             }
         }
     }
@@ -489,12 +490,12 @@ fn why_refused(records: &Records, key: &Key) -> Refusal
     }
 }
 
-// The reply to a read that gives this.
-fn answer(found: Option<Value>) -> Reply
-    ensures { result ≡ read_reply found }
+// The answer to a read that gives this.
+fn answer(found: Option<Value>) -> GetAnswer
+    ensures { reply_to_get result ≡ read_reply found }
 {
     match found {
-        None => Reply::Absent,
-        Some(value) => Reply::Found(value),
+        None => GetAnswer::Absent,
+        Some(value) => GetAnswer::Found(value),
     }
 }

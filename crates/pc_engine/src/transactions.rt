@@ -1,29 +1,31 @@
-//! What each event of a session does.
-ghost use Rattle.std.specs.Prelude.{◌≡◌, ◌==◌, ◌||◌, nat_lt, Some, None, option_copied};
+//! What each call of a session does.
+ghost use Rattle.std.specs.Prelude.{◌≡◌, ◌==◌, ◌||◌, nat_lt, option_copied};
+ghost use Rattle.pc_answers.specs.Replies.{begin_reply, get_reply, write_reply, add_reply, commit_reply, abort_reply};
 ghost use Rattle.pc_engine.specs.Steps.{OpenCause, WriteCause, Begins, Gets, WritesKey, AddsTo, Commits, Aborts};
 
 use crate::world::World;
 use crate::writes::{add_write, content_write};
+use pc_answers::{AddAnswer, GetAnswer};
 use pc_log::commit_size;
-use pc_types::{Key, MOST_TRANSACTIONS, Outcome, Refusal, Reply, SessionNo, Value};
+use pc_types::{Key, Lsn, MOST_TRANSACTIONS, Outcome, Refusal, SessionNo, TxnNo, Value};
 
 impl World {
-    pub(crate) fn begin(&mut self, session: SessionNo) -> Reply
-        ensures { Begins self.old session result self.new }
+    pub(crate) fn open_transaction(&mut self, session: SessionNo) -> Result<TxnNo, Refusal>
+        ensures { Begins self.old session (begin_reply result) self.new }
     {
         if is_no_session(self.sessions.len(), session) {
-            return Reply::Refused(Refusal::NoSession);
+            return Err(Refusal::NoSession);
         }
         if self.sessions.active(session).is_some() {
-            return Reply::Refused(Refusal::AlreadyBegun);
+            return Err(Refusal::AlreadyBegun);
         }
         if self.sessions.begun() == MOST_TRANSACTIONS {
-            return Reply::Refused(Refusal::LogFull);
+            return Err(Refusal::LogFull);
         }
-        Reply::Begun(self.sessions.begin(session))
+        Ok(self.sessions.begin(session))
     }
 
-    // Why an event of the session's open transaction is refused, whatever else it asks, if it is.
+    // Why a call of the session's open transaction is refused, whatever else it asks, if it is.
     pub(crate) fn open_cause(&self, session: SessionNo) -> Option<Refusal>
         ensures { OpenCause self.now session result }
     {
@@ -42,73 +44,61 @@ impl World {
         None
     }
 
-    pub(crate) fn get(&mut self, session: SessionNo, key: &Key) -> Reply
-        ensures { Gets self.old session key.now result self.new }
+    pub(crate) fn read_key(&mut self, session: SessionNo, key: &Key) -> Result<GetAnswer, Refusal>
+        ensures { Gets self.old session key.now (get_reply result) self.new }
     {
         if let Some(why) = self.open_cause(session) {
-            return Reply::Refused(why);
+            return Err(why);
         }
-        match self.sessions.read(self.alloc, session, key) {
-            Ok(reply) => reply,
-            Err(why) => Reply::Refused(why),
-        }
-    }
-
-    pub(crate) fn put(&mut self, session: SessionNo, key: &Key, value: &Value) -> Reply
-        ensures { WritesKey self.old session key.now (Some value.now) result self.new }
-    {
-        self.write(session, key, Some(value))
-    }
-
-    pub(crate) fn delete(&mut self, session: SessionNo, key: &Key) -> Reply
-        ensures { WritesKey self.old session key.now None result self.new }
-    {
-        self.write(session, key, None)
+        self.sessions.read(self.alloc, session, key)
     }
 
     // Sets the key to the value, or removes it.
-    fn write(&mut self, session: SessionNo, key: &Key, value: Option<&Value>) -> Reply
-        ensures { WritesKey self.old session key.now (option_copied value.entry) result self.new }
+    pub(crate) fn write_key(
+        &mut self,
+        session: SessionNo,
+        key: &Key,
+        value: Option<&Value>,
+    ) -> Result<Outcome, Refusal>
+        ensures { WritesKey self.old session key.now (option_copied value.entry) (write_reply result) self.new }
     {
         if let Some(why) = self.write_cause(session, key) {
-            return Reply::Refused(why);
+            return Err(why);
         }
         let Ok((write, value)) = content_write(self.alloc, key, value) else {
-            return Reply::Refused(self.sessions.why_refused(key));
+            return Err(self.sessions.why_refused(key));
         };
-        match self
-            .sessions
+        self.sessions
             .request(self.alloc, session, write, value, None)
-        {
-            Ok(Outcome::Granted) => Reply::Ok,
-            Ok(Outcome::Queued) => Reply::Wait,
-            Ok(Outcome::Died) => Reply::Died,
-            Err(why) => Reply::Refused(why),
-        }
     }
 
-    pub(crate) fn add(&mut self, session: SessionNo, key: &Key, delta: i64) -> Reply
-        ensures { AddsTo self.old session key.now delta result self.new }
+    pub(crate) fn add_to_key(
+        &mut self,
+        session: SessionNo,
+        key: &Key,
+        delta: i64,
+    ) -> Result<AddAnswer, Refusal>
+        ensures { AddsTo self.old session key.now delta (add_reply result) self.new }
     {
         if let Some(why) = self.write_cause(session, key) {
-            return Reply::Refused(why);
+            return Err(why);
         }
         let prospect = match self.sessions.foretell(session, key, delta) {
             Ok(prospect) => prospect,
-            Err(why) => return Reply::Refused(why),
+            Err(why) => return Err(why),
         };
         let Ok((write, value)) = add_write(self.alloc, key, delta, prospect.sum) else {
-            return Reply::Refused(Refusal::OutOfMemory);
+            return Err(Refusal::OutOfMemory);
         };
         let near = prospect.near;
         match self
             .sessions
             .request(self.alloc, session, write, value, near)
         {
-            Ok(Outcome::Granted) => Reply::Sum(prospect.sum.unwrap_or(0)),
-            Ok(Outcome::Queued) => Reply::Wait,
-            Ok(Outcome::Died) => Reply::Died,
-            Err(why) => Reply::Refused(why),
+            Ok(Outcome::Granted) => Ok(AddAnswer::Sum(prospect.sum.unwrap_or(0))),
+            Ok(Outcome::Queued) => Ok(AddAnswer::Wait),
+            Ok(Outcome::Died) => Ok(AddAnswer::Died),
+            Err(why) => Err(why),
         }
     }
 
@@ -125,35 +115,35 @@ impl World {
         None
     }
 
-    pub(crate) fn commit(&mut self, session: SessionNo) -> Reply
-        ensures { Commits self.old session result self.new }
+    pub(crate) fn commit_transaction(&mut self, session: SessionNo) -> Result<Lsn, Refusal>
+        ensures { Commits self.old session (commit_reply result) self.new }
     {
         if let Some(why) = self.open_cause(session) {
-            return Reply::Refused(why);
+            return Err(why);
         }
         if self.log.is_full() {
-            return Reply::Refused(Refusal::LogFull);
+            return Err(Refusal::LogFull);
         }
         let writes = self.sessions.writes(session);
         if self.log.reserve(commit_size(writes)).is_err() {
-            return Reply::Refused(Refusal::OutOfMemory);
+            return Err(Refusal::OutOfMemory);
         }
         let number = self.log.append_commit(session, writes);
         self.sessions.commit(session);
-        Reply::Committed(number)
+        Ok(number)
     }
 
-    pub(crate) fn abort(&mut self, session: SessionNo) -> Reply
-        ensures { Aborts self.old session result self.new }
+    pub(crate) fn abort_transaction(&mut self, session: SessionNo) -> Result<(), Refusal>
+        ensures { Aborts self.old session (abort_reply result) self.new }
     {
         if is_no_session(self.sessions.len(), session) {
-            return Reply::Refused(Refusal::NoSession);
+            return Err(Refusal::NoSession);
         }
         if self.sessions.active(session).is_none() {
-            return Reply::Refused(Refusal::NoTransaction);
+            return Err(Refusal::NoTransaction);
         }
         self.sessions.abort(session);
-        Reply::Aborted
+        Ok(())
     }
 }
 

@@ -20,6 +20,9 @@ ghost use Rattle.pc_engine.specs.Waiting.{waits_after};
 
 use crate::sessions::Sessions;
 use crate::shelving::{file_at, shared_at};
+use pc_answers::{
+    abort_reply, add_reply, begin_reply, commit_reply, get_reply, take_reply, write_reply,
+};
 use pc_audit::is_sound;
 use pc_capture::SharedPart;
 use pc_kept_log::Log;
@@ -119,17 +122,17 @@ impl World {
     {
         in_limits(event);
         match event {
-            Event::Begin(session) => self.begin(*session),
-            Event::Get(session, key) => self.get(*session, key),
-            Event::Put(session, key, value) => self.put(*session, key, value),
-            Event::Del(session, key) => self.delete(*session, key),
-            Event::Add(session, key, delta) => self.add(*session, key, *delta),
-            Event::Commit(session) => self.commit(*session),
-            Event::Abort(session) => self.abort(*session),
+            Event::Begin(session) => begin_reply(self.begin(*session)),
+            Event::Get(session, key) => get_reply(self.get(*session, key)),
+            Event::Put(session, key, value) => write_reply(self.put(*session, key, value)),
+            Event::Del(session, key) => write_reply(self.del(*session, key)),
+            Event::Add(session, key, delta) => add_reply(self.add(*session, key, *delta)),
+            Event::Commit(session) => commit_reply(self.commit(*session)),
+            Event::Abort(session) => abort_reply(self.abort(*session)),
             Event::StartPoint => self.advance(Change::StartPoint),
             Event::Seal => self.advance(Change::Seal),
             Event::OpenCapture => self.advance(Change::OpenCapture),
-            Event::Take => self.take(),
+            Event::Take => take_reply(self.take()),
             Event::Done => self.shelve(),
             Event::Rest => self.advance(Change::Rest),
             Event::Join(first, second) => self.join_files(*first, *second),

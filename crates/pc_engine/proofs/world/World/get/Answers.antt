@@ -1,5 +1,10 @@
-use Rattle.pc_engine.proofs.Causes.{get_refused}
+use Rattle.std.proofs.Common.{◌≡◌}
+use Rattle.pc_engine.proofs.Answered.{get_refused}
+use Rattle.pc_engine.proofs.Requests.{gets_follows}
+use Rattle.pc_engine.proofs.Standing.{gets_keeps}
 use Rattle.pc_engine.proofs.world.World.get.Goals as goal
 
-pub returns-in-Some : goal.returns-in-Some
-returns-in-Some c = get_refused c.args.self.now c.args.session c.args.key.now c.in-Some.why c.in-Some.ensures
+pub returns : goal.returns
+returns c =
+    let kept = gets_keeps _ _ _ _ _ c.read_key.ensures in
+    record { follows = λ history stands. gets_follows _ _ history _ _ stands _ c.read_key.ensures; setting = kept.0; refused = get_refused c.read_key.result (c.read_key.new.self ≡ c.args.self.now) kept.1 }

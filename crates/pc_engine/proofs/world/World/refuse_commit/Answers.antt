@@ -1,5 +1,5 @@
-use Rattle.pc_engine.proofs.Causes.{commit_refused}
+use Rattle.pc_engine.proofs.Endings.{commits_follows}
 use Rattle.pc_engine.proofs.world.World.refuse_commit.Goals as goal
 
-pub returns-in-Some-clause-commits : goal.returns-in-Some-clause-commits
-returns-in-Some-clause-commits c = commit_refused c.args.self.now c.args.session c.in-Some.why c.in-Some.ensures
+pub returns : goal.returns
+returns c = λ history stands. commits_follows _ _ history _ _ stands c.commit_refusal.ensures

@@ -1,5 +1,5 @@
-use Rattle.pc_engine.proofs.Causes.{get_refused}
+use Rattle.pc_engine.proofs.Requests.{gets_follows}
 use Rattle.pc_engine.proofs.world.World.refuse_get.Goals as goal
 
-pub returns-in-Some-clause-gets : goal.returns-in-Some-clause-gets
-returns-in-Some-clause-gets c = get_refused c.args.self.now c.args.session c.args.key.now c.in-Some.why c.in-Some.ensures
+pub returns : goal.returns
+returns c = λ history stands. gets_follows _ _ history _ _ stands _ c.get_refusal.ensures

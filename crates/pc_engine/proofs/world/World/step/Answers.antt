@@ -1,49 +1,48 @@
-use Rattle.std.proofs.Common.{Some, None}
+use Rattle.std.proofs.Common.{◌≡◌}
 use Rattle.std.specs.Int.{w64}
 use Rattle.std.proofs.lemmas.Int.{to_z-of_z}
 use Rattle.pc_types.proofs.NumberLaws.{fits_is}
-use Rattle.pc_engine.proofs.Standing.{begins_keeps, gets_keeps, writes_keeps, adds_keeps, commits_keeps, aborts_keeps, starts_keeps, seals_keeps, moves_keeps, takes_keeps, shelves_keeps, joins_keeps}
-use Rattle.pc_engine.proofs.Endings.{begins_follows, commits_follows, aborts_follows}
-use Rattle.pc_engine.proofs.Requests.{gets_follows, puts_follows, dels_follows, adds_follows}
-use Rattle.pc_engine.proofs.Cycles.{starts_follows, seals_follows, opens_follows, takes_follows, shelves_follows, rests_follows, joins_follows}
+use Rattle.pc_engine.proofs.Answered.{refused_begin, refused_get, refused_write, refused_add, refused_commit, refused_abort, refused_take}
+use Rattle.pc_engine.proofs.Standing.{starts_keeps, seals_keeps, moves_keeps, shelves_keeps, joins_keeps}
+use Rattle.pc_engine.proofs.Cycles.{starts_follows, seals_follows, opens_follows, shelves_follows, rests_follows, joins_follows}
 use Rattle.pc_engine.proofs.world.World.step.Goals as goal
 
 pub returns-in-Begin : goal.returns-in-Begin
 returns-in-Begin c =
-    let kept = begins_keeps _ _ _ _ c.begin.ensures in
-    record { follows = λ history stands. rw c.in-Begin.is (begins_follows _ _ history _ _ stands c.begin.ensures); setting = kept.0; refused = kept.1 }
+    let e = c.begin.ensures in
+    rw c.begin_reply.ensures (record { follows = λ history stands. rw c.in-Begin.is (e.follows history stands); setting = e.setting; refused = refused_begin c.begin.result (c.begin.new.self ≡ c.args.self.now) e.refused })
 
 pub returns-in-Get : goal.returns-in-Get
 returns-in-Get c =
-    let kept = gets_keeps _ _ _ _ _ c.get.ensures in
-    record { follows = λ history stands. rw c.in-Get.is (gets_follows _ _ history _ _ stands _ c.get.ensures); setting = kept.0; refused = kept.1 }
+    let e = c.get.ensures in
+    rw c.get_reply.ensures (record { follows = λ history stands. rw c.in-Get.is (e.follows history stands); setting = e.setting; refused = refused_get c.get.result (c.get.new.self ≡ c.args.self.now) e.refused })
 
 pub returns-in-Put : goal.returns-in-Put
 returns-in-Put c =
-    let kept = writes_keeps _ _ _ (Some _) _ _ c.put.ensures in
-    record { follows = λ history stands. rw c.in-Put.is (puts_follows _ _ history _ _ stands _ _ (rw c.in-Put.is at c.in_limits.ensures) c.put.ensures); setting = kept.0; refused = kept.1 }
+    let e = c.put.ensures in
+    rw c.write_reply.ensures (record { follows = λ history stands. rw c.in-Put.is (e.follows history stands); setting = e.setting; refused = refused_write c.put.result (c.put.new.self ≡ c.args.self.now) e.refused })
 
 pub returns-in-Del : goal.returns-in-Del
 returns-in-Del c =
-    let kept = writes_keeps _ _ _ None _ _ c.delete.ensures in
-    record { follows = λ history stands. rw c.in-Del.is (dels_follows _ _ history _ _ stands _ (rw c.in-Del.is at c.in_limits.ensures) c.delete.ensures); setting = kept.0; refused = kept.1 }
+    let e = c.del.ensures in
+    rw c.write_reply-in-Del.ensures (record { follows = λ history stands. rw c.in-Del.is (e.follows history stands); setting = e.setting; refused = refused_write c.del.result (c.del.new.self ≡ c.args.self.now) e.refused })
 
 pub returns-in-Add : goal.returns-in-Add
 returns-in-Add c =
+    let e = c.add.ensures in
     let limits = rw c.in-Add.is at c.in_limits.ensures in
-    let adds = rw (to_z-of_z w64 c.in-Add.delta (fits_is c.in-Add.delta limits.1)) at c.add.ensures in
-    let kept = adds_keeps _ _ _ _ _ _ adds in
-    record { follows = λ history stands. rw c.in-Add.is (adds_follows _ _ history _ _ stands _ _ limits adds); setting = kept.0; refused = kept.1 }
+    let whole = to_z-of_z w64 c.in-Add.delta (fits_is c.in-Add.delta limits.1) in
+    rw c.add_reply.ensures (record { follows = λ history stands. rw c.in-Add.is (rw whole at (e.follows history stands)); setting = e.setting; refused = refused_add c.add.result (c.add.new.self ≡ c.args.self.now) e.refused })
 
 pub returns-in-Commit : goal.returns-in-Commit
 returns-in-Commit c =
-    let kept = commits_keeps _ _ _ _ c.commit.ensures in
-    record { follows = λ history stands. rw c.in-Commit.is (commits_follows _ _ history _ _ stands c.commit.ensures); setting = kept.0; refused = kept.1 }
+    let e = c.commit.ensures in
+    rw c.commit_reply.ensures (record { follows = λ history stands. rw c.in-Commit.is (e.follows history stands); setting = e.setting; refused = refused_commit c.commit.result (c.commit.new.self ≡ c.args.self.now) e.refused })
 
 pub returns-in-Abort : goal.returns-in-Abort
 returns-in-Abort c =
-    let kept = aborts_keeps _ _ _ _ c.abort.ensures in
-    record { follows = λ history stands. rw c.in-Abort.is (aborts_follows _ _ history _ _ stands c.abort.ensures); setting = kept.0; refused = kept.1 }
+    let e = c.abort.ensures in
+    rw c.abort_reply.ensures (record { follows = λ history stands. rw c.in-Abort.is (e.follows history stands); setting = e.setting; refused = refused_abort c.abort.result (c.abort.new.self ≡ c.args.self.now) e.refused })
 
 pub returns-in-StartPoint : goal.returns-in-StartPoint
 returns-in-StartPoint c =
@@ -62,8 +61,8 @@ returns-in-OpenCapture c =
 
 pub returns-in-Take : goal.returns-in-Take
 returns-in-Take c =
-    let kept = takes_keeps _ _ _ c.take.ensures in
-    record { follows = λ history stands. rw c.in-Take.is (takes_follows _ _ history _ stands c.take.ensures); setting = kept.0; refused = kept.1 }
+    let e = c.take.ensures in
+    rw c.take_reply.ensures (record { follows = λ history stands. rw c.in-Take.is (e.follows history stands); setting = e.setting; refused = refused_take c.take.result (c.take.new.self ≡ c.args.self.now) e.refused })
 
 pub returns-in-Done : goal.returns-in-Done
 returns-in-Done c =

@@ -1,12 +1,10 @@
-use Rattle.std.proofs.Common.{◌+◌, ◌≤◌, subst, sym, List, Option, ℕ, length}
-use Rattle.pc_engine.proofs.FirstClosed.{first_key}
-use Rattle.pc_engine.proofs.Gathered.{length_put}
-use Rattle.pc_engine.proofs.Within.{taken_within}
+use Rattle.std.proofs.Common.{◌≡◌}
+use Rattle.pc_engine.proofs.Answered.{take_refused}
+use Rattle.pc_engine.proofs.Cycles.{takes_follows}
+use Rattle.pc_engine.proofs.Standing.{takes_keeps}
 use Rattle.pc_engine.proofs.world.World.take.Goals as goal
 
-pub invariant_of-self-2 : goal.invariant_of-self-2
-invariant_of-self-2 c =
-    let was = c.self.inside.sessions in
-    let found = first_key was.kept.rows was.closed_set c.in-Some.first.now _ c.in-Some.ensures in
-    let few = subst (λ (ts : List (List ℕ × Option (List ℕ))). length ts ≤ length c.self.inside.taken + 1) (sym c.in-Ok-put.ensures.put) (length_put _ _ c.self.inside.taken) in
-    rw (c.take.ensures c.in-Some.first.now found.0 found.1) (taken_within _ _ _ _ _ c.self.invariant c.in-Some.first.now found.0 _ found.1 few)
+pub returns : goal.returns
+returns c =
+    let kept = takes_keeps _ _ _ c.take_key.ensures in
+    record { follows = λ history stands. takes_follows _ _ history _ stands c.take_key.ensures; setting = kept.0; refused = take_refused c.take_key.result (c.take_key.new.self ≡ c.args.self.now) kept.1 }

@@ -1,0 +1,10 @@
+//! How each call of a store's world is answered, and the reply that tells of it.
+#![tactic(auto)]
+
+mod answers;
+mod replies;
+
+pub use answers::{AddAnswer, GetAnswer, TakeAnswer};
+pub use replies::{
+    abort_reply, add_reply, begin_reply, commit_reply, get_reply, take_reply, write_reply,
+};

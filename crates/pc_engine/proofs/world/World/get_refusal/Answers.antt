@@ -1,0 +1,5 @@
+use Rattle.pc_engine.proofs.Causes.{get_refused}
+use Rattle.pc_engine.proofs.world.World.get_refusal.Goals as goal
+
+pub returns-in-Some : goal.returns-in-Some
+returns-in-Some c = get_refused c.args.self.now c.args.session c.args.key.now c.in-Some.why c.in-Some.ensures
