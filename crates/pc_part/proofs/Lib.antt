@@ -11,6 +11,7 @@ mod JoinedFiles
 mod JoinedLists
 mod LaidLists
 mod LawfulParts
+pub mod LentLaws
 pub mod LocalSteps
 mod Magics
 pub mod PartFileLaws

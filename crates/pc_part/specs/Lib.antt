@@ -2,6 +2,7 @@ pub mod Bases
 pub mod Joins
 pub mod Lawful
 pub mod Layings
+pub mod Lent
 pub mod Parts
 pub mod Reading
 pub mod RoundTrips

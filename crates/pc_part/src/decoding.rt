@@ -256,7 +256,7 @@ fn read_entry<'a>(
 
 // A point of one of the ranges.
 #[tactic(auto, unfolding(crate::specs::Reading::point_at))]
-fn read_point<'a>(ranges: &[Range], bytes: &'a [u8]) -> Result<(u16, &'a [u8]), Refusal>
+pub(crate) fn read_point<'a>(ranges: &[Range], bytes: &'a [u8]) -> Result<(u16, &'a [u8]), Refusal>
     requires { RangesFrom 1 ranges.now }
     ensures { Reads (λ x. (x.0, x.1.now)) result (point_at ranges.now bytes.now) }
 {

@@ -7,9 +7,12 @@ mod base_decoding;
 mod base_encoding;
 mod decoding;
 mod encoding;
+mod entry_text;
+mod heads;
 mod joining;
 mod laws;
 mod laying;
+mod lent_entry;
 mod part;
 mod ranges;
 mod uniting;
@@ -17,6 +20,7 @@ mod uniting;
 pub use base::Base;
 pub use decoding::{PartHeader, read_header, read_next_entry};
 pub use encoding::{put_end, put_entry, put_head, put_ranges};
+pub use entry_text::EntryText;
 pub use joining::join;
 pub use laws::{
     base_texts_are_read, conflicts_are_mutual, cut_base_texts_are_short, cut_part_texts_are_short,
@@ -24,6 +28,7 @@ pub use laws::{
     part_texts_are_read, read_bases_are_texts, read_parts_are_texts, steps_are_local,
 };
 pub use laying::lay;
+pub use lent_entry::{LentEntry, lend_next_entry};
 pub use part::Part;
 pub use ranges::{Range, points_in};
 pub use uniting::union_ranges;

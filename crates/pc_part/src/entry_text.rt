@@ -1,0 +1,215 @@
+//! An entry of a part that is kept as its text.
+ghost use Rattle.std.specs.Prelude.{◌≡◌, ◌≤◌, ◌+◌, ◌∷◌, ◌++◌, length, take, drop, IfOk, OnOk, option_map};
+ghost use Rattle.pc_types.specs.FieldForms.{IsBytes};
+ghost use Rattle.pc_types.specs.Heads.{head};
+ghost use Rattle.pc_types.specs.Limits.{IsKey};
+ghost use Rattle.pc_part.specs.Lawful.{HasLimits};
+ghost use Rattle.pc_part.specs.Lent.{IsKept, entry_in};
+ghost use Rattle.pc_part.specs.Texts.{triple_text};
+
+use crate::encoding::put_entry;
+use crate::heads::head_of;
+use crate::lent_entry::LentEntry;
+use pc_taken::LentTriple;
+use pc_types::{Format, Key, Point, SPACE_BYTES, Tally, Triple, Value, pairs_are_keys};
+use std::alloc::{AllocError, Global};
+use std::marker::Model;
+
+// The length of a key stands in so many bytes.
+const LENGTH_BYTES: usize = 2;
+
+/// An entry of a part, kept as its text in format 02, whose memory can be used for another one. A contract sees the entry.
+#[derive(Drop)]
+pub struct EntryText {
+    text: Vec<u8>,
+    // The head of its key.
+    head: u64,
+    // Where its key ends.
+    key_end: u16,
+    point: u16,
+}
+
+impl Model for EntryText {
+    ghost use Rattle.pc_types.specs.declared.Triple.{Triple};
+    ghost use Rattle.pc_part.specs.Lent.{IsHead, IsKept, entry_in};
+
+    ghost Value = { Triple };
+
+    ghost view = { λ e. entry_in e.text.items e.key_end e.point };
+
+    ghost invariant = { λ e. IsKept e.text.items e.key_end e.point × IsHead (entry_in e.text.items e.key_end e.point).key e.head };
+}
+
+impl EntryText {
+    /// The entry, kept in this memory. It fails only where memory ran out.
+    pub fn of(memory: Vec<u8>, entry: &LentTriple) -> Result<EntryText, AllocError>
+        ensures { IfOk result (λ kept. kept ≡ entry.now) }
+    {
+        let mut text = memory;
+        text.clear();
+        let mut out = Tally::new(text);
+        match put_entry(&mut out, entry) {
+            Ok(()) => {
+                let key_end = (LENGTH_BYTES + entry.key.as_bytes().len()) as u16;
+                let kept = EntryText::of_text(out.into_inner(), key_end, entry.point.0);
+                Ok(kept)
+            }
+            Err(_) => Err(AllocError),
+        }
+    }
+
+    // The entry of this point with this text, in which its key ends there.
+    #[inline(always)]
+    fn of_text(text: Vec<u8>, key_end: u16, point: u16) -> EntryText
+        requires { IsKept text.items key_end point }
+        ensures { result ≡ entry_in text.items key_end point }
+    {
+        let head = head_of(&text[LENGTH_BYTES..usize::from(key_end)]);
+        EntryText {
+            text,
+            head,
+            key_end,
+            point,
+        }
+    }
+
+    /// The bytes of its key, as `Key::as_bytes` has them: the space's two, and its own behind them.
+    #[inline(always)]
+    pub fn key(&self) -> &[u8]
+        ensures bytes { result.now ≡ self.now.key }
+        ensures in_limits { IsKey self.now.key }
+    {
+        &self.text[LENGTH_BYTES..usize::from(self.key_end)]
+    }
+
+    /// The head of its key.
+    #[inline(always)]
+    pub fn head(&self) -> u64
+        ensures head { result ≡ head self.now.key }
+        ensures bytes { IsBytes self.now.key }
+    {
+        self.head
+    }
+
+    /// Its point.
+    #[inline(always)]
+    pub fn point(&self) -> u16
+        ensures { result ≡ self.now.point }
+    {
+        self.point
+    }
+
+    /// What its key had at the point, a value or nothing.
+    #[inline(always)]
+    pub fn value(&self) -> Option<&[u8]>
+        ensures { option_map (λ value. value.now) result ≡ self.now.content }
+    {
+        let key_end = usize::from(self.key_end);
+        if self.text[key_end + 4] == 0 {
+            return None;
+        }
+        Some(&self.text[key_end + 9..])
+    }
+
+    /// Its text in format 02.
+    #[inline(always)]
+    pub fn text(&self) -> &[u8]
+        ensures text { result.now ≡ triple_text self.now }
+        ensures lawful { HasLimits self.now }
+    {
+        &self.text
+    }
+
+    /// Its memory, in which another one can be kept.
+    #[inline(always)]
+    pub fn into_memory(self) -> Vec<u8> {
+        self.text
+    }
+
+    /// The entry as a triple. It fails only where memory ran out.
+    pub fn triple(&self, alloc: Global) -> Result<Triple, AllocError>
+        ensures { IfOk result (λ triple. triple ≡ self.now) }
+    {
+        let key = key_of(alloc, self.key())?;
+        let content = content_of(alloc, self.value())?;
+        Ok(Triple {
+            key,
+            point: Point(self.point),
+            content,
+        })
+    }
+}
+
+impl<'a> LentEntry<'a> {
+    /// The entry, kept in this memory. It fails only where memory ran out.
+    #[inline(always)]
+    pub fn keep(&self, memory: Vec<u8>) -> Result<EntryText, AllocError>
+        ensures { IfOk result (λ kept. kept ≡ self.now) }
+    {
+        let text = self.text_in(memory)?;
+        let kept = EntryText::of_text(text, self.key_end(), self.point);
+        Ok(kept)
+    }
+
+    // Its text in format 02, in this memory. It fails only where memory ran out.
+    #[inline(always)]
+    fn text_in(&self, memory: Vec<u8>) -> Result<Vec<u8>, AllocError>
+        ensures text { IfOk result (λ text. text.items ≡ triple_text self.now) }
+        ensures limits { HasLimits self.now }
+    {
+        let mut text = memory;
+        text.clear();
+        match self.format {
+            Format::First => put_widened(&mut text, self.text)?,
+            Format::Second => text.extend_from_slice(self.text)?,
+        }
+        Ok(text)
+    }
+
+    // Where its key ends in its text in format 02.
+    #[inline(always)]
+    fn key_end(&self) -> u16
+        ensures { result ≡ 2 + length self.now.key }
+    {
+        match self.format {
+            Format::First => (LENGTH_BYTES + SPACE_BYTES + self.key.len()) as u16,
+            Format::Second => (LENGTH_BYTES + self.key.len()) as u16,
+        }
+    }
+}
+
+// Appends the text of an entry in format 01, with space 0 behind the length of its key. It fails only where memory ran out.
+fn put_widened(text: &mut Vec<u8>, first: &[u8]) -> Result<(), AllocError>
+    requires { 2 ≤ length first.now }
+    ensures { OnOk result (text.new.items ≡ text.old.items ++ (take 2 first.now ++ (0 ∷ 0 ∷ drop 2 first.now))) }
+{
+    text.extend_from_slice(&first[..LENGTH_BYTES])?;
+    text.extend_from_slice(&[0; SPACE_BYTES])?;
+    text.extend_from_slice(&first[LENGTH_BYTES..])
+}
+
+// The key of these bytes, the space's two and its own behind them. It fails only where memory ran out.
+fn key_of(alloc: Global, bytes: &[u8]) -> Result<Key, AllocError>
+    requires { IsKey bytes.now }
+    ensures { IfOk result (λ key. key ≡ bytes.now) }
+{
+    pairs_are_keys();
+    let space = u16::from_be_bytes([bytes[0], bytes[1]]);
+    match Key::in_space(alloc, space, &bytes[SPACE_BYTES..]) {
+        Ok(key) => Ok(key),
+        Err(_) => Err(AllocError),
+    }
+}
+
+// What a key has, of its own. It fails only where memory ran out.
+fn content_of(alloc: Global, value: Option<&[u8]>) -> Result<Option<Value>, AllocError>
+    ensures { IfOk result (λ content. content ≡ option_map (λ bytes. bytes.now) value.entry) }
+{
+    let Some(bytes) = value else {
+        return Ok(None);
+    };
+    match Value::new(alloc, bytes) {
+        Ok(value) => Ok(Some(value)),
+        Err(_) => Err(AllocError),
+    }
+}
