@@ -3,7 +3,6 @@ use Rattle.std.proofs.Common.{◌≡◌, ℕ, ◌<◌, ◌≤◌, eqb, ◌||◌,
 use Rattle.std.specs.List.{All, Contains}
 use Rattle.std.specs.Prelude.{IsTrue, IfOk, MatchResult}
 use Rattle.std.specs.Ordering.{is_eq, is_lt}
-use Rattle.std.specs.declared.alloc.Global.{Global}
 use Rattle.std.specs.FinMap.{find, is_sorted}
 use Rattle.std.specs.FinMap.Entries.{below_all}
 use Rattle.std.specs.Cmp.{tied_itself}
@@ -275,16 +274,16 @@ if_ok P Q (Ok x) more is = more x is
 if_ok P Q (Err why) more is = tt
 
 -- what `merge_all` answers of parts
-module _ {X : Type 0} (items : X → List Triple) (alloc : Global) (parts : List File) (inputs now : List PartEntries) (is : inputs ≡ map (entries_of_file alloc) parts) where
+module _ {X : Type 0} (items : X → List Triple) (parts : List File) (inputs now : List PartEntries) (is : inputs ≡ map entries_of_file parts) where
   pub merged_by : (r : Result X Refusal) → ((was : List Coming) → all_known (map entries_coming inputs) ≡ Some was → MatchResult r (λ x. IsMerge was (items x)) (IsCauseOfAll was)) → AllStand (map entries_standing inputs) (map entries_standing now) r
       → MatchResult r (λ x. IsMerge (map file_coming parts) (items x)) (IsCauseFor parts)
-  merged_by r answers stand = by r (answers (map file_coming parts) (ap (λ (l : List PartEntries). all_known (map entries_coming l)) is ∙ known alloc parts)) (subst (λ (l : List PartEntries). AllStand (map entries_standing l) (map entries_standing now) r) is stand)
+  merged_by r answers stand = by r (answers (map file_coming parts) (ap (λ (l : List PartEntries). all_known (map entries_coming l)) is ∙ known parts)) (subst (λ (l : List PartEntries). AllStand (map entries_standing l) (map entries_standing now) r) is stand)
     where
-      by : (r : Result X Refusal) → MatchResult r (λ x. IsMerge (map file_coming parts) (items x)) (IsCauseOfAll (map file_coming parts)) → AllStand (map entries_standing (map (entries_of_file alloc) parts)) (map entries_standing now) r → MatchResult r (λ x. IsMerge (map file_coming parts) (items x)) (IsCauseFor parts)
+      by : (r : Result X Refusal) → MatchResult r (λ x. IsMerge (map file_coming parts) (items x)) (IsCauseOfAll (map file_coming parts)) → AllStand (map entries_standing (map entries_of_file parts)) (map entries_standing now) r → MatchResult r (λ x. IsMerge (map file_coming parts) (items x)) (IsCauseFor parts)
       by (Ok x) merge stand = merge
-      by (Err why) cause stand = merge_cause parts why (λ device. no_device alloc parts now (stand.0 device)) cause
+      by (Err why) cause stand = merge_cause parts why (λ device. no_device parts now (stand.0 device)) cause
 
   pub covered_by : (r : Result X Refusal) → IfOk r (λ x. (points : ℕ → Bool) → All (λ (e : PartEntries). entries_within e points) inputs → All (λ (t : Triple). IsTrue (points t.point)) (items x)) → All IsCovered parts
       → (points : Set number_order) → AreAllPoints parts points → IfOk r (λ x. AreCovered points (items x))
-  covered_by (Ok x) within own points all = within (set.contains points) (subst (λ (l : List PartEntries). All (λ (e : PartEntries). entries_within e (set.contains points)) l) (sym is) (are_within alloc parts points own all))
+  covered_by (Ok x) within own points all = within (set.contains points) (subst (λ (l : List PartEntries). All (λ (e : PartEntries). entries_within e (set.contains points)) l) (sym is) (are_within parts points own all))
   covered_by (Err why) within own points all = tt

@@ -4,7 +4,6 @@ use Rattle.std.specs.List.{All}
 use Rattle.std.specs.Prelude.{IsTrue}
 use Rattle.std.specs.FinMap.{find}
 use Rattle.std.specs.Iterator.{YieldsFirst}
-use Rattle.std.specs.declared.alloc.Global.{Global}
 use Rattle.std.proofs.lemmas.List.Elements.{All-contains, All-head, All-map, All-nil, All-tail}
 use Rattle.pc_types.specs.Counted.{HasRisen}
 use Rattle.pc_types.specs.declared.Refusal.TheVariants.{Device}
@@ -50,46 +49,45 @@ file_rises file = subst (λ (es : List (List ℕ × AtPoint)). KeysRise es) (sym
 pass_is : (file : File) (es : List Triple) → entries_of es ≡ file.triples.entries → es ≡ file_entries file
 pass_is file es is = sym (triples_back es) ∙ ap (λ (m : List (List ℕ × AtPoint)). map at_key m) is
 
-pub opened : (alloc : Global) (file : File) (es : List Triple) → entries_of es ≡ file.triples.entries → (let e : PartEntries = record { alloc = alloc; pass = es; refused = None } in e) ≡ entries_of_file alloc file
-opened alloc file es is = ap (λ (l : List Triple). let e : PartEntries = record { alloc = alloc; pass = l; refused = None } in e) (pass_is file es is)
+pub opened : (file : File) (es : List Triple) → entries_of es ≡ file.triples.entries → (let e : PartEntries = record { pass = es; refused = None } in e) ≡ entries_of_file file
+opened file es is = ap (λ (l : List Triple). let e : PartEntries = record { pass = l; refused = None } in e) (pass_is file es is)
 
 pub covered : (file : File) (es : List Triple) → entries_of es ≡ file.triples.entries → AreCovered file.points es → IsCovered file
 covered file es is all = subst (λ (l : List Triple). AreCovered file.points l) (pass_is file es is) all
 
 -- ---- of all parts
 
-module _ (alloc : Global) where
-  -- what is to come of each is known
-  pub known : (parts : List File) → all_known (map entries_coming (map (entries_of_file alloc) parts)) ≡ Some (map file_coming parts)
-  known [] = refl
-  known (f ∷ fs) = ap (known_with (Some (file_coming f))) (known fs)
+-- what is to come of each is known
+pub known : (parts : List File) → all_known (map entries_coming (map entries_of_file parts)) ≡ Some (map file_coming parts)
+known [] = refl
+known (f ∷ fs) = ap (known_with (Some (file_coming f))) (known fs)
 
-  no_refusal : (parts : List File) (place : ℕ) → (standing_at (map entries_standing (map (entries_of_file alloc) parts)) place).refused ≡ None
-  no_refusal [] place = refl
-  no_refusal (f ∷ fs) zero = refl
-  no_refusal (f ∷ fs) (suc place) = no_refusal fs place
+no_refusal : (parts : List File) (place : ℕ) → (standing_at (map entries_standing (map entries_of_file parts)) place).refused ≡ None
+no_refusal [] place = refl
+no_refusal (f ∷ fs) zero = refl
+no_refusal (f ∷ fs) (suc place) = no_refusal fs place
 
-  no_failures : (inputs : List PartEntries) (place : ℕ) → (standing_at (map entries_standing inputs) place).failures ≡ 0
-  no_failures [] place = refl
-  no_failures (e ∷ es) zero = refl
-  no_failures (e ∷ es) (suc place) = no_failures es place
+no_failures : (inputs : List PartEntries) (place : ℕ) → (standing_at (map entries_standing inputs) place).failures ≡ 0
+no_failures [] place = refl
+no_failures (e ∷ es) zero = refl
+no_failures (e ∷ es) (suc place) = no_failures es place
 
-  -- no device fails
-  pub no_device : (parts : List File) (inputs : List PartEntries) → HasFailed (map entries_standing (map (entries_of_file alloc) parts)) (map entries_standing inputs) → ⊥
-  no_device parts inputs (place, within, inl told) = let bad : None ≡ Some Device = sym (no_refusal parts place) ∙ told in cc
-  no_device parts inputs (place, within, inr risen) = by risen
-    where
-      was : List PartEntries
-      was = map (entries_of_file alloc) parts
+-- no device fails
+pub no_device : (parts : List File) (inputs : List PartEntries) → HasFailed (map entries_standing (map entries_of_file parts)) (map entries_standing inputs) → ⊥
+no_device parts inputs (place, within, inl told) = let bad : None ≡ Some Device = sym (no_refusal parts place) ∙ told in cc
+no_device parts inputs (place, within, inr risen) = by risen
+  where
+    was : List PartEntries
+    was = map entries_of_file parts
 
-      by : HasRisen (standing_at (map entries_standing was) place).failures (standing_at (map entries_standing inputs) place).failures → ⊥
-      by more = let bad : HasRisen 0 0 = subst (λ n. HasRisen 0 n) (no_failures inputs place) (subst (λ n. HasRisen n (standing_at (map entries_standing inputs) place).failures) (no_failures was place) more) in omega (arith, bad)
+    by : HasRisen (standing_at (map entries_standing was) place).failures (standing_at (map entries_standing inputs) place).failures → ⊥
+    by more = let bad : HasRisen 0 0 = subst (λ n. HasRisen 0 n) (no_failures inputs place) (subst (λ n. HasRisen n (standing_at (map entries_standing inputs) place).failures) (no_failures was place) more) in omega (arith, bad)
 
-  -- each entry is of one of the points
-  pub are_within : (parts : List File) (points : Set number_order) → All IsCovered parts → AreAllPoints parts points → All (λ (e : PartEntries). entries_within e (set.contains points)) (map (entries_of_file alloc) parts)
-  are_within parts points own all = All-map (λ (e : PartEntries). entries_within e (set.contains points)) (entries_of_file alloc) parts
-      (all_of_each (λ (f : File). entries_within (entries_of_file alloc f) (set.contains points)) parts
-      (λ f there. λ k d within. all.whole (get_or (file_entries f) k d).point (file_among (HasPoint (get_or (file_entries f) k d).point) parts f there (All-contains IsCovered parts f own there k d within))))
+-- each entry is of one of the points
+pub are_within : (parts : List File) (points : Set number_order) → All IsCovered parts → AreAllPoints parts points → All (λ (e : PartEntries). entries_within e (set.contains points)) (map entries_of_file parts)
+are_within parts points own all = All-map (λ (e : PartEntries). entries_within e (set.contains points)) entries_of_file parts
+    (all_of_each (λ (f : File). entries_within (entries_of_file f) (set.contains points)) parts
+    (λ f there. λ k d within. all.whole (get_or (file_entries f) k d).point (file_among (HasPoint (get_or (file_entries f) k d).point) parts f there (All-contains IsCovered parts f own there k d within))))
 
 -- the first entry is drawn
 pub yields_within : (points : ℕ → Bool) (old new : List Triple) (next : Option Triple) → YieldsFirst (λ (s : List Triple). s) old next new → All (λ (t : Triple). IsTrue (points t.point)) old → IsWithin points next × All (λ (t : Triple). IsTrue (points t.point)) new

@@ -1,7 +1,6 @@
 -- Parts as inputs of a merge, and the points of all of them.
 use Rattle.std.specs.Prelude.{ℕ, Bool, IsTrue, List, Option, Some, None, map}
 use Rattle.std.specs.List.{All}
-use Rattle.std.specs.declared.alloc.Global.{Global}
 use Rattle.pc_types.specs.declared.Refusal.{Refusal}
 use Rattle.pc_types.specs.declared.Triple.{Triple}
 use Rattle.pc_model.specs.Sets as set
@@ -39,8 +38,8 @@ abbrev pub entries_within : PartEntries → (ℕ → Bool) → Type 0
 entries_within entries points = All (λ entry. IsTrue (points entry.point)) entries.pass
 
 -- the entries of a file, all of which are to come
-abbrev pub entries_of_file : Global → File → PartEntries
-entries_of_file alloc file = record { alloc = alloc; pass = file_entries file; refused = None }
+abbrev pub entries_of_file : File → PartEntries
+entries_of_file file = record { pass = file_entries file; refused = None }
 
 -- each entry of the file is of one of its points
 abbrev pub IsCovered : File → Type 0

@@ -11,7 +11,7 @@ ghost use Rattle.pc_collapse.specs.Merges.{AreAllPoints, IsCovered, entries_comi
 ghost use Rattle.pc_collapse.specs.Worth.{AreOfOneRun, IsCauseFor, JoinsToOne};
 
 use pc_merge::{Entries, MOST_INPUTS, merge_all};
-use pc_part::{Part, Range, union_ranges};
+use pc_part::{EntryText, Part, Range, union_ranges};
 use pc_taken::Pass;
 use pc_types::{Refusal, Triple};
 use std::alloc::{AllocError, Global};
@@ -19,19 +19,17 @@ use std::alloc::{AllocError, Global};
 // The entries of a part, each of which is copied as it is drawn.
 #[derive(Drop)]
 struct PartEntries<'a> {
-    alloc: Global,
     pass: Pass<'a>,
     refused: Option<Refusal>,
 }
 
 impl<'a> PartEntries<'a> {
     // All entries of the part are to come.
-    fn of(alloc: Global, part: &'a Part) -> PartEntries<'a>
-        ensures all { result ≡ entries_of_file alloc part.now }
+    fn of(part: &'a Part) -> PartEntries<'a>
+        ensures all { result ≡ entries_of_file part.now }
         ensures covered { IsCovered part.now }
     {
         PartEntries {
-            alloc,
             pass: part.entries(),
             refused: None,
         }
@@ -45,11 +43,11 @@ impl<'a> Entries for PartEntries<'a> {
 
     ghost within = { entries_within };
 
-    fn next(&mut self) -> Result<Option<Triple>, Refusal> {
+    fn next(&mut self, memory: Vec<u8>) -> Result<Option<EntryText>, Refusal> {
         if let Some(why) = self.refused {
             return Err(why);
         }
-        match next_copy(self.alloc, &mut self.pass) {
+        match next_copy(&mut self.pass, memory) {
             Ok(next) => Ok(next),
             Err(_) => {
                 self.refused = Some(Refusal::OutOfMemory);
@@ -59,12 +57,12 @@ impl<'a> Entries for PartEntries<'a> {
     }
 }
 
-// A copy of the next entry, or None at the end. It fails only where memory ran out.
-fn next_copy(alloc: Global, pass: &mut Pass) -> Result<Option<Triple>, AllocError>
+// A copy of the next entry in this memory, or None at the end. It fails only where memory ran out.
+fn next_copy(pass: &mut Pass, memory: Vec<u8>) -> Result<Option<EntryText>, AllocError>
     ensures { IfOk result (λ next. YieldsFirst (λ entries. entries) pass.old next pass.new) }
 {
     match pass.next() {
-        Some(entry) => Ok(Some(entry.copy(alloc)?)),
+        Some(entry) => Ok(Some(EntryText::of(memory, &entry)?)),
         None => Ok(None),
     }
 }
@@ -93,12 +91,12 @@ fn merged_entries(alloc: Global, parts: &[Part]) -> Result<Vec<Triple>, Refusal>
 
 // The entries of each part.
 fn entries_of_parts(alloc: Global, parts: &[Part]) -> Result<Vec<PartEntries<'_>>, AllocError>
-    ensures all { IfOk result (λ inputs. inputs.items ≡ map (entries_of_file alloc) parts.now) }
+    ensures all { IfOk result (λ inputs. inputs.items ≡ map entries_of_file parts.now) }
     ensures covered { IfOk result (λ _. All IsCovered parts.now) }
 {
     let mut inputs = Vec::with_capacity(alloc, parts.len())?;
     for number in 0..parts.len() {
-        inputs.push(PartEntries::of(alloc, &parts[number]))?;
+        inputs.push(PartEntries::of(&parts[number]))?;
     }
     Ok(inputs)
 }

@@ -109,6 +109,14 @@ least_is_above firsts place entry least lesser test other = by (at firsts place)
 pub of_key : (key : List ℕ) (first : Option Triple) (entry : Triple) → first ≡ Some entry → has_key key first ≡ true → entry.key ≡ key
 of_key key first entry there test = one_key entry.key key (subst (λ (f : Option Triple). has_key key f ≡ true) there test)
 
+-- keys of different heads are different
+pub heads_apart : (k l : List ℕ) (h g : ℕ) → h ≡ head k → g ≡ head l → (h ≡ g → ⊥) → same_bytes k l ≡ false
+heads_apart k l h g first second apart = by (same_bytes k l) refl
+  where
+    by : (t : Bool) → same_bytes k l ≡ t → t ≡ false
+    by true is = absurd (apart (first ∙ ap head (one_key k l is) ∙ sym second))
+    by false is = refl
+
 -- ---- contents
 
 pub same_content_is : (c d : Option (List ℕ)) → same_content c d ≡ true → c ≡ d

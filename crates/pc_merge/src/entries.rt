@@ -4,7 +4,8 @@ ghost use Rattle.pc_types.specs.declared.refusal.Refusal.{Refusal};
 ghost use Rattle.pc_merge.specs.Coming.{Coming, GivesNext, GivesWithin, Standing, Stands};
 ghost use Rattle.pc_merge.specs.Lists.{all_of, list_coming, list_standing, list_within};
 
-use pc_types::{Refusal, Triple};
+use pc_part::EntryText;
+use pc_types::Refusal;
 use std::vec::IntoIter;
 
 /// Entries that come one after the other, up to an end or a refusal.
@@ -21,8 +22,8 @@ pub trait Entries {
     /// What may be refused, whether it is known what is to come or not.
     ghost refusals: { Refusal → Type 0 } = { λ _. ⊤ };
 
-    /// The next entry, or None at the end. After a refusal it answers the same one from then on.
-    fn next(&mut self) -> Result<Option<Triple>, Refusal>
+    /// The next entry, or None at the end. It may be kept in this memory. After a refusal it answers the same one from then on.
+    fn next(&mut self, memory: Vec<u8>) -> Result<Option<EntryText>, Refusal>
         ensures given { GivesNext (coming self.old) (coming self.new) result }
         ensures stands { Stands (standing self.old) (standing self.new) result }
         ensures within { GivesWithin within self.old self.new result }
@@ -32,12 +33,12 @@ pub trait Entries {
 /// The entries of a list, in its order.
 #[derive(Drop)]
 pub struct EntryList {
-    entries: IntoIter<Triple>,
+    entries: IntoIter<EntryText>,
 }
 
 impl EntryList {
     /// All of the entries are to come.
-    pub fn new(entries: Vec<Triple>) -> EntryList
+    pub fn new(entries: Vec<EntryText>) -> EntryList
         ensures { list_coming result ≡ all_of entries.items }
     {
         EntryList {
@@ -55,7 +56,8 @@ impl Entries for EntryList {
 
     ghost refusals = { λ _. ⊥ };
 
-    fn next(&mut self) -> Result<Option<Triple>, Refusal> {
+    fn next(&mut self, memory: Vec<u8>) -> Result<Option<EntryText>, Refusal> {
+        drop(memory);
         Ok(self.entries.next())
     }
 }

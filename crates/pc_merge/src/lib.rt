@@ -6,6 +6,8 @@ mod laws;
 mod limits;
 mod merge;
 mod newest;
+mod order;
+mod spare;
 mod tournament;
 mod tree;
 

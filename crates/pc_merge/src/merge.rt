@@ -1,5 +1,5 @@
 //! Several streams of entries, made one.
-ghost use Rattle.std.specs.Prelude.{◌≡◌, ◌≤◌, ℕ, Bool, IsTrue, List, Some, None, MatchResult, IfErr, IfOk, OnOk, length, map, vec_len};
+ghost use Rattle.std.specs.Prelude.{◌≡◌, ◌≤◌, ◌+◌, ◌++◌, ◌∷◌, [], ℕ, Bool, IsTrue, List, Some, None, MatchResult, IfErr, IfOk, OnOk, length, map, vec_len};
 ghost use Rattle.std.specs.List.{All};
 ghost use Rattle.pc_types.specs.declared.limits.TheConstants.{MOST_FILE_ENTRIES};
 ghost use Rattle.pc_merge.specs.Coming.{Coming};
@@ -11,7 +11,9 @@ ghost use Rattle.pc_merge.specs.Standings.{AllGiveWithin, AllStand, AreWithin};
 use crate::entries::Entries;
 use crate::limits::MOST_INPUTS;
 use crate::newest::{advance, draw_firsts, newest_of};
+use crate::spare::Spare;
 use crate::tournament::Tournament;
+use pc_part::EntryText;
 use pc_types::{MOST_FILE_ENTRIES, Refusal, Triple};
 use std::alloc::{AllocError, Global};
 use std::marker::Model;
@@ -24,8 +26,11 @@ use std::marker::Model;
 /// of two numbers.
 #[derive(Drop)]
 pub struct Merge {
+    alloc: Global,
     // The first entry of each input; none where it has ended.
     firsts: Tournament,
+    // Memory of entries that are done with.
+    spare: Spare,
     refused: Option<Refusal>,
 }
 
@@ -44,7 +49,9 @@ impl Merge {
         ensures { IfOk result (λ merge. merge ≡ unopened inputs) }
     {
         Ok(Merge {
+            alloc,
             firsts: Tournament::new(alloc, inputs)?,
+            spare: Spare::new(alloc),
             refused: None,
         })
     }
@@ -60,7 +67,7 @@ impl Merge {
         ensures within { OnOk result ((points : ℕ → Bool) → All (λ input. E.within input points) inputs.old → AreWithin E.within points inputs.new self.new.firsts) }
         ensures refusals { IfErr result E.refusals }
     {
-        let answer = draw_firsts(inputs, &mut self.firsts);
+        let answer = draw_firsts(self.alloc, inputs, &mut self.firsts);
         if let Err(why) = &answer {
             self.refused = Some(*why);
         }
@@ -70,7 +77,8 @@ impl Merge {
     /// The next entry, or None once all inputs have ended: the least key's entry, of several inputs' that of the greatest point.
     /// Refuses with the first thing that an input refuses, with `Conflict` where two inputs have a key at one point with different
     /// contents, and with `KeyOrder` where an input's keys don't rise; it answers the same refusal from then on.
-    pub fn next<E: Entries>(&mut self, inputs: &mut [E]) -> Result<Option<Triple>, Refusal>
+    #[inline(always)]
+    pub fn next<E: Entries>(&mut self, inputs: &mut [E]) -> Result<Option<EntryText>, Refusal>
         requires { length inputs.old ≡ length self.old.firsts }
         ensures together { length inputs.new ≡ length self.new.firsts }
         ensures goes_on { GoesOn (left_in (map E.coming inputs.old) self.old) (left_in (map E.coming inputs.new) self.new) result }
@@ -83,11 +91,18 @@ impl Merge {
         if let Some(why) = self.refused {
             return Err(why);
         }
-        let answer = least_entry(inputs, &mut self.firsts);
+        let answer = least_entry(inputs, &mut self.firsts, &mut self.spare);
         if let Err(why) = &answer {
             self.refused = Some(*why);
         }
         answer
+    }
+
+    /// Takes an entry back that is done with: a next one is kept in its memory. Nothing else changes.
+    pub fn take_back(&mut self, entry: EntryText)
+        ensures { self.new ≡ self.old }
+    {
+        self.spare.put(entry.into_memory());
     }
 }
 
@@ -107,7 +122,8 @@ pub fn merge_all<E: Entries>(alloc: Global, inputs: &mut [E]) -> Result<Vec<Trip
         let Some(entry) = merge.next(inputs)? else {
             return Ok(all);
         };
-        all.push(entry)?;
+        push_triple(alloc, &mut all, &entry)?;
+        merge.take_back(entry);
     }
     match merge.next(inputs)? {
         None => Ok(all),
@@ -115,11 +131,22 @@ pub fn merge_all<E: Entries>(alloc: Global, inputs: &mut [E]) -> Result<Vec<Trip
     }
 }
 
+// Appends the entry as a triple. It fails only where memory ran out.
+fn push_triple(alloc: Global, all: &mut Vec<Triple>, entry: &EntryText) -> Result<(), AllocError>
+    ensures items { OnOk result (all.new.items ≡ all.old.items ++ entry.now ∷ []) }
+    ensures len { OnOk result (vec_len all.new ≡ vec_len all.old + 1) }
+{
+    all.push(entry.triple(alloc)?)?;
+    Ok(())
+}
+
 // The entry of the least key, of several that of the greatest point; all entries of that key are drawn.
+#[inline(always)]
 fn least_entry<E: Entries>(
     inputs: &mut [E],
     firsts: &mut Tournament,
-) -> Result<Option<Triple>, Refusal>
+    spare: &mut Spare,
+) -> Result<Option<EntryText>, Refusal>
     requires { length inputs.old ≡ length firsts.old }
     ensures together { length inputs.new ≡ length firsts.new }
     ensures goes_on { GoesOn (all_left (map E.coming inputs.old) firsts.old) (all_left (map E.coming inputs.new) firsts.new) result }
@@ -131,7 +158,7 @@ fn least_entry<E: Entries>(
     let Some(place) = firsts.least() else {
         return Ok(None);
     };
-    let first = advance(inputs, firsts, place)?;
-    let newest = newest_of(inputs, firsts, first)?;
+    let first = advance(inputs, firsts, place, spare.take())?;
+    let newest = newest_of(inputs, firsts, first, spare)?;
     Ok(Some(newest))
 }

@@ -11,11 +11,20 @@ ghost use Rattle.pc_merge.specs.Standings.{AllStand, AreWithin};
 ghost use Rattle.pc_merge.specs.Tournaments.{IsFree, IsNoLater, at};
 
 use crate::entries::Entries;
+use crate::order::{are_same, precedes};
+use crate::spare::Spare;
 use crate::tournament::Tournament;
-use pc_types::{Key, Refusal, Triple, Value};
+use pc_part::EntryText;
+use pc_types::Refusal;
+use std::alloc::Global;
 
-// The next entry of the input at the place.
-fn draw<E: Entries>(inputs: &mut [E], place: usize) -> Result<Option<Triple>, Refusal>
+// The next entry of the input at the place, which may be kept in this memory.
+#[inline(always)]
+fn draw<E: Entries>(
+    inputs: &mut [E],
+    place: usize,
+    memory: Vec<u8>,
+) -> Result<Option<EntryText>, Refusal>
     requires { place < length inputs.old }
     ensures together { length inputs.new ≡ length inputs.old }
     ensures draws { Draws (map E.coming inputs.old) (map E.coming inputs.new) place result }
@@ -23,11 +32,12 @@ fn draw<E: Entries>(inputs: &mut [E], place: usize) -> Result<Option<Triple>, Re
     ensures within { IfOk result (λ next. (points : ℕ → Bool) → All (λ input. E.within input points) inputs.old → IsWithin points next × All (λ input. E.within input points) inputs.new) }
     ensures refusals { IfErr result E.refusals }
 {
-    inputs[place].next()
+    inputs[place].next(memory)
 }
 
 // Draws the first entry of each input.
 pub(crate) fn draw_firsts<E: Entries>(
+    alloc: Global,
     inputs: &mut [E],
     firsts: &mut Tournament,
 ) -> Result<(), Refusal>
@@ -40,18 +50,21 @@ pub(crate) fn draw_firsts<E: Entries>(
     ensures refusals { IfErr result E.refusals }
 {
     for place in 0..inputs.len() {
-        let first = draw(inputs, place)?;
+        let first = draw(inputs, place, Vec::new(alloc))?;
         drop(firsts.replace(place, first));
     }
     Ok(())
 }
 
-// Takes the first entry of the input at the place, and draws the one behind it, whose key must be greater.
+// Takes the first entry of the input at the place, and draws the one behind it, which may be kept in this memory and whose key
+// must be greater.
+#[inline(always)]
 pub(crate) fn advance<E: Entries>(
     inputs: &mut [E],
     firsts: &mut Tournament,
     place: usize,
-) -> Result<Triple, Refusal>
+    memory: Vec<u8>,
+) -> Result<EntryText, Refusal>
     requires together { length inputs.old ≡ length firsts.old }
     requires place { place < length firsts.old }
     requires some { at firsts.old place ≢ None }
@@ -63,7 +76,7 @@ pub(crate) fn advance<E: Entries>(
     ensures cause { IfErr result (HasCause (map E.coming inputs.old) firsts.old) }
     ensures refusals { IfErr result (IsMergeRefusal E.refusals) }
 {
-    let next = draw(inputs, place)?;
+    let next = draw(inputs, place, memory)?;
     if !rises(firsts.standing(place), &next) {
         return Err(Refusal::KeyOrder);
     }
@@ -74,21 +87,25 @@ pub(crate) fn advance<E: Entries>(
 }
 
 // Whether the next entry's key is greater than the first one's.
-fn rises(first: Option<&Triple>, next: &Option<Triple>) -> bool
+#[inline(always)]
+fn rises(first: Option<&EntryText>, next: &Option<EntryText>) -> bool
     ensures { Rises (option_map (λ entry. entry.now) first.entry) next.now result }
 {
     match (first, next) {
-        (Some(first), Some(next)) => first.key.compare(&next.key).is_lt(),
+        (Some(first), Some(next)) => precedes(first, next),
         _ => true,
     }
 }
 
-// The newest of an entry and of all others that stand at a place with its key.
+// The newest of an entry and of all others that stand at a place with its key. Others are kept in the spare memory, which is then
+// that of one of them that is older.
+#[inline(always)]
 pub(crate) fn newest_of<E: Entries>(
     inputs: &mut [E],
     firsts: &mut Tournament,
-    entry: Triple,
-) -> Result<Triple, Refusal>
+    entry: EntryText,
+    spare: &mut Spare,
+) -> Result<EntryText, Refusal>
     requires together { length inputs.old ≡ length firsts.old }
     requires least { (place : ℕ) → IsNoLater (Some entry) (at firsts.old place) }
     ensures together { length inputs.new ≡ length firsts.new }
@@ -101,14 +118,15 @@ pub(crate) fn newest_of<E: Entries>(
 {
     let mut newest = entry;
     while let Some(place) = least_with(firsts, &newest) {
-        let other = advance(inputs, firsts, place)?;
-        newest = newer(newest, other)?;
+        let other = advance(inputs, firsts, place, spare.take())?;
+        newest = newer(newest, other, spare)?;
     }
     Ok(newest)
 }
 
 // The place of the least key, where that is the entry's.
-fn least_with(firsts: &Tournament, entry: &Triple) -> Option<usize>
+#[inline(always)]
+fn least_with(firsts: &Tournament, entry: &EntryText) -> Option<usize>
     requires { (place : ℕ) → IsNoLater (Some entry.now) (at firsts.now place) }
     ensures none { IfNone result ((place : ℕ) → IsBelow entry.now.key (at firsts.now place)) }
     ensures within { IfSome result (λ place. place < length firsts.now) }
@@ -116,43 +134,48 @@ fn least_with(firsts: &Tournament, entry: &Triple) -> Option<usize>
     ensures key { IfSome result (λ place. has_key entry.now.key (at firsts.now place) ≡ true) }
 {
     let place = firsts.least()?;
-    if is_of_key(firsts.standing(place), &entry.key) {
+    if is_of_key(firsts.standing(place), entry) {
         Some(place)
     } else {
         None
     }
 }
 
-// Whether the entry, if there is one, is of the key.
-fn is_of_key(entry: Option<&Triple>, key: &Key) -> bool
-    ensures { result ≡ has_key key.now (option_map (λ entry. entry.now) entry.entry) }
+// Whether the first entry, if there is one, is of the other one's key.
+#[inline(always)]
+#[tactic(auto, using(crate::proofs::OrderLaws::heads_apart))]
+fn is_of_key(first: Option<&EntryText>, entry: &EntryText) -> bool
+    ensures { result ≡ has_key entry.now.key (option_map (λ first. first.now) first.entry) }
 {
-    match entry {
-        Some(entry) => entry.key.is(key),
+    match first {
+        Some(first) => first.head() == entry.head() && are_same(first.key(), entry.key()),
         None => false,
     }
 }
 
-// Of two entries of one key the one of the greater point; where they have one point and different contents, `Conflict`.
-fn newer(one: Triple, other: Triple) -> Result<Triple, Refusal>
+// Of two entries of one key the one of the greater point, where the other's memory is spare then; where they have one point and
+// different contents, `Conflict`.
+fn newer(one: EntryText, other: EntryText, spare: &mut Spare) -> Result<EntryText, Refusal>
     requires { other.key ≡ one.key }
     ensures newer { IfOk result (λ newer. IsNewest newer one × IsNewest newer other × ((newer ≡ one) ⊎ (newer ≡ other))) }
     ensures conflict { IfErr result (λ why. (why ≡ Conflict) × (one.point ≡ other.point) × (one.content ≡ other.content → ⊥)) }
 {
     if is_older(&one, &other)? {
+        spare.put(one.into_memory());
         Ok(other)
     } else {
+        spare.put(other.into_memory());
         Ok(one)
     }
 }
 
 // Whether the first of two entries of one key is the older; where they have one point and different contents, `Conflict`.
-fn is_older(one: &Triple, other: &Triple) -> Result<bool, Refusal>
+fn is_older(one: &EntryText, other: &EntryText) -> Result<bool, Refusal>
     requires { other.now.key ≡ one.now.key }
     ensures older { IfOk result (λ older. MatchBool older (IsNewest other.now one.now) (IsNewest one.now other.now)) }
     ensures conflict { IfErr result (λ why. (why ≡ Conflict) × (one.now.point ≡ other.now.point) × (one.now.content ≡ other.now.content → ⊥)) }
 {
-    let (point, other_point) = (point_of(one), point_of(other));
+    let (point, other_point) = (one.point(), other.point());
     if point != other_point {
         return Ok(point < other_point);
     }
@@ -162,27 +185,20 @@ fn is_older(one: &Triple, other: &Triple) -> Result<bool, Refusal>
     Ok(false)
 }
 
-// The entry's point as a number.
-fn point_of(entry: &Triple) -> u16
-    ensures { result ≡ entry.now.point }
-{
-    entry.point.0
-}
-
 // Whether the keys had the same at the points.
-fn have_same_content(one: &Triple, other: &Triple) -> bool
+fn have_same_content(one: &EntryText, other: &EntryText) -> bool
     ensures { result ≡ same_content one.now.content other.now.content }
 {
-    is_same(&one.content, &other.content)
+    is_same(one.value(), other.value())
 }
 
 // Whether the contents are the same.
-fn is_same(a: &Option<Value>, b: &Option<Value>) -> bool
-    ensures { result ≡ same_content a.now b.now }
+fn is_same(a: Option<&[u8]>, b: Option<&[u8]>) -> bool
+    ensures { result ≡ same_content (option_map (λ value. value.now) a.entry) (option_map (λ value. value.now) b.entry) }
 {
     match (a, b) {
         (None, None) => true,
-        (Some(v), Some(w)) => v.is(w),
+        (Some(v), Some(w)) => are_same(v, w),
         _ => false,
     }
 }

@@ -4,7 +4,7 @@ ghost use Rattle.pc_merge.specs.Tournaments.{IsFree, IsLeast, at};
 
 use crate::limits::MOST_INPUTS;
 use crate::tree::{LAST_HEAD, head_at, leftmost, mend};
-use pc_types::Triple;
+use pc_part::EntryText;
 use std::alloc::{AllocError, Global};
 use std::marker::Model;
 use std::mem;
@@ -13,7 +13,7 @@ use std::mem;
 /// found in constant time; a change at one place costs a comparison for each doubling of their number.
 #[derive(Drop)]
 pub(crate) struct Tournament {
-    firsts: Vec<Option<Triple>>,
+    firsts: Vec<Option<EntryText>>,
     // The first eight bytes of each key as one number: two that differ decide.
     heads: Vec<u64>,
     // Each node of the tree has a place. Node 1 is the root, the children of a node have twice its number and one more, and the
@@ -62,7 +62,7 @@ impl Tournament {
     }
 
     /// What stands at the place.
-    pub(crate) fn standing(&self, place: usize) -> Option<&Triple>
+    pub(crate) fn standing(&self, place: usize) -> Option<&EntryText>
         requires { place < length self.now }
         ensures { option_map (λ entry. entry.now) result ≡ at self.now place }
     {
@@ -70,7 +70,8 @@ impl Tournament {
     }
 
     /// Puts another entry, or none, at the place, and gives what stood there.
-    pub(crate) fn replace(&mut self, place: usize, entry: Option<Triple>) -> Option<Triple>
+    #[inline(always)]
+    pub(crate) fn replace(&mut self, place: usize, entry: Option<EntryText>) -> Option<EntryText>
         requires { place < length self.old }
         ensures given { result ≡ at self.old place }
         ensures placed { self.new ≡ slice_set self.old place entry }
@@ -83,7 +84,7 @@ impl Tournament {
 }
 
 // So many places, at which nothing stands.
-fn empty_places(alloc: Global, places: usize) -> Result<Vec<Option<Triple>>, AllocError>
+fn empty_places(alloc: Global, places: usize) -> Result<Vec<Option<EntryText>>, AllocError>
     ensures { IfOk result (λ all. all.items ≡ replicate places None) }
 {
     let mut all = Vec::with_capacity(alloc, places)?;

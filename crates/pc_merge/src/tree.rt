@@ -4,7 +4,8 @@ ghost use Rattle.pc_merge.specs.Tournaments.{IsNoLater, at};
 ghost use Rattle.pc_merge.specs.Trees.{AreHeads, AreNodes, HasBetter, HasPlaceBelow, IsHeadAt, IsOver, IsTournament};
 
 use crate::limits::MOST_INPUTS;
-use pc_types::Triple;
+use crate::order::compare;
+use pc_part::EntryText;
 use std::alloc::{AllocError, Global};
 use std::cmp::Ordering;
 
@@ -12,11 +13,11 @@ use std::cmp::Ordering;
 pub(crate) const LAST_HEAD: u64 = u64::MAX;
 
 // The first eight bytes of the entry's key as one number.
-pub(crate) fn head_at(entry: &Option<Triple>) -> u64
+pub(crate) fn head_at(entry: &Option<EntryText>) -> u64
     ensures { IsHeadAt entry.now result }
 {
     match entry {
-        Some(entry) => entry.key.head(),
+        Some(entry) => entry.head(),
         None => LAST_HEAD,
     }
 }
@@ -34,7 +35,7 @@ pub(crate) fn leftmost(alloc: Global, places: usize) -> Result<Vec<u32>, AllocEr
 }
 
 // Mends the nodes from the leaf of the place to the root, where of all others each has the better place of its two children.
-pub(crate) fn mend(tree: &mut [u32], heads: &[u64], firsts: &[Option<Triple>], place: usize)
+pub(crate) fn mend(tree: &mut [u32], heads: &[u64], firsts: &[Option<EntryText>], place: usize)
     requires few { length firsts.now ≤ MOST_INPUTS }
     requires place { place < length firsts.now }
     requires heads { AreHeads firsts.now heads.now }
@@ -51,7 +52,7 @@ pub(crate) fn mend(tree: &mut [u32], heads: &[u64], firsts: &[Option<Triple>], p
 }
 
 // The place of the lesser key, by their heads, or by the whole keys where these are equal; an entry is better than none.
-fn better(heads: &[u64], firsts: &[Option<Triple>], first: u32, second: u32) -> u32
+fn better(heads: &[u64], firsts: &[Option<EntryText>], first: u32, second: u32) -> u32
     requires heads { AreHeads firsts.now heads.now }
     requires places { (first < length firsts.now) × (second < length firsts.now) }
     ensures one { (result ≡ first) ⊎ (result ≡ second) }
@@ -67,7 +68,12 @@ fn better(heads: &[u64], firsts: &[Option<Triple>], first: u32, second: u32) -> 
 }
 
 // Whether the first comes no later than the other, whose heads are known: as these are where they differ, and else by the keys.
-fn is_no_later(head: u64, first: &Option<Triple>, other_head: u64, other: &Option<Triple>) -> bool
+fn is_no_later(
+    head: u64,
+    first: &Option<EntryText>,
+    other_head: u64,
+    other: &Option<EntryText>,
+) -> bool
     requires head { IsHeadAt first.now head }
     requires other_head { IsHeadAt other.now other_head }
     ensures { MatchBool result (IsNoLater first.now other.now) (IsNoLater other.now first.now) }
@@ -76,7 +82,7 @@ fn is_no_later(head: u64, first: &Option<Triple>, other_head: u64, other: &Optio
         return head < other_head;
     }
     match (first, other) {
-        (Some(one), Some(other)) => one.key.compare(&other.key).is_le(),
+        (Some(one), Some(other)) => compare(one, other).is_le(),
         (first, other) => first.is_some() || other.is_none(),
     }
 }

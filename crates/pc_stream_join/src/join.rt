@@ -88,6 +88,7 @@ fn write_next<R: Read, W: Write>(
         return Err(Refusal::Full);
     }
     writer.entry(out, &entry)?;
+    merge.take_back(entry);
     Ok(true)
 }
 

@@ -7,9 +7,8 @@ ghost use Rattle.pc_types.specs.Tallies.{Puts};
 ghost use Rattle.pc_types.specs.declared.refusal.Refusal.{Refusal};
 ghost use Rattle.pc_stream_join.specs.Writing.{Ends, GoesOut, header_text};
 
-use pc_part::{PartHeader, put_end, put_entry, put_head, put_ranges};
-use pc_taken::LentTriple;
-use pc_types::{MOST_FILE_ENTRIES, Refusal, Tally, Triple};
+use pc_part::{EntryText, PartHeader, put_end, put_head, put_ranges};
+use pc_types::{MOST_FILE_ENTRIES, Refusal, Tally};
 use std::alloc::Global;
 use std::io::Write;
 use std::marker::Model;
@@ -67,23 +66,17 @@ impl PartWriter {
     pub(crate) fn entry<W: Write>(
         &mut self,
         out: &mut Tally<W>,
-        entry: &Triple,
+        entry: &EntryText,
     ) -> Result<(), Refusal>
         requires { self.old.count < MOST_FILE_ENTRIES }
         ensures goes { GoesOut W.contents out.old out.new self.old.kept self.new.kept (triple_text entry.now) result }
         ensures counted { OnOk result (self.new.count ≡ self.old.count + 1) }
         ensures lawful { HasLimits entry.now }
     {
-        let (key, content) = (&entry.key, &entry.content);
-        let point = entry.point;
-        let lent = LentTriple {
-            key,
-            point,
-            content,
-        };
-        in_memory(put_entry(&mut self.kept, &lent))?;
+        let text = entry.text();
+        in_memory(self.kept.put(text))?;
         self.count += 1;
-        self.size = self.size.saturating_add(size_of(entry));
+        self.size = self.size.saturating_add(text.len());
         if self.size < PIECE {
             return Ok(());
         }
@@ -113,15 +106,6 @@ impl PartWriter {
         self.size = 0;
         Ok(())
     }
-}
-
-// About how many bytes the entry takes.
-fn size_of(entry: &Triple) -> usize {
-    let value = match &entry.content {
-        None => 0,
-        Some(value) => value.as_bytes().len(),
-    };
-    entry.key.as_bytes().len() + value + 11
 }
 
 // What is kept in memory can fail for want of it alone.

@@ -4,6 +4,7 @@ ghost use Rattle.std.specs.Int.{w32};
 ghost use Rattle.std.specs.Option.{option_map};
 ghost use Rattle.pc_types.specs.Counted.{one_more};
 ghost use Rattle.pc_types.specs.Fields.{number_at};
+ghost use Rattle.pc_part.specs.Lent.{IsHead};
 ghost use Rattle.pc_part.specs.Parts.{AreRanges};
 ghost use Rattle.pc_merge.specs.Coming.{GivesNext};
 ghost use Rattle.pc_streams.specs.Coming.{part_end_at};
@@ -13,8 +14,8 @@ ghost use Rattle.pc_streams.specs.Refusals.{IsReadRefusal};
 ghost use Rattle.pc_streams.specs.Sources.{text_left, tally_of};
 
 use crate::source::Source;
-use pc_part::{PartHeader, Range};
-use pc_types::{Refusal, Triple};
+use pc_part::{EntryText, PartHeader, Range};
+use pc_types::Refusal;
 use std::alloc::{AllocError, Global};
 use std::io::Read;
 use std::marker::Model;
@@ -25,11 +26,14 @@ use std::marker::Model;
 pub(crate) struct Place {
     header: PartHeader,
     last: Vec<u8>,
+    // The head of the last key.
+    last_head: u64,
     count: u64,
     ended: bool,
 }
 
 impl Model for Place {
+    ghost use Rattle.pc_part.specs.Lent.{IsHead};
     ghost use Rattle.pc_part.specs.Parts.{AreRanges};
     ghost use Rattle.pc_streams.specs.Places.{Place};
 
@@ -37,7 +41,7 @@ impl Model for Place {
 
     ghost view = { λ p. record { format = p.header.format; run = p.header.run; ranges = p.header.ranges.items; last = p.last.items; count = p.count; ended = p.ended } };
 
-    ghost invariant = { λ p. AreRanges p.header.ranges.items };
+    ghost invariant = { λ p. AreRanges p.header.ranges.items × IsHead p.last.items p.last_head };
 }
 
 impl Place {
@@ -52,6 +56,7 @@ impl Place {
         Ok(Place {
             header,
             last: Vec::new(alloc),
+            last_head: 0,
             count: 0,
             ended: false,
         })
@@ -72,12 +77,13 @@ impl Place {
         &self.header.ranges
     }
 
-    // The next entry, or None at the end.
+    // The next entry, kept in this memory, or None at the end.
+    #[inline(always)]
     pub(crate) fn next<R: Read>(
         &mut self,
-        alloc: Global,
+        memory: Vec<u8>,
         source: &mut Source<R>,
-    ) -> Result<Option<Triple>, Refusal>
+    ) -> Result<Option<EntryText>, Refusal>
         ensures given { GivesNext (place_coming self.old (text_left R.remaining source.old)) (place_coming self.new (text_left R.remaining source.new)) result }
         ensures lawful { IsLawfulNext self.old.ranges self.old.last result }
         ensures passes { PassesTo self.old.last self.new.last result }
@@ -90,9 +96,15 @@ impl Place {
         if self.ended {
             return Ok(None);
         }
-        match source.entry(alloc, self.header.format, &self.header.ranges, &self.last)? {
+        match source.entry(
+            memory,
+            self.header.format,
+            &self.header.ranges,
+            &self.last,
+            self.last_head,
+        )? {
             Some(entry) => {
-                self.pass(entry.key.as_bytes())?;
+                self.pass(entry.key(), entry.head())?;
                 Ok(Some(entry))
             }
             None => {
@@ -103,13 +115,17 @@ impl Place {
         }
     }
 
-    // Counts an entry of this key. It fails only where memory ran out.
-    fn pass(&mut self, key: &[u8]) -> Result<(), AllocError>
+    // Counts an entry of this key, which has this head. It fails only where memory ran out.
+    #[inline(always)]
+    fn pass(&mut self, key: &[u8], head: u64) -> Result<(), AllocError>
+        requires { IsHead key.now head }
         ensures passed { OnOk result (self.new ≡ record self.old { last = key.now; count = one_more self.old.count }) }
         ensures header { (self.new.run ≡ self.old.run) × (self.new.ranges ≡ self.old.ranges) }
     {
         self.last.clear();
+        self.last_head = 0;
         self.last.extend_from_slice(key)?;
+        self.last_head = head;
         self.count = self.count.saturating_add(1);
         Ok(())
     }

@@ -15,14 +15,14 @@ use crate::kept::KeptRefusal;
 use crate::place::Place;
 use crate::source::Source;
 use pc_merge::Entries;
-use pc_part::Range;
-use pc_types::{Refusal, Tally, Triple};
+use pc_part::{EntryText, Range};
+use pc_types::{Refusal, Tally};
 use std::alloc::Global;
 use std::io::Read;
 
 /// A part's text, read from a counted reader as its entries are asked for. In memory are its ranges, the last key, and a
-/// buffer for the longest entry, or the header, and two pieces of 16,384 bytes. Its entries take memory for long keys and
-/// values alone.
+/// buffer for the longest entry, or the header, and two pieces of 16,384 bytes. Its entries take memory where that in which they
+/// are to be kept has no room for their text.
 #[derive(Drop)]
 pub struct PartReader<R> {
     alloc: Global,
@@ -132,8 +132,9 @@ impl<R: Read> PartReader<R> {
         self.stage = PartStage::Refused(KeptRefusal::new(*why));
     }
 
-    // The next entry, or None at the end. A refusal is not kept.
-    fn step(&mut self) -> Result<Option<Triple>, Refusal>
+    // The next entry, kept in this memory, or None at the end. A refusal is not kept.
+    #[inline(always)]
+    fn step(&mut self, memory: Vec<u8>) -> Result<Option<EntryText>, Refusal>
         ensures given { GivesNext (coming_of R.remaining self.old) (coming_of R.remaining self.new) result }
         ensures lawful { IsLawfulNext (ranges_read self.new) (last_given self.old) result }
         ensures passes { PassesTo (last_given self.old) (last_given self.new) result }
@@ -148,14 +149,14 @@ impl<R: Read> PartReader<R> {
         ensures refusals { IfErr result IsReadRefusal }
     {
         match &mut self.stage {
-            PartStage::Unread => self.first(),
-            PartStage::Among(place) => place.next(self.alloc, &mut self.source),
+            PartStage::Unread => self.first(memory),
+            PartStage::Among(place) => place.next(memory, &mut self.source),
             PartStage::Refused(kept) => Err(kept.why()),
         }
     }
 
-    // The header, and then the first entry, or None at the end.
-    fn first(&mut self) -> Result<Option<Triple>, Refusal>
+    // The header, and then the first entry, kept in this memory, or None at the end.
+    fn first(&mut self, memory: Vec<u8>) -> Result<Option<EntryText>, Refusal>
         requires { self.old.stage ≡ PartStage.Unread }
         ensures given { GivesNext (coming_of R.remaining self.old) (coming_of R.remaining self.new) result }
         ensures lawful { IsLawfulNext (ranges_read self.new) (last_given self.old) result }
@@ -168,7 +169,7 @@ impl<R: Read> PartReader<R> {
         ensures refusals { IfErr result IsReadRefusal }
     {
         let mut place = Place::open(self.alloc, &mut self.source)?;
-        let answer = place.next(self.alloc, &mut self.source);
+        let answer = place.next(memory, &mut self.source);
         self.stage = PartStage::Among(place);
         answer
     }
@@ -186,10 +187,11 @@ impl<R: Read> Entries for PartReader<R> {
 
     ghost refusals = { IsReadRefusal };
 
-    /// The next entry, or None at the end. The header is read before the first. Behind the last one it sees that the text tells
+    /// The next entry, kept in this memory, or None at the end. The header is read before the first. Behind the last one it sees that the text tells
     /// how many there were, and ends. Refuses with `OutOfMemory` and, exactly where the count of failures has risen, with `Device`,
     /// else with the first fault of the text, which is that of `Part::decode`. After a refusal it answers the same one from then on.
-    fn next(&mut self) -> Result<Option<Triple>, Refusal>
+    #[inline(always)]
+    fn next(&mut self, memory: Vec<u8>) -> Result<Option<EntryText>, Refusal>
         ensures given { GivesNext (coming_of R.remaining self.old) (coming_of R.remaining self.new) result }
         ensures lawful { IsLawfulNext (ranges_read self.new) (last_given self.old) result }
         ensures passes { PassesTo (last_given self.old) (last_given self.new) result }
@@ -203,12 +205,10 @@ impl<R: Read> Entries for PartReader<R> {
         ensures within { GivesWithin reads_within self.old self.new result }
         ensures refusals { IfErr result IsReadRefusal }
     {
-        match self.step() {
-            Ok(next) => Ok(next),
-            Err(why) => {
-                self.refuse(&why);
-                Err(why)
-            }
+        let answer = self.step(memory);
+        if let Err(why) = &answer {
+            self.refuse(why);
         }
+        answer
     }
 }

@@ -4,6 +4,7 @@ ghost use Rattle.std.specs.Int.{w32};
 ghost use Rattle.std.specs.Io.KnownBytes.{Keeps, IsAtEnd};
 ghost use Rattle.pc_types.specs.Fields.{number_at};
 ghost use Rattle.pc_types.specs.Tallies.{inner_of, failures_of};
+ghost use Rattle.pc_part.specs.Lent.{IsHead};
 ghost use Rattle.pc_part.specs.Parts.{AreRanges, RangesFrom};
 ghost use Rattle.pc_part.specs.Reading.{header_at, next_entry_at};
 ghost use Rattle.pc_streams.specs.Draws.{Counts, Draws};
@@ -12,9 +13,9 @@ ghost use Rattle.pc_streams.specs.Refusals.{IsReadRefusal};
 ghost use Rattle.pc_streams.specs.Sources.{text_left, tally_of, buffered, is_over_at};
 
 use crate::buffer::Buffer;
-use pc_part::{PartHeader, Range, read_header, read_next_entry};
-use pc_types::{Format, Refusal, Tally, Triple, read_u32};
-use std::alloc::Global;
+use pc_part::{EntryText, LentEntry, PartHeader, Range, lend_next_entry, read_header};
+use pc_types::{Format, Refusal, Tally, read_u32};
+use std::alloc::{AllocError, Global};
 use std::io::Read;
 
 /// The text of a counted reader, read from its front, piece by piece. In memory is a buffer for the longest field that was asked
@@ -63,28 +64,32 @@ impl<R: Read> Source<R> {
         }
     }
 
-    /// The entry behind the last key, or None at the end mark, of a text in this format. Refuses with `OutOfMemory` and, exactly where the count of failures
-    /// has risen, with `Device`, else with `Short`, `BadLength`, `KeyOrder`, `NotCovered` or `BadKind`, the first fault of the text
+    /// The entry behind the last key, which has this head, or None at the end mark, of a text in this format. It is kept in this memory. Refuses with
+    /// `OutOfMemory` and, exactly where the count of failures has risen, with `Device`, else with `Short`, `BadLength`, `KeyOrder`, `NotCovered` or `BadKind`, the first fault of the text
     /// that is left.
+    #[inline(always)]
     pub fn entry(
         &mut self,
-        alloc: Global,
+        memory: Vec<u8>,
         format: Format,
         ranges: &[Range],
         last: &[u8],
-    ) -> Result<Option<Triple>, Refusal>
-        requires { RangesFrom 1 ranges.now }
+        last_head: u64,
+    ) -> Result<Option<EntryText>, Refusal>
+        requires ranges { RangesFrom 1 ranges.now }
+        requires head { IsHead last.now last_head }
         ensures drawn { Draws (λ entry. entry) (text_left R.remaining self.old) (text_left R.remaining self.new) result (next_entry_at format ranges.now last.now) }
         ensures lawful { IsLawfulNext ranges.now last.now result }
         ensures counts { Counts (tally_of self.old) (tally_of self.new) result }
         ensures refusals { IfErr result IsReadRefusal }
     {
         loop {
-            match read_next_entry(alloc, format, ranges, last, self.buffer.left()) {
+            match lend_next_entry(format, ranges, last, last_head, self.buffer.left()) {
                 Ok((entry, rest)) => {
-                    let kept = rest.len();
-                    self.buffer.keep_last(kept);
-                    return Ok(entry);
+                    let left = rest.len();
+                    let kept = keep(entry, memory)?;
+                    self.buffer.keep_last(left);
+                    return Ok(kept);
                 }
                 Err(why) => self.read_on(why)?,
             }
@@ -140,5 +145,16 @@ impl<R: Read> Source<R> {
             Ok(_) => Ok(()),
             Err(failed) => Err(failed),
         }
+    }
+}
+
+// The entry, if there is one, kept in this memory. It fails only where memory ran out.
+#[inline(always)]
+fn keep(entry: Option<LentEntry>, memory: Vec<u8>) -> Result<Option<EntryText>, AllocError>
+    ensures { IfOk result (λ kept. kept ≡ entry.entry) }
+{
+    match entry {
+        Some(entry) => Ok(Some(entry.keep(memory)?)),
+        None => Ok(None),
     }
 }

@@ -1,9 +1,9 @@
 //! A part's text, read piece by piece, by readers that give few bytes or fail.
 use crate::tape::Tape;
 use pc_merge::Entries;
-use pc_part::Part;
+use pc_part::{EntryText, Part};
 use pc_streams::PartReader;
-use pc_types::{Refusal, Tally, Triple};
+use pc_types::{Refusal, SPACE_BYTES, Tally};
 use std::alloc::{AllocError, Global};
 use std::io::{ErrorKind, Read};
 use std::test::Fail;
@@ -44,18 +44,18 @@ fn reader_of(
     )
 }
 
-fn push_entry(text: &mut Vec<u8>, entry: &Triple) -> Result<(), AllocError> {
-    let own = entry.key.own_bytes();
-    text.extend_from_slice(&(own.len() as u16).to_be_bytes())?;
-    text.extend_from_slice(&entry.key.space().to_be_bytes())?;
-    text.extend_from_slice(own)?;
-    text.extend_from_slice(&u32::from(entry.point.0).to_be_bytes())?;
-    match &entry.content {
+// The entry in format 02, of what it shows.
+fn push_entry(text: &mut Vec<u8>, entry: &EntryText) -> Result<(), AllocError> {
+    let own = entry.key().len().saturating_sub(SPACE_BYTES) as u16;
+    text.extend_from_slice(&own.to_be_bytes())?;
+    text.extend_from_slice(entry.key())?;
+    text.extend_from_slice(&u32::from(entry.point()).to_be_bytes())?;
+    match entry.value() {
         None => text.push(0)?,
         Some(value) => {
             text.push(1)?;
-            text.extend_from_slice(&(value.as_bytes().len() as u32).to_be_bytes())?;
-            text.extend_from_slice(value.as_bytes())?;
+            text.extend_from_slice(&(value.len() as u32).to_be_bytes())?;
+            text.extend_from_slice(value)?;
         }
     }
     Ok(())
@@ -72,13 +72,19 @@ fn push_header<R: Read>(text: &mut Vec<u8>, reader: &mut PartReader<R>) -> Resul
     Ok(())
 }
 
-// The text in format 02 of what a reader gives, entry by entry, up to its end.
+// The text in format 02 of what a reader gives, entry by entry, up to its end; a Conflict where an entry's own text is another one.
 fn told<R: Read>(alloc: Global, reader: &mut PartReader<R>) -> Result<Vec<u8>, Refusal> {
     let mut text = Vec::new(alloc);
     push_header(&mut text, reader)?;
     for count in 0..u32::MAX {
-        match reader.next()? {
-            Some(entry) => push_entry(&mut text, &entry)?,
+        match reader.next(Vec::new(alloc))? {
+            Some(entry) => {
+                let start = text.len();
+                push_entry(&mut text, &entry)?;
+                if text.get(start..) != Some(entry.text()) {
+                    return Err(Refusal::Conflict);
+                }
+            }
             None => {
                 text.extend_from_slice(&[0, 0])?;
                 text.extend_from_slice(&count.to_be_bytes())?;
@@ -100,7 +106,7 @@ fn gives_as(alloc: Global, bytes: &[u8], wanted: &[u8], step: usize) -> bool {
     match told(alloc, &mut reader) {
         Ok(text) => {
             text.as_slice() == wanted
-                && matches!(reader.next(), Ok(None))
+                && matches!(reader.next(Vec::new(alloc)), Ok(None))
                 && reader.header().is_ok()
                 && reader.failures() == 0
         }
@@ -118,7 +124,7 @@ fn refusal_of(
     let mut reader = reader_of(alloc, bytes, step, then);
     let first = told(alloc, &mut reader).err();
     let failures = reader.failures();
-    let again = reader.next().err();
+    let again = reader.next(Vec::new(alloc)).err();
     let header = reader.header().err();
     if again == first && header == first && reader.failures() == failures {
         first

@@ -15,7 +15,7 @@ const ROOM: usize = 256;
 fn gives_all(alloc: Global) -> Result<bool, Refusal> {
     let mut reader = PartReader::new(alloc, Tally::new(TEXTS[0]));
     for count in 0..3 {
-        let next = reader.next()?;
+        let next = reader.next(Vec::new(alloc))?;
         if next.is_some() != (count < 2) {
             return Ok(false);
         }

@@ -1,8 +1,9 @@
 //! Tests of merges, by tables and beside the join of files by twos.
 
 use pc_merge::{Entries, EntryList, MOST_INPUTS, Merge, merge_all};
-use pc_part::{Part, join};
-use pc_types::{Key, Point, Refusal, Triple, Value};
+use pc_part::{EntryText, Part, join};
+use pc_taken::LentTriple;
+use pc_types::{Key, Point, Refusal, SPACE_BYTES, Triple, Value};
 use std::alloc::Global;
 use std::marker::Model;
 use std::test::Fail;
@@ -69,20 +70,33 @@ fn triple_of(alloc: Global, row: &Row) -> Result<Triple, Refusal> {
     })
 }
 
+// The triple's entry, kept as its text.
+fn kept(alloc: Global, triple: &Triple) -> Result<EntryText, Refusal> {
+    let lent = LentTriple {
+        key: &triple.key,
+        point: triple.point,
+        content: &triple.content,
+    };
+    let entry = EntryText::of(Vec::new(alloc), &lent)?;
+    Ok(entry)
+}
+
 fn list_of(alloc: Global, rows: &[Row]) -> Result<EntryList, Refusal> {
     let mut entries = Vec::new(alloc);
     for row in rows {
-        entries.push(triple_of(alloc, row)?)?;
+        let triple = triple_of(alloc, row)?;
+        entries.push(kept(alloc, &triple)?)?;
     }
     Ok(EntryList::new(entries))
 }
 
-fn is_of(entry: &Triple, row: &Row) -> bool {
-    let content = match &entry.content {
-        Some(value) => value.as_bytes().first().copied(),
+fn is_of(entry: &EntryText, row: &Row) -> bool {
+    let content = match entry.value() {
+        Some(value) => value.first().copied(),
         None => None,
     };
-    entry.key.own_bytes() == row.0 && entry.point.0 == row.1 && content == row.2
+    let own = entry.key().get(SPACE_BYTES..);
+    own == Some(row.0) && entry.point() == row.1 && content == row.2
 }
 
 // A merge with its inputs.
@@ -114,7 +128,7 @@ impl<E: Entries + Drop> Running<E> {
         Ok(Running { inputs, merge })
     }
 
-    fn next(&mut self) -> Result<Option<Triple>, Refusal> {
+    fn next(&mut self) -> Result<Option<EntryText>, Refusal> {
         self.merge.next(&mut self.inputs)
     }
 }
@@ -177,7 +191,7 @@ impl Entries for CutList {
 
     ghost within = { λ _ _. ⊥ };
 
-    fn next(&mut self) -> Result<Option<Triple>, Refusal> {
+    fn next(&mut self, memory: Vec<u8>) -> Result<Option<EntryText>, Refusal> {
         if let Some(why) = self.refused {
             return Err(why);
         }
@@ -187,7 +201,7 @@ impl Entries for CutList {
             return Err(Refusal::Device);
         }
         self.left -= 1;
-        match self.entries.next() {
+        match self.entries.next(memory) {
             Ok(entry) => Ok(entry),
             Err(_) => Ok(None),
         }
@@ -285,6 +299,14 @@ fn entries_of(alloc: Global, part: &Part) -> Result<Vec<Triple>, Refusal> {
     Ok(entries)
 }
 
+fn entry_list(alloc: Global, part: &Part) -> Result<EntryList, Refusal> {
+    let mut entries = Vec::new(alloc);
+    for triple in part.entries() {
+        entries.push(EntryText::of(Vec::new(alloc), &triple)?)?;
+    }
+    Ok(EntryList::new(entries))
+}
+
 fn is_same(one: &Triple, other: &Triple) -> bool {
     let content = match (&one.content, &other.content) {
         (Some(value), Some(other)) => value.is(other),
@@ -300,7 +322,7 @@ fn is_the_join(alloc: Global, files: u8) -> Result<bool, Refusal> {
     let mut joined = Part::decode(alloc, &text_of(alloc, 1)?)?;
     for point in 1..=files {
         let part = Part::decode(alloc, &text_of(alloc, point)?)?;
-        lists.push(EntryList::new(entries_of(alloc, &part)?))?;
+        lists.push(entry_list(alloc, &part)?)?;
         joined = join(alloc, &joined, &part)?;
     }
     if lists.len() > MOST_INPUTS {

@@ -30,12 +30,12 @@ loop-preserved g c =
     let given_within = subst (λ (e : Option Triple). AllGiveWithin g.E.Entries.within c.loop.inputs c.loop.merge.firsts c.next.new.inputs c.next.new.self.firsts (gives e)) c.in-Some.is next.within in
     record {
       count = search rules;
-      together = next.together;
+      together = rw c.take_back.ensures next.together;
       sound = search rules;
       stand = search rules;
-      to_come = λ points all. (given_within points (before.to_come points all)).1;
-      given = λ points all. rw c.in_ok-push.ensures.items (All-push (λ (e : Triple). IsTrue (points e.point)) c.loop.all.items entry (before.given points all) (given_within points (before.to_come points all)).0);
-      way = λ was known. rw c.in_ok-push.ensures.items
+      to_come = λ points all. rw c.take_back.ensures ((given_within points (before.to_come points all)).1);
+      given = λ points all. rw c.in_ok-push_triple.ensures.items (All-push (λ (e : Triple). IsTrue (points e.point)) c.loop.all.items entry (before.given points all) (given_within points (before.to_come points all)).0);
+      way = λ was known. rw (c.in_ok-push_triple.ensures.items, c.take_back.ensures)
           (way_on was c.loop.all.items (left_in (map g.E.Entries.coming c.loop.inputs) c.loop.merge) (left_in (map g.E.Entries.coming c.next.new.inputs) c.next.new.self) (before.way was known) entry
           (subst (λ (e : Option Triple). GoesOn (left_in (map g.E.Entries.coming c.loop.inputs) c.loop.merge) (left_in (map g.E.Entries.coming c.next.new.inputs) c.next.new.self) (gives e)) c.in-Some.is next.goes_on));
     }

@@ -44,7 +44,7 @@ returns-clause-steps g c = λ begun joining.
     let answered : HasAnswered g.R.Read.remaining c.args.inputs.now c.args.merge.now c.next.new.inputs c.next.new.self c.in_ok-entry.field-0 =
     (c.in_ok-entry.ensures.goes_on, c.in_ok-entry.ensures.stand joining.unrefused, c.in_ok-entry.ensures.rises, c.in_ok-entry.ensures.within, c.in_ok-entry.ensures.refused) in
     let a = subst (HasAnswered g.R.Read.remaining c.args.inputs.now c.args.merge.now c.next.new.inputs c.next.new.self) c.in-Some.is answered in (
-      entry_written g.R.Read.remaining g.W.Write.contents begun c.args.inputs.now c.args.merge.now c.args.writer.now c.args.out.now joining c.next.new.inputs c.next.new.self c.in-Some.entry
-          a.0 a.1 a.2 a.3 a.4 c.entry-2.ensures.lawful (room_of c.args.writer.now.count (sym c.is_full.ensures ∙ c.if-is_full.false)) c.entry-2.new.self c.entry-2.new.out c.in_ok-entry-2.ensures.goes c.in_ok-entry-2.ensures.counted,
+      rw c.take_back.ensures (entry_written g.R.Read.remaining g.W.Write.contents begun c.args.inputs.now c.args.merge.now c.args.writer.now c.args.out.now joining c.next.new.inputs c.next.new.self c.in-Some.entry
+          a.0 a.1 a.2 a.3 a.4 c.entry-2.ensures.lawful (room_of c.args.writer.now.count (sym c.is_full.ensures ∙ c.if-is_full.false)) c.entry-2.new.self c.entry-2.new.out c.in_ok-entry-2.ensures.goes c.in_ok-entry-2.ensures.counted),
       c.in_ok-entry-2.ensures.counted,
     )
