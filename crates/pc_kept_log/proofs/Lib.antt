@@ -2,4 +2,5 @@ mod PlacingLaws
 mod DistinctKeys
 mod ChunkLaws
 mod LentWriteLaws
+mod LentEntryLaws
 mod PieceLaws

@@ -1,7 +1,8 @@
 -- A log in memory.
-use Rattle.std.specs.Prelude.{ℕ, ◌≤◌, List, [], ◌++◌, Option, Some}
+use Rattle.std.specs.Prelude.{ℕ, ◌≤◌, List, [], ◌++◌, Option, Some, None}
 use Rattle.pc_types.specs.declared.Entry.{Entry}
 use Rattle.pc_types.specs.declared.Entry.TheVariants.{Commit, Token}
+use Rattle.pc_types.specs.declared.Phase.{Phase}
 use Rattle.pc_types.specs.declared.limits.TheConstants.{MOST_SESSIONS}
 use Rattle.pc_types.specs.declared.Write.{Write}
 use Rattle.pc_model.specs.DistinctWrites.{AreDistinct}
@@ -26,3 +27,8 @@ IsFitEntry (Token phase point) = 1 ≤ point
 abbrev pub writes_of_entry : Option Entry → List Write
 writes_of_entry (Some (Commit session writes)) = writes
 writes_of_entry other = []
+
+-- the phase and the point of a token; a commit has none
+abbrev pub token_of : Entry → Option (Phase × ℕ)
+token_of (Commit session writes) = None
+token_of (Token phase point) = Some (phase, point)

@@ -1,20 +1,23 @@
 //! The writes of an entry are lent from its text, without memory.
-ghost use Rattle.std.specs.Prelude.{◌≡◌, ◌<◌, [], length, slice_get};
+ghost use Rattle.std.specs.Prelude.{◌≡◌, ◌<◌, [], length, slice_get, IfOk};
 ghost use Rattle.std.specs.Iterator.{YieldsFirst, item_count};
 ghost use Rattle.pc_types.specs.Fields.{Reads, key_at, value_at};
 ghost use Rattle.pc_types.specs.declared.refusal.Refusal.TheVariants.{BadLength};
 ghost use Rattle.pc_types.specs.declared.formats.Format.TheVariants.{Second};
+ghost use Rattle.pc_types.specs.Limits.{IsKey, IsValue};
 ghost use Rattle.pc_log.specs.Reading.{change_at};
 ghost use Rattle.pc_kept_log.specs.Logs.{entries_of, writes_of_entry};
-ghost use Rattle.pc_kept_log.specs.LentChanges.{lent_change};
+ghost use Rattle.pc_kept_log.specs.LentChanges.{lent_change, IsShort};
 ghost use Rattle.pc_kept_log.specs.LentWrites.{plain_write_at};
 
 use crate::chunk::Chunk;
 use crate::log::Log;
 use pc_log::COMMIT;
 use pc_types::{
-    Format, MOST_VALUE_BYTES, Refusal, read_bytes, read_key_text, read_u16, read_u32, read_u64,
+    Change, Format, Key, MOST_VALUE_BYTES, Refusal, Value, Write, read_bytes, read_key_text,
+    read_u16, read_u32, read_u64,
 };
+use std::alloc::{AllocError, Global};
 use std::marker::Model;
 
 /// A write of a log's entry, lent. A contract sees the write.
@@ -39,11 +42,40 @@ pub enum LentChange<'a> {
 
 impl<'a> Model for LentWrite<'a> {
     ghost use Rattle.pc_types.specs.declared.Write.{Write};
-    ghost use Rattle.pc_kept_log.specs.LentChanges.{lent_change};
+    ghost use Rattle.pc_kept_log.specs.LentChanges.{lent_change, IsShortWrite};
 
     ghost Value = { Write };
 
     ghost view = { λ w. record { key = w.key.now; change = lent_change w.change } };
+
+    ghost invariant = { λ w. IsShortWrite (record { key = w.key.now; change = lent_change w.change }) };
+}
+
+impl<'a> LentWrite<'a> {
+    /// The same write, with a key and a value of its own. It takes memory only for a key with more than 16 bytes of its own and for
+    /// a value of more than 16 bytes, and fails only where that ran out.
+    pub fn to_write(&self, alloc: Global) -> Result<Write, AllocError>
+        ensures { IfOk result (λ write. write ≡ self.now) }
+    {
+        let key = Key::of_bytes(alloc, self.key)?;
+        let change = to_change(alloc, &self.change)?;
+        Ok(Write { key, change })
+    }
+}
+
+// The same change, with a value of its own.
+fn to_change(alloc: Global, change: &LentChange<'_>) -> Result<Change, AllocError>
+    requires { IsShort (lent_change change.now) }
+    ensures { IfOk result (λ own. own ≡ lent_change change.now) }
+{
+    match change {
+        LentChange::Set(bytes) => match Value::new(alloc, bytes) {
+            Ok(value) => Ok(Change::Set(value)),
+            Err(_) => Err(AllocError),
+        },
+        LentChange::Remove => Ok(Change::Remove),
+        LentChange::Add(delta) => Ok(Change::Add(*delta)),
+    }
 }
 
 /// The writes of an entry, lent one after the other. A contract sees those to come.
@@ -89,7 +121,7 @@ impl<'a> LentWrites<'a> {
 
 impl Chunk {
     // The writes of the entry at this place, which counts from 0.
-    fn writes(&self, place: usize) -> LentWrites<'_>
+    pub(crate) fn writes(&self, place: usize) -> LentWrites<'_>
         requires { place < length self.now.entries }
         ensures { result ≡ writes_of_entry (slice_get self.now.entries place) }
     {
@@ -158,7 +190,8 @@ fn lend_write(bytes: &[u8]) -> Result<(LentWrite<'_>, &[u8]), Refusal>
 // A key, the length of its own bytes before it.
 #[tactic(auto, unfolding(pc_types::specs::Fields::key_at))]
 fn lend_key(bytes: &[u8]) -> Result<(&[u8], &[u8]), Refusal>
-    ensures { Reads (λ x. (x.0.now, x.1.now)) result (key_at Second BadLength bytes.now) }
+    ensures read { Reads (λ x. (x.0.now, x.1.now)) result (key_at Second BadLength bytes.now) }
+    ensures in_limits { IfOk result (λ x. IsKey x.0.now) }
 {
     let (count, rest) = read_u16(bytes, Refusal::BadLength)?;
     read_key_text(Format::Second, rest, count, Refusal::BadLength)
@@ -167,7 +200,8 @@ fn lend_key(bytes: &[u8]) -> Result<(&[u8], &[u8]), Refusal>
 // What a write does to its key: a kind of 0 and nothing, of 1 and a value, or of 2 and a number in two's complement.
 #[tactic(auto, unfolding(pc_log::specs::Reading::change_at))]
 fn lend_change(bytes: &[u8]) -> Result<(LentChange<'_>, &[u8]), Refusal>
-    ensures { Reads (λ x. (lent_change x.0, x.1.now)) result (change_at bytes.now) }
+    ensures read { Reads (λ x. (lent_change x.0, x.1.now)) result (change_at bytes.now) }
+    ensures in_limits { IfOk result (λ x. IsShort (lent_change x.0)) }
 {
     match bytes {
         [] => Err(Refusal::BadLength),
@@ -187,7 +221,8 @@ fn lend_change(bytes: &[u8]) -> Result<(LentChange<'_>, &[u8]), Refusal>
 // A value, its length before it.
 #[tactic(auto, unfolding(pc_types::specs::Fields::value_at))]
 fn lend_value(bytes: &[u8]) -> Result<(&[u8], &[u8]), Refusal>
-    ensures { Reads (λ x. (x.0.now, x.1.now)) result (value_at BadLength bytes.now) }
+    ensures read { Reads (λ x. (x.0.now, x.1.now)) result (value_at BadLength bytes.now) }
+    ensures in_limits { IfOk result (λ x. IsValue x.0.now) }
 {
     let (count, rest) = read_u32(bytes, Refusal::BadLength)?;
     if MOST_VALUE_BYTES < count as usize {

@@ -4,10 +4,12 @@
 mod chunk;
 mod entries;
 mod lending;
+mod lent_entries;
 mod lent_writes;
 mod log;
 mod placing;
 
 pub use lending::LentTexts;
+pub use lent_entries::{LentEntries, LentEntry};
 pub use lent_writes::{LentChange, LentWrite, LentWrites};
 pub use log::Log;

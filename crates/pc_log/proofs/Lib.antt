@@ -3,7 +3,7 @@ pub mod ChangeTexts
 mod Loops
 mod CommitTexts
 pub mod TurnLaws
-mod TokenOrders
+pub mod TokenOrders
 mod EntryTexts
 pub mod EntriesAgain
 pub mod PlainTextLaws

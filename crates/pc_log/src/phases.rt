@@ -19,8 +19,8 @@ pub fn number(phase: Phase) -> u8
     }
 }
 
-// The phase of this number. Refuses with `BadKind` exactly where it is above 4.
-pub(crate) fn numbered(number: u8) -> Result<Phase, Refusal>
+/// The phase of this number. Refuses with `BadKind` exactly where it is above 4.
+pub fn numbered(number: u8) -> Result<Phase, Refusal>
     ensures { Reads (λ phase. phase) result (phase_numbered number) }
 {
     match number {
