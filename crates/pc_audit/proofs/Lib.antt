@@ -1,1 +1,2 @@
 pub mod RightFiles
+mod TableLemmas

@@ -3,46 +3,53 @@ ghost use Rattle.std.specs.Prelude.{◌≡◌, ◌↔◌, ◌++◌, All, IsTrue,
 ghost use Rattle.pc_types.specs.declared.Entry.{Entry};
 ghost use Rattle.pc_model.specs.Database.{Database, database_of};
 ghost use Rattle.pc_model.specs.Log.{after};
+ghost use Rattle.pc_kept_log.specs.Logs.{entries_of};
 ghost use Rattle.pc_replay.specs.Audits.{IsRight, TriplesRise};
 ghost use Rattle.pc_audit.specs.Checks.{IsFileRight};
 
+use crate::replays::{audit_log, is_log_replay};
 use pc_capture::SharedPart;
+use pc_kept_log::Log;
 use pc_part::{Base, Part};
-use pc_replay::{CompleteFile, audit, is_replay};
+use pc_replay::CompleteFile;
 use pc_taken::Pass;
-use pc_types::{Entry, Key, Triple, Value};
+use pc_types::{Key, Triple, Value};
 use std::alloc::{AllocError, Global};
+use std::hash::RandomState;
 
 /// Whether the pairs are the log replayed on the base, and each file of the points 1 to some n, laid on the base, is the
-/// state of n. It fails only where memory ran out.
+/// state of n. Keys are hashed under the seed, two words given by chance. It fails only where memory ran out.
 pub fn is_sound(
     alloc: Global,
+    seed: RandomState,
     base: &Base,
-    log: &[Entry],
+    log: &Log,
     files: &[SharedPart],
     pairs: &[(Key, Value)],
 ) -> Result<bool, AllocError>
-    ensures { IfOk result (λ sound. IsTrue sound ↔ ((database_of pairs.now ≡ after base.now.pairs log.now) × All (IsFileRight base.now.pairs log.now) files.now)) }
+    ensures { IfOk result (λ sound. IsTrue sound ↔ ((database_of pairs.now ≡ after base.now.pairs (entries_of log.now)) × All (IsFileRight base.now.pairs (entries_of log.now)) files.now)) }
 {
-    if !is_replay(alloc, base.pairs(), log, pairs)? {
+    if !is_log_replay(alloc, seed, base.pairs(), log, pairs)? {
         return Ok(false);
     }
-    let right = are_files_right(alloc, base, log, files)?;
+    let right = are_files_right(alloc, seed, base, log, files)?;
     Ok(right)
 }
 
 /// Whether each of the files that is of the points 1 to some n is right by the log: the token of n stands in it, and the base
-/// with the file laid on it is the state of n. Files of other points are passed by. It fails only where memory ran out.
+/// with the file laid on it is the state of n. Files of other points are passed by. Keys are hashed under the seed, two words given
+/// by chance. It fails only where memory ran out.
 pub fn are_files_right(
     alloc: Global,
+    seed: RandomState,
     base: &Base,
-    log: &[Entry],
+    log: &Log,
     files: &[SharedPart],
 ) -> Result<bool, AllocError>
-    ensures { IfOk result (λ right. IsTrue right ↔ All (IsFileRight base.now.pairs log.now) files.now) }
+    ensures { IfOk result (λ right. IsTrue right ↔ All (IsFileRight base.now.pairs (entries_of log.now)) files.now) }
 {
     let complete = complete_files(alloc, files)?;
-    let right = audit(alloc, base.pairs(), log, complete.as_slice())?;
+    let right = audit_log(alloc, seed, base.pairs(), log, complete.as_slice())?;
     Ok(right)
 }
 

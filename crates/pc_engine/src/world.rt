@@ -46,6 +46,8 @@ pub struct World {
     pub(crate) log: Log,
     pub(crate) taken: Taken,
     pub(crate) shelf: Vec<SharedPart>,
+    // That of the hashes of keys.
+    seed: RandomState,
 }
 
 impl Model for World {
@@ -106,6 +108,7 @@ impl World {
             log: Log::new(alloc),
             taken: Taken::new(alloc),
             shelf: Vec::new(alloc),
+            seed,
         })
     }
 
@@ -222,20 +225,20 @@ impl World {
         Ok(pairs)
     }
 
-    /// Whether the store is what its log says, by the slow forms of the definitions: its committed contents are the log
-    /// replayed on the base, and each file of the shelf whose points are those from 1 to some n, laid on the base, is the
-    /// state of n. It is so after every history. It fails only where memory ran out.
+    /// Whether the store is what its log says: its committed contents are the log replayed on the base, and each file of the
+    /// shelf whose points are those from 1 to some n, laid on the base, is the state of n. It is so after every history. The log
+    /// is read where it lies. It fails only where memory ran out.
     pub fn check(&self) -> Result<bool, Refusal>
         ensures sound { IfOk result (λ sound. IsTrue sound ↔ IsStoreSound self.now) }
         ensures always { (history : History) → Stands self.now history → IfOk result (λ sound. sound ≡ true) }
         ensures refusals { IfErr result (λ e. e ≡ Refusal.OutOfMemory) }
     {
         let pairs = self.committed()?;
-        let log = self.log().entries(self.alloc)?;
         let sound = is_sound(
             self.alloc,
+            self.seed,
             self.base(),
-            log.as_slice(),
+            self.log(),
             self.files(),
             pairs.as_slice(),
         )?;

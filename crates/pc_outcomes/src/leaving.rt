@@ -6,38 +6,38 @@ ghost use Rattle.pc_model.specs.History.{History};
 ghost use Rattle.pc_model.specs.LaidFiles.{laid_file};
 ghost use Rattle.pc_model.specs.Replies.{Setting};
 ghost use Rattle.pc_collapse.specs.declared.limits.TheConstants.{MOST_COLLAPSERS};
+ghost use Rattle.pc_kept_log.specs.Logs.{entries_of};
 ghost use Rattle.pc_outcomes.specs.Leaving.{is_commit, commits_in, summary_if_any, summary_of, with_file, Folded, AreLeftAfter, IsStoreReport, IsLegacy, IsUnfolded, IsUnlaid, IsReportUntold, IsUntoldAfter};
 
 use crate::run_report::{Collapsed, StoreReport};
 use pc_audit::{are_files_right, files_of_their_points_are_right};
 use pc_capture::SharedPart;
 use pc_collapse::{collapse_bag_owned, files_fold_well};
+use pc_kept_log::{LentEntry, Log};
 use pc_part::{Base, Part, lay};
-use pc_types::{Entry, Gate, Refusal};
+use pc_types::{Gate, Refusal};
 use std::alloc::{AllocError, Global};
+use std::hash::RandomState;
 use std::sync::Wait;
 use std::thread::Threads;
 
 /// How many commits the log has.
-pub fn commits_in(log: &[Entry]) -> usize
-    ensures { result ≡ commits_in log.now }
+pub fn commits_in(log: &Log) -> usize
+    ensures { result ≡ commits_in (entries_of log.now) }
 {
     let mut count = 0;
-    for entry in log {
-        if is_commit(entry) {
+    for entry in log.lent(0, log.len()) {
+        if is_commit(&entry) {
             count += 1;
         }
     }
     count
 }
 
-fn is_commit(entry: &Entry) -> bool
+fn is_commit(entry: &LentEntry<'_>) -> bool
     ensures { result ≡ is_commit entry.now }
 {
-    match entry {
-        Entry::Commit(_, _) => true,
-        Entry::Token(_, _) => false,
-    }
+    entry.token().is_none()
 }
 
 fn copies(alloc: Global, parts: &[SharedPart]) -> Result<Vec<Part>, AllocError>
@@ -144,12 +144,13 @@ fn behind(files: &[SharedPart], singles: usize) -> &[SharedPart]
 /// that one is audited too. After a legal history all is right. Refuses for what keeps them from being folded, or the base from having
 /// their fold laid on it, and else with `OutOfMemory` alone: after a legal history that is `Gap`, where one of the points up to theirs
 /// is missing, or `Full`, and that only of a store that began with more pairs than it has room for, or has room for more than a file
-/// may have.
+/// may have. Keys are hashed under the seed, two words given by chance.
 pub fn left_by<G: Gate + Sync, R: Threads + Wait + Sync>(
     rt: &R,
     alloc: Global,
+    seed: RandomState,
     base: &Base,
-    log: &[Entry],
+    log: &Log,
     files: Vec<SharedPart>,
     singles: usize,
     collapsers: u8,
@@ -157,17 +158,17 @@ pub fn left_by<G: Gate + Sync, R: Threads + Wait + Sync>(
 ) -> Result<StoreReport, Refusal>
     requires singles { singles ≤ length files.items }
     requires collapsers { (1 ≤ collapsers) × (collapsers ≤ MOST_COLLAPSERS) }
-    ensures left { IfOk result (IsStoreReport base.now log.now files.items (drop singles files.items)) }
-    ensures legacy { (st : Setting) (history : History) → AreLeftAfter st history base.now log.now files.items → IfOk result (IsLegacy base.now log.now (drop singles files.items)) }
+    ensures left { IfOk result (IsStoreReport base.now (entries_of log.now) files.items (drop singles files.items)) }
+    ensures legacy { (st : Setting) (history : History) → AreLeftAfter st history base.now (entries_of log.now) files.items → IfOk result (IsLegacy base.now (entries_of log.now) (drop singles files.items)) }
     ensures refused { IfErr result (IsReportUntold base.now (drop singles files.items)) }
-    ensures untold { (st : Setting) (history : History) → AreLeftAfter st history base.now log.now files.items → IfErr result (IsUntoldAfter st (drop singles files.items)) }
+    ensures untold { (st : Setting) (history : History) → AreLeftAfter st history base.now (entries_of log.now) files.items → IfErr result (IsUntoldAfter st (drop singles files.items)) }
 {
     files_fold_well();
     files_of_their_points_are_right();
     let part = collapsed(rt, alloc, behind(&files, singles), collapsers, gate)?;
     let collapsed = summary_if_any(alloc, base, &part)?;
     let files = with_file(alloc, files, part)?;
-    let is_right = are_files_right(alloc, base, log, &files)?;
+    let is_right = are_files_right(alloc, seed, base, log, &files)?;
     Ok(StoreReport {
         collapsed,
         is_right,

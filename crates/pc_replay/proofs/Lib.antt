@@ -1,5 +1,5 @@
-mod AuditLemmas
+pub mod AuditLemmas
 mod ChangeLemmas
 mod FirstOfEach
-mod TreeLemmas
+pub mod TreeLemmas
 mod LaidInTurn

@@ -38,7 +38,7 @@ pub both : (a b : Bool) → (a && b) ≡ true → (a ≡ true) × (b ≡ true)
 both true b e = (refl, e)
 both false b e = cc
 
-found_too : (es : List (List ℕ × List ℕ)) (n : Database) (q v : List ℕ) → list_all (λ e. same_content (Some e.1) (get n e.0)) es ≡ true → find key_cmp q es ≡ Some v → get n q ≡ Some v
+pub found_too : (es : List (List ℕ × List ℕ)) (n : Database) (q v : List ℕ) → list_all (λ e. same_content (Some e.1) (get n e.0)) es ≡ true → find key_cmp q es ≡ Some v → get n q ≡ Some v
 found_too [] n q v all there = cc
 found_too (e ∷ es) n q v all there =
     let parts = both (same_content (Some e.1) (get n e.0)) (list_all (λ x. same_content (Some x.1) (get n x.0)) es) all in
@@ -52,7 +52,7 @@ found_too (e ∷ es) n q v all there =
 has_too : (m n : Database) (q v : List ℕ) → has_all m n ≡ true → get m q ≡ Some v → get n q ≡ Some v
 has_too m n q v all there = found_too m.entries n q v all (sym (get-entries m q) ∙ there)
 
-same_at : (a b : Option (List ℕ)) → ((v : List ℕ) → a ≡ Some v → b ≡ Some v) → ((v : List ℕ) → b ≡ Some v → a ≡ Some v) → a ≡ b
+pub same_at : (a b : Option (List ℕ)) → ((v : List ℕ) → a ≡ Some v → b ≡ Some v) → ((v : List ℕ) → b ≡ Some v → a ≡ Some v) → a ≡ b
 same_at None None first second = refl
 same_at None (Some w) first second = second w refl
 same_at (Some v) b first second = sym (first v refl)

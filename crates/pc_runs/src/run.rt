@@ -202,7 +202,7 @@ fn run_read<
     }
     let (folder, log) = begin(folder, &base)?;
     let opened = Opened::new(alloc, base, MOST_SESSIONS, capacity, seed)?;
-    run_store::<Brand, F, D, G, H>(rt, alloc, opened, workload, crew, folder, log)
+    run_store::<Brand, F, D, G, H>(rt, alloc, seed, opened, workload, crew, folder, log)
 }
 
 // Begins the files of the folder, where there is one. A file of which a call failed is handed back.

@@ -37,6 +37,7 @@ use pc_tie::StoreName;
 use pc_types::{Gate, Tally};
 use pc_workers::{ClientGate, log_rest, with_missing_points};
 use std::alloc::{AllocError, Global};
+use std::hash::RandomState;
 use std::io::Write;
 use std::mem;
 use std::sync::Wait;
@@ -151,7 +152,8 @@ fn all_tickets<N: StoreName>(
 /// Runs the workload over the store, which has a session for each of its clients, to its close, and tells what it leaves. Where there
 /// is a folder, which has the base's file and that of the log, which is blank, the log is written to it beside the threads, and its
 /// rest once the store is closed; and so is the file of each point, once the point was taken. What goes out to such a file has to count
-/// as gone out by the store's name. It fails for nothing but what `specs/Faults` names.
+/// as gone out by the store's name. The seed is that of the hashes of keys where what is left is compared with the log. It fails for
+/// nothing but what `specs/Faults` names.
 pub fn run_store<
     N: StoreName + Send + Sync,
     F: Write + Drop + Send,
@@ -161,6 +163,7 @@ pub fn run_store<
 >(
     rt: &R,
     alloc: Global,
+    seed: RandomState,
     opened: Opened,
     workload: Workload,
     crew: &Crew<'_, G>,
@@ -206,7 +209,7 @@ pub fn run_store<
     let Written { pass, out } = logged;
     let closed = shared.close(sessions, seat, tickets, pass);
     let folder = finish_log(&closed, folder, out)?;
-    let left = leave(rt, alloc, closed, singles, crew)?;
+    let left = leave(rt, alloc, seed, closed, singles, crew)?;
     let outcome = RunReport {
         commits: left.commits,
         given_up,
@@ -227,6 +230,7 @@ struct Legacy {
 fn leave<N: StoreName, G: Gate + Sync, R: Threads + Wait + Sync>(
     rt: &R,
     alloc: Global,
+    seed: RandomState,
     closed: Closed<N>,
     singles: usize,
     crew: &Crew<'_, G>,
@@ -239,19 +243,19 @@ fn leave<N: StoreName, G: Gate + Sync, R: Threads + Wait + Sync>(
 {
     let mut closed = closed;
     let files = files_of(alloc, &mut closed)?;
-    let log = closed.log().entries(alloc)?;
     let files = left_by(
         rt,
         alloc,
+        seed,
         closed.base(),
-        log.as_slice(),
+        closed.log(),
         files,
         singles,
         crew.collapsers,
         crew.gate,
     )?;
     Ok(Legacy {
-        commits: commits_in(log.as_slice()) as u64,
+        commits: commits_in(closed.log()) as u64,
         files,
     })
 }
