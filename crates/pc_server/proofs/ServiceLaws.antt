@@ -21,6 +21,7 @@ use Rattle.pc_serving.specs.Requests.{request_of}
 use Rattle.pc_server.specs.Acts.{Act, AnswersRequest, answers_of}
 use Rattle.pc_server.specs.Acts.Act.{Answered, WentOn}
 use Rattle.pc_server.specs.Turns.{Stays}
+use Rattle.pc_server.specs.Inputs.{IsRead, ServesOn}
 use Rattle.pc_server.specs.Services.{GrowsFrom, Holds, IsCutOff, first_text}
 use Rattle.pc_server.specs.declared.server.Server.{Server}
 use Rattle.pc_server.specs.declared.service.Service.{Service}
@@ -168,3 +169,13 @@ module _ {T U : Type 0} (written keeps : T → Option (List ℕ)) (contents : U 
         sent = subst (AppendsBeginning out (contents (inner_of answers))) (sym (answers_on gone turn)) (begins_after out (contents (inner_of old.out)) (contents (inner_of answers)) (answers_of gone) (answers_of turn) holds.sent sent);
         kept = (after, kept_enough written keeps (log_of history) old.server.lag old.server.written after old.log device is_out, logged.1);
       }
+
+-- of the input nothing was read
+pub none_read : (input : Option (List ℕ)) → IsRead input input []
+none_read None = tt
+none_read (Some text) = refl
+
+-- an input may be served from the beginning on
+pub serves_from : {T U : Type 0} (written keeps : T → Option (List ℕ)) (contents : U → Option (List ℕ)) (log out : Option (List ℕ)) (st : Setting) (lag : ℕ) (service : Service T U) → service.server.lag ≡ lag → Holds written keeps contents log out st [] [] [] [] service
+    → (input : Option (List ℕ)) → ServesOn written keeps contents log out input st lag input service
+serves_from written keeps contents log out st lag service same holds input = ([], none_read input, ([], [], [], [], holds, refl, same))

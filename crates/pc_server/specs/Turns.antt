@@ -1,11 +1,16 @@
 -- How far a process that serves has come.
-use Rattle.std.specs.Prelude.{◌≡◌, ◌≤◌, ◌+◌, List, [], length}
+use Rattle.std.specs.Prelude.{◌≡◌, ◌≤◌, ◌+◌, ◌-◌, ◌^◌, ℕ, List, [], length, min, nat_lt, if◌then◌else◌}
 use Rattle.pc_types.specs.Tallies.{inner_of}
 use Rattle.pc_model.specs.History.{History, log_of}
 use Rattle.pc_model.specs.Replies.{Setting}
 use Rattle.pc_serving.specs.Serving.{Serves}
+use Rattle.pc_serving.specs.declared.pace.Pace.{Pace}
 use Rattle.pc_server.specs.Acts.{Act, Lead, answers_of}
 use Rattle.pc_server.specs.declared.server.Server.{Server}
+
+-- the pace behind a line, which has made a commit where the log has more entries than before
+abbrev pub paced : Pace → ℕ → ℕ → Pace
+paced pace before after = if nat_lt before after then record pace { commits = min (pace.commits + 1) (2 ^ 64 - 1) } else pace
 
 -- It did the acts `gone`, whose answers were sent, and then those of the turn, whose answers wait. Of the log as it was when the last
 -- answers were sent no more entries aren't kept than the lag.

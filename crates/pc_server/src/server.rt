@@ -11,7 +11,7 @@ ghost use Rattle.pc_turn.specs.Turns.{TurnEnds};
 ghost use Rattle.pc_serving.specs.Requests.{request_of};
 ghost use Rattle.pc_server.specs.Acts.{Act, AnswersRequest, answers_of, is_quit, run_line, stats_line};
 ghost use Rattle.pc_server.specs.Acts.Act.{Answered, WentOn};
-ghost use Rattle.pc_server.specs.Turns.{Stays};
+ghost use Rattle.pc_server.specs.Turns.{Stays, paced};
 
 use itoa::Buffer;
 use pc_engine::World;
@@ -51,7 +51,8 @@ impl Server {
         }
     }
 
-    /// Answers a line, which is given without its end, and keeps the answer until the turn ends. False if and only if the line asks for
+    /// Answers a line, which is given without its end, and keeps the answer until the turn ends; a commit counts towards the next
+    /// point. False if and only if the line asks for
     /// the end: nothing is answered then. Refuses only with `OutOfMemory`; the line may then have been asked of the store, and what was
     /// kept is no more what was answered.
     pub fn answer(&mut self, alloc: Global, line: &[u8]) -> Result<bool, Refusal>
@@ -59,13 +60,27 @@ impl Server {
             → OnOk result ((text : List ℕ) × (next : History) × AnswersRequest st history (request_of line.now) text next × Stays st gone at (Answered line.now text ∷ turn) next self.new) }
         ensures goes_on { IfOk result (λ goes_on. goes_on ≡ not (is_quit (request_of line.now))) }
         ensures refusals { IfErr result (λ e. e ≡ Refusal.OutOfMemory) }
+        ensures paced { OnOk result (self.new.pace ≡ paced self.old.pace (length self.old.served.world.log) (length self.new.served.world.log)) }
         ensures same { (self.new.lag ≡ self.old.lag) × (self.new.written ≡ self.old.written) }
     {
         let request = read_request(alloc, line)?;
         let goes_on = !matches!(&request, Request::Quit);
+        let before = self.served.world.log().len();
         match self.tell(alloc, request) {
-            Ok(()) => Ok(goes_on),
+            Ok(()) => {
+                self.note_since(before);
+                Ok(goes_on)
+            }
             Err(_) => Err(Refusal::OutOfMemory),
+        }
+    }
+
+    // Counts a commit where the log has more entries than before a line, of which no other one adds any.
+    fn note_since(&mut self, before: usize)
+        ensures { self.new ≡ record self.old { pace = paced self.old.pace before (length self.old.served.world.log) } }
+    {
+        if self.served.world.log().len() > before {
+            self.pace.note_commit();
         }
     }
 
@@ -74,7 +89,7 @@ impl Server {
         ensures told { (st : Setting) (gone turn : List Act) (at history : History) → Stays st gone at turn history self.old
             → OnOk result ((text : List ℕ) × (next : History) × AnswersRequest st history request text next
             × ((line : List ℕ) → request_of line ≡ request → Stays st gone at (Answered line text ∷ turn) next self.new)) }
-        ensures same { (self.new.lag ≡ self.old.lag) × (self.new.written ≡ self.old.written) }
+        ensures same { (self.new.lag ≡ self.old.lag) × (self.new.written ≡ self.old.written) × (self.new.pace ≡ self.old.pace) }
     {
         match request {
             Request::Quit => Ok(()),

@@ -11,6 +11,7 @@ ghost use Rattle.pc_serving.specs.Requests.{request_of};
 ghost use Rattle.pc_turn.specs.Devices.{Grows};
 ghost use Rattle.pc_server.specs.Acts.{Act, is_quit};
 ghost use Rattle.pc_server.specs.Acts.Act.{Answered, WentOn};
+ghost use Rattle.pc_server.specs.Inputs.{ServesOn};
 ghost use Rattle.pc_server.specs.Services.{Holds, IsCutOff};
 
 use crate::server::Server;
@@ -49,10 +50,23 @@ impl<L: LogDevice + Drop, W: Write + Drop> Service<L, W> {
         log: L,
         out: Tally<W>,
     ) -> Service<L, W>
-        ensures { Stands world [] → Grows (L.written log) (L.kept log) → Holds L.written L.kept W.contents (L.written log) (W.contents (inner_of out)) (setting_of world) [] [] [] [] result }
+        ensures holds { Stands world [] → Grows (L.written log) (L.kept log) → Holds L.written L.kept W.contents (L.written log) (W.contents (inner_of out)) (setting_of world) [] [] [] [] result }
+        ensures serves { Stands world [] → Grows (L.written log) (L.kept log) → (input : Option (List ℕ)) → ServesOn L.written L.kept W.contents (L.written log) (W.contents (inner_of out)) input (setting_of world) lag input result }
     {
         let server = Server::new(alloc, world, every, lag);
         Service { server, log, out }
+    }
+
+    /// The log's device and the output, as they stand.
+    pub fn into_devices(self) -> (L, Tally<W>)
+        ensures { result ≡ (self.log, self.out) }
+    {
+        let Service {
+            server: _,
+            log,
+            out,
+        } = self;
+        (log, out)
     }
 
     /// Answers a line, as `Server::answer` does; nothing goes out.

@@ -1,0 +1,7 @@
+//! A served store over inputs that come in pieces, and over devices in memory that fail at each call in turn.
+#![tactic(auto)]
+
+#[cfg(test)]
+mod devices;
+#[cfg(test)]
+mod serving;

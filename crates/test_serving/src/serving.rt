@@ -1,0 +1,198 @@
+//! What a served store answers, and what it leaves wherever a device fails.
+use crate::devices::{Files, MemoryLog, Output, Pieces};
+use pc_engine::World;
+use pc_part::Base;
+use pc_server::{CutOff, ServeFault, Service, serve_input};
+use pc_types::{Refusal, Tally};
+use std::alloc::Global;
+use std::hash::RandomState;
+use std::io::BufReader;
+use std::test::Fail;
+
+// Two sessions, of which the second waits and is granted its lock; a line that isn't one, and lines of serving.
+const LINES: &[u8] =
+    b"run\nbegin 1\nput 1 fig 7\nbegin 2\nadd 1 n 5\ncommit 1\nget 2 fig\nbegin 1\nget 1 pear\nput 2 pear 1\ncommit 1\ncommit 2\r\npoint\nstats\n\nfoo\n\n\n\n\n\n\n\n\n\n\n\nbegin 3\nquit\nbegin 2\n";
+
+const ANSWERS: &[u8] =
+    b"run 9\nbegun 1\nok\nbegun 2\nsum 5\ncommitted 1\n= 7\nbegun 3\nabsent\nwait\ncommitted 2\ngranted 2\ncommitted 3\nrefused WrongPhase\nentries=3\nbad line\nrefused NoSession\n";
+
+// What a store that was served leaves.
+#[derive(Drop)]
+struct Left {
+    ended: Result<(), ServeFault>,
+    log: MemoryLog,
+    sent: Vec<u8>,
+    files: usize,
+}
+
+fn device(alloc: Global, calls: usize) -> MemoryLog {
+    MemoryLog {
+        bytes: Vec::new(alloc),
+        kept: Vec::new(alloc),
+        calls,
+    }
+}
+
+// How a store is served: by which pieces the input comes, with how many calls of the log, bytes of answers and files of points that
+// succeed, and how many commits between two points.
+#[derive(Clone, Copy)]
+struct Case {
+    step: usize,
+    calls: usize,
+    room: usize,
+    files: usize,
+    every: u64,
+    lag: usize,
+}
+
+const SOUND: Case = Case {
+    step: 4096,
+    calls: 1_000_000,
+    room: 1_000_000,
+    files: 1_000,
+    every: 0,
+    lag: 0,
+};
+
+fn served(rt: &HostRuntime, case: Case) -> Result<Left, Fail> {
+    let alloc = rt.alloc();
+    let base = Base::start(9, Vec::new(alloc));
+    let world = World::new(alloc, base, 2, 100, RandomState::new(rt)?)?;
+    let out = Output {
+        bytes: Vec::new(alloc),
+        room: case.room,
+    };
+    let log = device(alloc, case.calls);
+    let mut service = Service::new(alloc, world, case.every, case.lag, log, Tally::new(out));
+    let input = Pieces {
+        rest: LINES,
+        step: case.step,
+    };
+    let mut input = BufReader::new(alloc, input)?;
+    let mut files = Files {
+        count: 0,
+        room: case.files,
+    };
+    let ended = serve_input(alloc, &mut service, &mut input, &mut files);
+    let (log, out) = service.into_devices();
+    Ok(Left {
+        ended,
+        log,
+        sent: out.into_inner().bytes,
+        files: files.count,
+    })
+}
+
+#[test]
+fn answers_are_the_same_in_pieces_of_any_size(rt: HostRuntime) -> Result<(), Fail> {
+    for step in [1, 2, 7, 64, 4096] {
+        let left = served(&rt, Case { step, ..SOUND })?;
+        assert_eq!(rt; left.ended, Ok(()));
+        assert_eq!(rt; left.sent.as_slice(), ANSWERS);
+        assert_eq!(rt; left.log.kept.last(), Some(&left.log.bytes.len()));
+    }
+    Ok(())
+}
+
+// How many commits were answered.
+fn commits_in(sent: &[u8]) -> usize {
+    let mut commits = 0usize;
+    for line in sent.split(|byte| *byte == b'\n') {
+        if line.starts_with(b"committed ") {
+            commits = commits.saturating_add(1);
+        }
+    }
+    commits
+}
+
+// The log's device fails at each of its calls in turn, an append and a sync for each commit: a beginning of the answers was sent, and
+// each commit that was answered is kept.
+#[test]
+fn no_answer_goes_before_its_log(rt: HostRuntime) -> Result<(), Fail> {
+    for calls in 0..6 {
+        let (step, calls) = (1, calls);
+        let left = served(
+            &rt,
+            Case {
+                step,
+                calls,
+                ..SOUND
+            },
+        )?;
+        assert_eq!(rt; left.ended, Err(ServeFault::CutOff(CutOff::Log)));
+        assert!(rt; ANSWERS.starts_with(&left.sent));
+        assert_eq!(rt; commits_in(&left.sent), calls / 2);
+        assert_eq!(rt; left.log.kept.len(), calls / 2);
+    }
+    let left = served(&rt, Case { calls: 6, ..SOUND })?;
+    assert_eq!(rt; left.ended, Ok(()));
+    Ok(())
+}
+
+// The output fails behind each of its bytes in turn: they are all that was sent, and each commit that was answered is kept.
+#[test]
+fn answers_are_cut_off_behind_their_log(rt: HostRuntime) -> Result<(), Fail> {
+    for room in 0..ANSWERS.len() {
+        let (step, room) = (1, room);
+        let left = served(
+            &rt,
+            Case {
+                step,
+                room,
+                ..SOUND
+            },
+        )?;
+        assert_eq!(rt; left.ended, Err(ServeFault::CutOff(CutOff::Answers)));
+        assert_eq!(rt; left.sent.as_slice(), &ANSWERS[..room]);
+        assert!(rt; commits_in(&left.sent) <= left.log.kept.len());
+    }
+    Ok(())
+}
+
+// Three entries are as many as may not be kept, or one more.
+#[test]
+fn as_many_entries_as_the_lag_are_not_kept(rt: HostRuntime) -> Result<(), Fail> {
+    let (step, calls) = (1, 0);
+    let all = served(
+        &rt,
+        Case {
+            step,
+            calls,
+            lag: 3,
+            ..SOUND
+        },
+    )?;
+    assert_eq!(rt; all.ended, Ok(()));
+    assert_eq!(rt; all.sent.as_slice(), ANSWERS);
+    let some = served(
+        &rt,
+        Case {
+            step,
+            calls,
+            lag: 2,
+            ..SOUND
+        },
+    )?;
+    assert_eq!(rt; some.ended, Err(ServeFault::CutOff(CutOff::Log)));
+    assert_eq!(rt; commits_in(&some.sent), 2);
+    Ok(())
+}
+
+// Points are taken between the lines, and each file is kept, or the refusal is told.
+#[test]
+fn files_of_points_are_kept(rt: HostRuntime) -> Result<(), Fail> {
+    let left = served(&rt, Case { every: 1, ..SOUND })?;
+    assert_eq!(rt; left.ended, Ok(()));
+    assert_eq!(rt; left.files, 2);
+    assert_eq!(rt; commits_in(&left.sent), 3);
+    let lost = served(
+        &rt,
+        Case {
+            every: 1,
+            files: 0,
+            ..SOUND
+        },
+    )?;
+    assert_eq!(rt; lost.ended, Err(ServeFault::Refused(Refusal::Device)));
+    Ok(())
+}
