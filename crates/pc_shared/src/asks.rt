@@ -11,14 +11,14 @@ ghost use Rattle.pc_shared.specs.Asked.{is_wait, IsGot, IsWriteMade, IsAdded, go
 ghost use Rattle.pc_shared.specs.Answers.{answer_of, answer_to, answer_to_add};
 
 use crate::session::CallAnswer;
-use crate::store::{Shared, UnderLatch};
+use crate::store::Shared;
 use pc_answers::{
     AddAnswer, GetAnswer, abort_reply, add_reply, begin_reply, commit_reply, write_reply,
 };
 use pc_tie::{SessionSeat, StoreName};
 use pc_txn::Got;
 use pc_types::{Key, Lsn, Outcome, Refusal, Reply, TxnNo, Value};
-use std::sync::{MutexGuard, Wait};
+use std::sync::Wait;
 
 // How a session is told of what a read was answered.
 pub(crate) fn answer_of(got: &Got) -> CallAnswer
@@ -99,6 +99,42 @@ fn is_abort_waiting(answer: &Result<(), Refusal>) -> bool
     matches!(answer, Err(Refusal::StillWaiting))
 }
 
+// The reply that tells of a begin's answer; and so of the other calls.
+fn told_begin(answer: &Result<TxnNo, Refusal>) -> Reply
+    ensures { result ≡ begin_reply answer.now }
+{
+    let answer = *answer;
+    begin_reply(answer)
+}
+
+fn told_write(answer: &Result<Outcome, Refusal>) -> Reply
+    ensures { result ≡ write_reply answer.now }
+{
+    let answer = *answer;
+    write_reply(answer)
+}
+
+fn told_add(answer: &Result<AddAnswer, Refusal>) -> Reply
+    ensures { result ≡ add_reply answer.now }
+{
+    let answer = *answer;
+    add_reply(answer)
+}
+
+fn told_commit(answer: &Result<Lsn, Refusal>) -> Reply
+    ensures { result ≡ commit_reply answer.now }
+{
+    let answer = *answer;
+    commit_reply(answer)
+}
+
+fn told_abort(answer: &Result<(), Refusal>) -> Reply
+    ensures { result ≡ abort_reply answer.now }
+{
+    let answer = *answer;
+    abort_reply(answer)
+}
+
 // What a read gave that doesn't wait, with whether it was of an own write.
 fn got_in(answer: Result<GetAnswer, Refusal>, own_write: bool) -> Result<(Got, bool), Refusal>
     ensures { result ≡ got_in own_write answer }
@@ -162,47 +198,6 @@ fn end_in(answer: &Result<(), Refusal>) -> Result<(), Refusal>
 }
 
 impl<N: StoreName> Shared<N> {
-    // Lets the latch go behind a read that is answered so; its value is left out of what is noted.
-    fn end_read(&self, held: MutexGuard<'_, UnderLatch<N>>, answer: &Result<GetAnswer, Refusal>) {
-        let told = told_read(answer);
-        self.let_go(held, &told);
-    }
-
-    // The same behind a begin.
-    fn end_begin(&self, held: MutexGuard<'_, UnderLatch<N>>, answer: &Result<TxnNo, Refusal>) {
-        let answer = *answer;
-        let told = begin_reply(answer);
-        self.let_go(held, &told);
-    }
-
-    // The same behind a put or a del.
-    fn end_write(&self, held: MutexGuard<'_, UnderLatch<N>>, answer: &Result<Outcome, Refusal>) {
-        let answer = *answer;
-        let told = write_reply(answer);
-        self.let_go(held, &told);
-    }
-
-    // The same behind an add.
-    fn end_add(&self, held: MutexGuard<'_, UnderLatch<N>>, answer: &Result<AddAnswer, Refusal>) {
-        let answer = *answer;
-        let told = add_reply(answer);
-        self.let_go(held, &told);
-    }
-
-    // The same behind a commit.
-    fn end_commit(&self, held: MutexGuard<'_, UnderLatch<N>>, answer: &Result<Lsn, Refusal>) {
-        let answer = *answer;
-        let told = commit_reply(answer);
-        self.let_go(held, &told);
-    }
-
-    // The same behind an abort.
-    fn end_abort(&self, held: MutexGuard<'_, UnderLatch<N>>, answer: &Result<(), Refusal>) {
-        let answer = *answer;
-        let told = abort_reply(answer);
-        self.let_go(held, &told);
-    }
-
     // Begins a transaction.
     pub(crate) fn begin_as<R: Wait>(
         &self,
@@ -221,7 +216,7 @@ impl<N: StoreName> Shared<N> {
             if is_begin_waiting(&answer) {
                 held = self.sleep_for_lock(rt, held, seat.number());
             } else {
-                self.end_begin(held, &answer);
+                self.let_go(held, told_begin(&answer));
                 return number_in(&answer);
             }
         }
@@ -251,7 +246,7 @@ impl<N: StoreName> Shared<N> {
                 drop(answer);
                 held = self.sleep_for_lock(rt, held, seat.number());
             } else {
-                self.end_read(held, &answer);
+                self.let_go(held, told_read(&answer));
                 return got_in(answer, own_write);
             }
         }
@@ -278,7 +273,7 @@ impl<N: StoreName> Shared<N> {
             if is_write_waiting(&answer) {
                 held = self.sleep_for_lock(rt, held, seat.number());
             } else {
-                self.end_write(held, &answer);
+                self.let_go(held, told_write(&answer));
                 return made_in(&answer);
             }
         }
@@ -304,7 +299,7 @@ impl<N: StoreName> Shared<N> {
             if is_write_waiting(&answer) {
                 held = self.sleep_for_lock(rt, held, seat.number());
             } else {
-                self.end_write(held, &answer);
+                self.let_go(held, told_write(&answer));
                 return made_in(&answer);
             }
         }
@@ -331,7 +326,7 @@ impl<N: StoreName> Shared<N> {
             if is_add_waiting(&answer) {
                 held = self.sleep_for_lock(rt, held, seat.number());
             } else {
-                self.end_add(held, &answer);
+                self.let_go(held, told_add(&answer));
                 return sum_in(&answer);
             }
         }
@@ -358,7 +353,7 @@ impl<N: StoreName> Shared<N> {
             if is_commit_waiting(&answer) {
                 held = self.sleep_for_lock(rt, held, seat.number());
             } else {
-                self.end_commit(held, &answer);
+                self.let_go(held, told_commit(&answer));
                 return entry_in(&answer);
             }
         }
@@ -379,7 +374,7 @@ impl<N: StoreName> Shared<N> {
             if is_abort_waiting(&answer) {
                 held = self.sleep_for_lock(rt, held, seat.number());
             } else {
-                self.end_abort(held, &answer);
+                self.let_go(held, told_abort(&answer));
                 return end_in(&answer);
             }
         }

@@ -305,8 +305,8 @@ impl<N: StoreName> Shared<N> {
     }
 
     // Notes what was answered, lets the latch go, and wakes those who can go on.
-    pub(crate) fn let_go(&self, mut held: MutexGuard<'_, UnderLatch<N>>, told: &Reply) {
-        let woken = held.note(told);
+    pub(crate) fn let_go(&self, mut held: MutexGuard<'_, UnderLatch<N>>, told: Reply) {
+        let woken = held.note(&told);
         drop(held);
         self.wake(woken);
     }

@@ -1,6 +1,6 @@
 use Rattle.std.specs.Int.{w64}
 use Rattle.std.proofs.lemmas.Int.{to_z-of_z}
-use Rattle.std.proofs.Common.{sym, ◌∙◌, subst}
+use Rattle.std.proofs.Common.{◌≡◌, sym, ◌∙◌, subst}
 use Rattle.pc_types.specs.declared.Event.TheVariants.{Add}
 use Rattle.pc_answers.specs.Replies.{add_reply}
 use Rattle.pc_tie.specs.declared.sight.Sitting.{Sitting}

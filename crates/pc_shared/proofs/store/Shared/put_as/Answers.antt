@@ -1,4 +1,4 @@
-use Rattle.std.proofs.Common.{sym, ◌∙◌, subst}
+use Rattle.std.proofs.Common.{◌≡◌, sym, ◌∙◌, subst}
 use Rattle.pc_types.specs.declared.Event.TheVariants.{Put}
 use Rattle.pc_answers.specs.Replies.{write_reply}
 use Rattle.pc_tie.specs.declared.sight.Sitting.{Sitting}
