@@ -1,5 +1,4 @@
 pub mod CycleLaws
-mod Asking
 mod Batching
 mod Calling
 mod Growing

@@ -5,7 +5,6 @@
 mod keeper;
 mod milestone;
 mod name;
-mod noted;
 mod rule;
 mod seats;
 mod sight;
@@ -15,7 +14,6 @@ mod tie;
 pub use keeper::{Dealer, Keeper};
 pub use milestone::Milestone;
 pub use name::StoreName;
-pub use noted::NotedStep;
 pub use seats::{CheckpointerSeat, SessionSeat, Witness};
 pub use sight::{Sight, Sitting};
 pub use start::Start;
