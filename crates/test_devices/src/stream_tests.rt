@@ -54,7 +54,7 @@ fn push_entry(text: &mut Vec<u8>, entry: &EntryText) -> Result<(), AllocError> {
         None => text.push(0)?,
         Some(value) => {
             text.push(1)?;
-            text.extend_from_slice(&(value.len() as u32).to_be_bytes())?;
+            text.extend_from_slice(&(value.len() as u64).to_be_bytes()[4..])?;
             text.extend_from_slice(value)?;
         }
     }
