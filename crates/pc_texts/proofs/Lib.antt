@@ -3,3 +3,4 @@ pub mod SentLaws
 pub mod StatePairLaws
 pub mod Begun
 pub mod OutputLaws
+mod Fronts

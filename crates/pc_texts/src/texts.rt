@@ -1,5 +1,6 @@
-//! The texts that are printed. They go out piece by piece and take no memory, so that no reply is lost for want of it.
-ghost use Rattle.std.specs.Prelude.{◌≡◌, ◌<◌, ◌++◌, List, ℕ, codes, decimal};
+//! The texts that are printed. They go out in pieces and take no memory, so that no reply is lost for want of it.
+ghost use Rattle.std.specs.Prelude.{◌≡◌, ◌<◌, ◌≤◌, ◌+◌, ◌++◌, List, ℕ, IfSome, codes, decimal, length};
+ghost use Rattle.arrayvec.specs.ArrayVec.{array_vec_len};
 ghost use Rattle.std.specs.List.{flat_map};
 ghost use Rattle.std.specs.Char.{digit_char};
 ghost use Rattle.std.specs.Fmt.{signed_decimal};
@@ -7,11 +8,20 @@ ghost use Rattle.pc_types.specs.Tallies.{Puts};
 ghost use Rattle.pc_model.specs.Ranges.{ranges_of};
 ghost use Rattle.pc_texts.specs.Texts.{printed_byte, printed_name, printed, printed_space, printed_key, printed_value, phase_name, range_text, ranges_text, refusal_text, reply_text, pair_text, state_head, state_text, hex_byte, hex_line, check_line, file_line, joined_line, collapsed_line};
 
+use arrayvec::ArrayVec;
 use itoa::Buffer;
 use pc_lines::is_plain;
 use pc_part::Base;
 use pc_types::{Key, Phase, Point, Refusal, Reply, Tally, Value};
 use std::io::Write;
+
+// What is printed of so many bytes is put together; each has at most four.
+const SOME: usize = 64;
+
+const MOST_PRINTED: usize = 256;
+
+// Lines of pairs are put together up to so many bytes.
+const PIECE: usize = 65_536;
 
 /// Writes the text of a reply, without the end of its line.
 pub fn put_reply<W: Write>(out: &mut Tally<W>, reply: &Reply) -> Result<(), Refusal>
@@ -293,19 +303,40 @@ pub fn put_name<W: Write>(out: &mut Tally<W>, name: &[u8]) -> Result<(), Refusal
 fn put_bytes<W: Write>(out: &mut Tally<W>, bytes: &[u8]) -> Result<(), Refusal>
     ensures { Puts W.contents out.old out.new result (flat_map printed_byte bytes.now) }
 {
-    for byte in bytes {
-        put_byte(out, *byte)?;
+    let mut rest = bytes;
+    while !rest.is_empty() {
+        let (some, others) = rest.split_at(rest.len().min(SOME));
+        put_some(out, some)?;
+        rest = others;
     }
     Ok(())
 }
 
-fn put_byte<W: Write>(out: &mut Tally<W>, byte: u8) -> Result<(), Refusal>
-    ensures { Puts W.contents out.old out.new result (printed_byte byte) }
+// Writes so few bytes that what is printed of them can be put together.
+fn put_some<W: Write>(out: &mut Tally<W>, bytes: &[u8]) -> Result<(), Refusal>
+    requires { length bytes.now ≤ SOME }
+    ensures { Puts W.contents out.old out.new result (flat_map printed_byte bytes.now) }
+{
+    let mut text: ArrayVec<u8, MOST_PRINTED> = ArrayVec::new();
+    for byte in bytes {
+        push_byte(&mut text, *byte);
+    }
+    out.put(text.as_slice())
+}
+
+fn push_byte(text: &mut ArrayVec<u8, MOST_PRINTED>, byte: u8)
+    requires { array_vec_len text.old + 4 ≤ MOST_PRINTED }
+    ensures text { text.new.items ≡ text.old.items ++ printed_byte byte }
+    ensures len { array_vec_len text.new ≤ array_vec_len text.old + 4 }
 {
     if is_plain(byte) {
-        return out.put(&[byte]);
+        text.push(byte);
+        return;
     }
-    out.put(&[b'\\', b'x', hex_digit(byte / 16), hex_digit(byte % 16)])
+    text.push(b'\\');
+    text.push(b'x');
+    text.push(hex_digit(byte / 16));
+    text.push(hex_digit(byte % 16));
 }
 
 fn hex_digit(value: u8) -> u8
@@ -339,8 +370,71 @@ fn put_state_pairs<W: Write>(out: &mut Tally<W>, pairs: &[(Key, Value)]) -> Resu
     put_pairs(out, pairs)
 }
 
-/// Writes a line for each pair.
+/// Writes a line for each pair. Lines are put together in pieces of at most 65,536 bytes, and a longer one goes out by itself. It
+/// takes no memory.
 pub fn put_pairs<W: Write>(out: &mut Tally<W>, pairs: &[(Key, Value)]) -> Result<(), Refusal>
+    ensures { Puts W.contents out.old out.new result (flat_map pair_text pairs.now) }
+{
+    let mut rest = pairs;
+    while !rest.is_empty() {
+        let (some, others) = rest.split_at(piece_count(rest));
+        put_together(out, some)?;
+        rest = others;
+    }
+    Ok(())
+}
+
+// How many of the first pairs are put together, where there are any: at least one, and no more than have their lines in a piece.
+fn piece_count(pairs: &[(Key, Value)]) -> usize
+    requires { 0 < length pairs.now }
+    ensures some { 0 < result }
+    ensures within { result ≤ length pairs.now }
+{
+    let mut count = 1;
+    let mut size = most_printed(&pairs[0]);
+    while count < pairs.len() {
+        size = size.saturating_add(most_printed(&pairs[count]));
+        if size > PIECE {
+            return count;
+        }
+        count += 1;
+    }
+    count
+}
+
+// No fewer bytes than the line of the pair has.
+fn most_printed(pair: &(Key, Value)) -> usize {
+    let bytes = pair
+        .0
+        .own_bytes()
+        .len()
+        .saturating_add(pair.1.as_bytes().len());
+    bytes.saturating_mul(4).saturating_add(12)
+}
+
+// Writes the lines in one piece where they fit into it, else one by one.
+fn put_together<W: Write>(out: &mut Tally<W>, pairs: &[(Key, Value)]) -> Result<(), Refusal>
+    ensures { Puts W.contents out.old out.new result (flat_map pair_text pairs.now) }
+{
+    match lines_of(pairs) {
+        Some(lines) => out.put(lines.as_slice()),
+        None => put_each(out, pairs),
+    }
+}
+
+// The lines, where they fit into a piece.
+fn lines_of(pairs: &[(Key, Value)]) -> Option<ArrayVec<u8, PIECE>>
+    ensures { IfSome result (λ lines. lines.items ≡ flat_map pair_text pairs.now) }
+{
+    let lines: ArrayVec<u8, PIECE> = ArrayVec::new();
+    let mut lines = Tally::new(lines);
+    match put_each(&mut lines, pairs) {
+        Ok(()) => Some(lines.into_inner()),
+        Err(_) => None,
+    }
+}
+
+fn put_each<W: Write>(out: &mut Tally<W>, pairs: &[(Key, Value)]) -> Result<(), Refusal>
     ensures { Puts W.contents out.old out.new result (flat_map pair_text pairs.now) }
 {
     for pair in pairs {
@@ -382,16 +476,26 @@ fn put_hex_words<W: Write>(out: &mut Tally<W>, bytes: &[u8]) -> Result<(), Refus
 fn put_hex<W: Write>(out: &mut Tally<W>, bytes: &[u8]) -> Result<(), Refusal>
     ensures { Puts W.contents out.old out.new result (flat_map hex_byte bytes.now) }
 {
-    for byte in bytes {
-        put_hex_byte(out, *byte)?;
+    let mut rest = bytes;
+    while !rest.is_empty() {
+        let (some, others) = rest.split_at(rest.len().min(SOME));
+        put_some_hex(out, some)?;
+        rest = others;
     }
     Ok(())
 }
 
-fn put_hex_byte<W: Write>(out: &mut Tally<W>, byte: u8) -> Result<(), Refusal>
-    ensures { Puts W.contents out.old out.new result (hex_byte byte) }
+// Writes the digits of so few bytes that they can be put together.
+fn put_some_hex<W: Write>(out: &mut Tally<W>, bytes: &[u8]) -> Result<(), Refusal>
+    requires { length bytes.now ≤ SOME }
+    ensures { Puts W.contents out.old out.new result (flat_map hex_byte bytes.now) }
 {
-    out.put(&[hex_digit(byte / 16), hex_digit(byte % 16)])
+    let mut text: ArrayVec<u8, MOST_PRINTED> = ArrayVec::new();
+    for byte in bytes {
+        text.push(hex_digit(*byte / 16));
+        text.push(hex_digit(*byte % 16));
+    }
+    out.put(text.as_slice())
 }
 
 /// Writes what a check found, with the end of the line.

@@ -1,10 +1,20 @@
+use Rattle.std.proofs.Common.{◌∙◌}
 use Rattle.std.proofs.lemmas.Result.{err_from_is_err_and}
-use Rattle.std.proofs.Common.{arith}
-use Rattle.pc_types.proofs.PutsLaws.{puts_stop_at}
 use Rattle.pc_texts.specs.Texts.{printed_byte}
+use Rattle.pc_texts.proofs.Fronts.{front_stops, front_goes}
 use Rattle.pc_texts.proofs.texts.put_bytes.Goals as goal
 
-pub returns-in_err-put_byte : goal.returns-in_err-put_byte
-returns-in_err-put_byte g c =
+pub returns-in_err-put_some : goal.returns-in_err-put_some
+returns-in_err-put_some g c =
     let p = err_from_is_err_and c.from_residual.result c.from_residual.ensures.1 in
-    rw (p.1, p.2) (puts_stop_at g.W.Write.contents printed_byte c.args.bytes.now c.loop-byte.byte-index 0 c.args.out.now c.loop-byte.out c.put_byte.new.out _ c.loop-byte-test.true c.loop-byte.invariant.sent (omega (arith, c.loop-byte.invariant.counted)) c.in_err-put_byte.ensures)
+    let i = c.loop-rest.invariant in
+    rw (p.1, p.2) (front_stops printed_byte c.loop-rest.rest.now c.min.result i.sent.0 _ g.W.Write.contents c.args.out.now c.loop-rest.out c.put_some.new.out _ i.sent.1 i.counted (rw c.split_at.ensures.front at c.in_err-put_some.ensures) i.sent.2)
+
+pub loop-rest-preserved : goal.loop-rest-preserved
+loop-rest-preserved g c =
+    let i = c.loop-rest.invariant in
+    let put = rw c.split_at.ensures.front at c.in_ok-put_some.ensures in
+    record {
+      sent = rw c.split_at.ensures.back (front_goes printed_byte c.loop-rest.rest.now c.min.result i.sent.0 _ g.W.Write.contents c.args.out.now c.loop-rest.out c.put_some.new.out i.sent.1 put i.sent.2);
+      counted = put.1 ∙ i.counted;
+    }

@@ -1,13 +1,17 @@
-use Rattle.std.proofs.Common.{◌≡◌, take}
+use Rattle.std.proofs.Common.{◌≡◌, ◌++◌, List, ℕ, length}
 use Rattle.std.specs.List.{flat_map}
 use Rattle.std.specs.Io.KnownBytes.{Appends}
 use Rattle.pc_texts.specs.Texts.{pair_text}
 use Rattle.pc_texts.proofs.texts.put_pairs.Given as goal
 
-abbrev pub invariant-loop-pair : goal.invariant-loop-pair
-invariant-loop-pair g l =
+-- the lines of the pairs before the rest went out
+abbrev pub invariant-loop-rest : goal.invariant-loop-rest
+invariant-loop-rest g l =
     let contents = g.W.Write.contents in
     record {
-      sent : Appends (contents l.fn.out.inner) (contents l.out.inner) (flat_map pair_text (take l.pair-index l.pairs));
+      sent : (text : List ℕ) × Appends (contents l.fn.out.inner) (contents l.out.inner) text × (text ++ flat_map pair_text l.rest ≡ flat_map pair_text l.pairs);
       counted : l.out.failures ≡ l.fn.out.failures;
     }
+
+abbrev pub decreases-loop-rest : goal.decreases-loop-rest
+decreases-loop-rest g l = length l.rest

@@ -1,0 +1,12 @@
+use Rattle.std.proofs.Common.{◌≡◌, ◌≤◌, ◌*◌, take}
+use Rattle.std.specs.List.{flat_map}
+use Rattle.arrayvec.specs.ArrayVec.{array_vec_len}
+use Rattle.pc_texts.specs.Texts.{hex_byte}
+use Rattle.pc_texts.proofs.texts.put_some_hex.Given as goal
+
+-- the bytes so far as digits
+abbrev pub invariant-loop-byte : goal.invariant-loop-byte
+invariant-loop-byte g l = record {
+  text : l.text.items ≡ flat_map hex_byte (take l.byte-index l.bytes);
+  len : array_vec_len l.text ≤ 2 * l.byte-index;
+}
