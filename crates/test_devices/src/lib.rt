@@ -11,6 +11,8 @@ mod join_tests;
 #[cfg(test)]
 mod log_tests;
 #[cfg(test)]
+mod pair_tests;
+#[cfg(test)]
 mod refusal_tests;
 #[cfg(test)]
 mod script_tests;
