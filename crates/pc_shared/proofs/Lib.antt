@@ -3,3 +3,4 @@ mod GoneOutLaws
 mod Keeping
 mod Lending
 mod Settling
+mod Taking

@@ -7,3 +7,4 @@ pub mod Lent
 pub mod Waking
 pub mod Granted
 pub mod Advances
+pub mod Takes

@@ -70,6 +70,10 @@ woken_by w reply = record {
   for_commit = is_due w.due reply;
 }
 
+-- nobody is
+abbrev pub nobody : Woken
+nobody = record { for_locks = false; for_change = false; for_phase = false; for_commit = false }
+
 -- what is known once the reply is noted
 abbrev pub noted : Waits → Reply → Waits
 noted w reply = record w {

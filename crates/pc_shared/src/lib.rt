@@ -8,6 +8,7 @@ mod gone_out;
 mod logged;
 mod session;
 mod store;
+mod takes;
 mod waits;
 mod written;
 
@@ -19,4 +20,5 @@ pub use pc_tie::{CheckpointerSeat, Witness};
 pub use pc_txn::Commits;
 pub use session::{CallAnswer, LentReceipt, Session};
 pub use store::{Advanced, Opened, Shared, Turn, UnderLatch, pause};
+pub use takes::{Takes, TakesEnd};
 pub use waits::{Waits, Woken};

@@ -14,7 +14,7 @@ ghost use Rattle.pc_engine.specs.Stands.{Stands};
 ghost use Rattle.pc_engine.specs.Store.{setting_of};
 ghost use Rattle.pc_tie.specs.Seats.{MovesOn};
 ghost use Rattle.pc_latch.specs.Batches.{batch, HasEntries, IsNext};
-ghost use Rattle.pc_latch.specs.Cycles.{IsAdvance, IsTakeCalled};
+ghost use Rattle.pc_latch.specs.Cycles.{IsAdvance};
 ghost use Rattle.pc_model.specs.History.{History, is_open, log_of};
 ghost use Rattle.pc_model.specs.Receipts.{own_of};
 ghost use Rattle.pc_latch.specs.OwnReads.{reads_one_of};
@@ -256,7 +256,7 @@ impl<N: StoreName> Shared<N> {
     }
 
     // Gets the latch for one of many calls of the checkpointer.
-    fn get_latch_soon<R: Wait>(&self, rt: &R) -> MutexGuard<'_, UnderLatch<N>> {
+    pub(crate) fn get_latch_soon<R: Wait>(&self, rt: &R) -> MutexGuard<'_, UnderLatch<N>> {
         self.get_latch_after(rt, FIRST_SHORT_PAUSE, LONGEST_SHORT_PAUSE)
     }
 
@@ -327,13 +327,22 @@ impl<N: StoreName> Shared<N> {
                 held = self.granted.wait(rt, held);
                 held.waits.for_locks.remove(seat.number());
             } else {
-                let woken = held.note(&step.reply);
-                drop(held);
-                self.wake(woken);
+                self.let_go(held, &step.reply);
                 return own_write;
             }
         }
         unreachable!()
+    }
+
+    // Notes what was answered, lets the latch go, and wakes those who can go on, if there are any.
+    pub(crate) fn let_go(&self, mut held: MutexGuard<'_, UnderLatch<N>>, told: &Reply) {
+        if held.waits.note_alone(told) {
+            drop(held);
+            return;
+        }
+        let woken = held.note(told);
+        drop(held);
+        self.wake(woken);
     }
 
     /// The checkpointer asks for the event that ends the phase of the checkpoint's cycle, and is answered at once: the phase that
@@ -363,19 +372,6 @@ impl<N: StoreName> Shared<N> {
         drop(held);
         self.wake(woken);
         Advanced { reply, seen }
-    }
-
-    /// The checkpointer takes one key of the point: the key with what it had there, that none is left, or a refusal. What it has
-    /// seen moves on by each answer but a refusal.
-    pub fn take<R: Wait>(&self, rt: &R, checkpointer: &mut CheckpointerSeat<N>) -> Reply
-        ensures { IsTakeCalled N.name.setting checkpointer.old result checkpointer.new }
-    {
-        let mut held = self.get_latch_soon(rt);
-        let reply = held.latched.take(&self.tie, checkpointer);
-        let woken = held.note(&reply);
-        drop(held);
-        self.wake(woken);
-        reply
     }
 
     /// The texts of the next entries of the log after those that the pass has handed out, as long as there is room for so many bytes of text,

@@ -1,7 +1,7 @@
 //! Who waits at a store's latch, and how often the store has changed.
 ghost use Rattle.std.specs.Prelude.{◌≡◌, ◌↔◌, ◌==◌, ◌||◌, ◌&&◌, ◌+◌, ◌-◌, ◌^◌, not, nat_lt, min, if◌then◌else◌, ℕ, true, false};
 ghost use Rattle.pc_shared.specs.Asked.{is_wait};
-ghost use Rattle.pc_shared.specs.Waking.{come, is_awaited, one_more, one_less, of_news, with_news, none_due, woken_by, noted, woken_by_end};
+ghost use Rattle.pc_shared.specs.Waking.{come, is_awaited, one_more, one_less, of_news, with_news, nobody, none_due, woken_by, noted, woken_by_end};
 
 use pc_sessions::SessionSet;
 use pc_types::{Lsn, Refusal, Reply};
@@ -169,6 +169,23 @@ impl Waits {
                 ..Woken::NOBODY
             },
         }
+    }
+
+    // Notes the reply where that wakes nobody; else false, and nothing is noted.
+    pub(crate) fn note_alone(&mut self, reply: &Reply) -> bool
+        ensures alone { result ≡ true → woken_by self.old reply.now ≡ nobody }
+        ensures noted { self.new ≡ (if result then noted self.old reply.now else self.old) }
+    {
+        if !self.for_locks.is_empty() || self.changes.waiting > 0 || self.phases.waiting > 0 {
+            return false;
+        }
+        if let Reply::Committed(number) = reply {
+            if self.due <= number.0 {
+                return false;
+            }
+        }
+        let _nobody = self.note(reply);
+        true
     }
 
     // The end was marked, which counts as a change of the store and of its phase.

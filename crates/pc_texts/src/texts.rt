@@ -15,12 +15,12 @@ use pc_part::Base;
 use pc_types::{Key, Phase, Point, Refusal, Reply, Tally, Value};
 use std::io::Write;
 
-// What is printed of so many bytes is put together; each has at most four.
+// What is printed of up to this many bytes is put together: at most four for each.
 const SOME: usize = 64;
 
 const MOST_PRINTED: usize = 256;
 
-// Lines of pairs are put together up to so many bytes.
+// Lines of pairs are put together in pieces of at most this many bytes.
 const PIECE: usize = 65_536;
 
 /// Writes the text of a reply, without the end of its line.
@@ -312,7 +312,7 @@ fn put_bytes<W: Write>(out: &mut Tally<W>, bytes: &[u8]) -> Result<(), Refusal>
     Ok(())
 }
 
-// Writes so few bytes that what is printed of them can be put together.
+// Writes up to 64 bytes: what is printed of them is put together.
 fn put_some<W: Write>(out: &mut Tally<W>, bytes: &[u8]) -> Result<(), Refusal>
     requires { length bytes.now ≤ SOME }
     ensures { Puts W.contents out.old out.new result (flat_map printed_byte bytes.now) }
@@ -384,7 +384,7 @@ pub fn put_pairs<W: Write>(out: &mut Tally<W>, pairs: &[(Key, Value)]) -> Result
     Ok(())
 }
 
-// How many of the first pairs are put together, where there are any: at least one, and no more than have their lines in a piece.
+// How many of the first pairs are put together: one at least, and no further one whose line may not fit into the piece.
 fn piece_count(pairs: &[(Key, Value)]) -> usize
     requires { 0 < length pairs.now }
     ensures some { 0 < result }
@@ -485,7 +485,7 @@ fn put_hex<W: Write>(out: &mut Tally<W>, bytes: &[u8]) -> Result<(), Refusal>
     Ok(())
 }
 
-// Writes the digits of so few bytes that they can be put together.
+// Writes the digits of up to 64 bytes, put together.
 fn put_some_hex<W: Write>(out: &mut Tally<W>, bytes: &[u8]) -> Result<(), Refusal>
     requires { length bytes.now ≤ SOME }
     ensures { Puts W.contents out.old out.new result (flat_map hex_byte bytes.now) }

@@ -4,6 +4,7 @@ mod ClientJobs
 mod Cycling
 mod FullLaws
 mod ShownLaws
+mod Taking
 pub mod WholeCycles
 mod Holding
 pub mod CoverLaws

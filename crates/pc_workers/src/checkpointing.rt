@@ -9,7 +9,7 @@ ghost use Rattle.pc_workers.specs.Checkpointing.{whole_cycle, whole_cycles, poin
 
 use crate::pace::Pace;
 use pc_board::{Board, BoardPass};
-use pc_shared::{Advanced, CheckpointerSeat, Shared, Witness, pause};
+use pc_shared::{Advanced, CheckpointerSeat, Shared, Takes, TakesEnd, Witness, pause};
 use pc_tie::StoreName;
 use pc_types::{Gate, GatePlace, Phase, Point, Refusal, Reply};
 use std::sync::Wait;
@@ -41,17 +41,6 @@ fn told(reply: &Reply) -> Result<Option<Point>, Refusal>
         Reply::PartDone(point, _, _) => Ok(Some(*point)),
         Reply::Refused(why) => Err(*why),
         _ => Ok(None),
-    }
-}
-
-// Whether more keys may be left to take; or the refusal that the reply to a take is.
-fn has_more(reply: &Reply) -> Result<bool, Refusal>
-    ensures { IfErr result (λ why. reply.now ≡ Refused why) }
-{
-    match reply {
-        Reply::NoneLeft => Ok(false),
-        Reply::Refused(why) => Err(*why),
-        _ => Ok(true),
     }
 }
 
@@ -144,23 +133,34 @@ fn rest<N: StoreName, R: Wait>(rt: &R, shared: &Shared<N>, pace: &mut Pace) {
     pace.begin_turn(shared.last_entry(rt).number);
 }
 
-// Takes a key of the point; whether more may be left.
-fn take_key<N: StoreName, R: Wait>(
+// How many keys are taken in one turn of the latch, at most: some 10 microseconds' work.
+const BATCH: u32 = 32;
+
+// Passes the gate once for each key that was taken.
+fn pass_each<G: Gate>(gate: &G, keys: u32) {
+    for _ in 0..keys {
+        gate.pass(GatePlace::Took);
+    }
+}
+
+// Takes keys of the point in one turn of the latch, and passes the gate behind it, once for each; whether more may be left.
+fn take_batch<N: StoreName, R: Wait, G: Gate>(
     rt: &R,
     shared: &Shared<N>,
     seat: &mut CheckpointerSeat<N>,
+    gate: &G,
 ) -> Result<bool, CheckpointFault<N>>
     requires { phase_of seat.old ≡ Capture }
     ensures stood { IfOk result (λ _. HasStood N.name.setting seat.old seat.new) }
     ensures held_up { IfErr result (λ stop. IsHeldUp N.name.setting seat.old seat.new stop.why) }
     ensures shown { IfErr result (λ stop. Shows N.name.setting seat.new stop.why stop.seen) }
 {
-    let reply = shared.take(rt, seat);
-    let has_more = has_more(&reply);
-    drop(reply);
-    match has_more {
-        Ok(has_more) => Ok(has_more),
-        Err(why) => {
+    let Takes { keys, end } = shared.take_keys(rt, seat, BATCH);
+    pass_each(gate, keys);
+    match end {
+        TakesEnd::Enough => Ok(true),
+        TakesEnd::NoneLeft => Ok(false),
+        TakesEnd::Refused(why) => {
             let seen = shared.last_entry_since(rt, seat).seen;
             Err(CheckpointFault { why, seen })
         }
@@ -181,12 +181,12 @@ fn take_keys<N: StoreName, R: Wait, G: Gate>(
 {
     let mut pace = Pace::new(shared.last_entry(rt).number);
     for _ in rt.forever() {
-        match take_key(rt, shared, seat) {
-            Ok(true) => gate.pass(GatePlace::Took),
+        match take_batch(rt, shared, seat, gate) {
+            Ok(true) => {}
             Ok(false) => return Ok(()),
             Err(stop) => return Err(stop),
         }
-        if pace.take() {
+        if pace.take(BATCH) {
             rest(rt, shared, &mut pace);
         }
     }
@@ -245,7 +245,7 @@ fn take_point<N: StoreName, R: Wait, G: Gate>(
 
 /// Takes so many points, one after the other, and answers how many. The phase is rest at first, and the checkpointer's calls then
 /// make up so many whole cycles; by the rules of the store each of them takes all keys of its point. It passes the gate before and
-/// after each change of the phase, and after each key. It publishes each point with the pass once its part is on the shelf, before
+/// after each change of the phase, and behind each key. It publishes each point with the pass once its part is on the shelf, before
 /// it asks for the rest that ends the point's cycle; it makes no other call on the board. The first refusal ends it: one that the
 /// store may answer, after some legal history with all that the checkpointer has seen, to the event that ends the phase or to a
 /// take: `OutOfMemory`, `LogFull`, `ShelfFull` where the shelf has 65,536 files by what the checkpointer has seen, or `PointsFull` where

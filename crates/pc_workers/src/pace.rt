@@ -42,14 +42,14 @@ impl Pace {
         }
     }
 
-    /// One more key was taken: whether none of the turn is left.
-    pub(crate) fn take(&mut self) -> bool
+    /// This many more keys were taken: whether none of the turn is left.
+    pub(crate) fn take(&mut self, keys: u32) -> bool
         ensures over { result ≡ nat_eq self.new.left 0 }
-        ensures left { self.new.left ≡ self.old.left - 1 }
+        ensures left { self.new.left ≡ self.old.left - keys }
         ensures turn { self.new.turn ≡ self.old.turn }
         ensures begun { self.new.begun ≡ self.old.begun }
     {
-        self.left = self.left.saturating_sub(1);
+        self.left = self.left.saturating_sub(keys);
         self.left == 0
     }
 

@@ -1,0 +1,34 @@
+-- Keys of a point that a checkpointer takes, one after the other.
+use Rattle.std.specs.Prelude.{◌≡◌, ◌<◌, ℕ, zero, suc, List, Option, Some, None}
+use Rattle.pc_types.specs.declared.Reply.{Reply}
+use Rattle.pc_types.specs.declared.Reply.TheVariants as told
+use Rattle.pc_model.specs.History.{History}
+use Rattle.pc_model.specs.Replies.{Setting}
+use Rattle.pc_latch.specs.Cycles.{IsTakeCalled}
+use Rattle.pc_shared.specs.declared.takes.Takes.{Takes}
+use Rattle.pc_shared.specs.declared.takes.TakesEnd.{TakesEnd}
+use Rattle.pc_shared.specs.declared.takes.TakesEnd.TheVariants as ended
+
+-- how the reply to a take ends a turn, if it does
+abbrev pub end_by : Reply → Option TakesEnd
+end_by told.NoneLeft = Some ended.NoneLeft
+end_by (told.Refused why) = Some (ended.Refused why)
+end_by other = None
+
+-- the checkpointer has taken this many keys, each by a call of its own
+abbrev pub HasTaken : Setting → ℕ → History → History → Type 0
+HasTaken st zero before after = after ≡ before
+HasTaken st (suc keys) before after = (between : History) × HasTaken st keys before between × ((key : List ℕ) × (content : Option (List ℕ)) × IsTakeCalled st between (told.Took key content) after)
+
+-- How a turn of takes has ended, behind this many keys: they are as many as were asked for; or the next call was answered that none is
+-- left, or it was refused.
+abbrev pub HasEndedTakes : Setting → ℕ → ℕ → TakesEnd → History → History → Type 0
+HasEndedTakes st most keys ended.Enough before after = (keys ≡ most) × (after ≡ before)
+HasEndedTakes st most keys ended.NoneLeft before after = (keys < most) × IsTakeCalled st before told.NoneLeft after
+HasEndedTakes st most keys (ended.Refused why) before after = (keys < most) × IsTakeCalled st before (told.Refused why) after
+
+-- the turn's keys were taken, and then it ended so
+pub record IsTurnOfTakes (st : Setting) (most : ℕ) (before : History) (takes : Takes) (after : History) : Type 0 where
+  pub between : History
+  pub taken : HasTaken st takes.keys before between
+  pub ended : HasEndedTakes st most takes.keys takes.end between after

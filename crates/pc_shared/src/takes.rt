@@ -1,0 +1,104 @@
+//! The checkpointer takes keys of the point, many in one turn of the latch.
+ghost use Rattle.std.specs.Prelude.{◌≡◌};
+ghost use Rattle.pc_latch.specs.Cycles.{IsTakeCalled};
+ghost use Rattle.pc_shared.specs.Takes.{end_by, IsTurnOfTakes};
+
+use crate::store::{Shared, UnderLatch};
+use pc_tie::{CheckpointerSeat, StoreName, Tie};
+use pc_types::{Refusal, Reply};
+use std::sync::{MutexGuard, Wait};
+
+/// How a turn of takes has ended.
+#[derive(Clone, Copy, Debug, PartialEq, Eq)]
+pub enum TakesEnd {
+    /// As many keys were taken as were asked for: more may be left.
+    Enough,
+    /// No key was left.
+    NoneLeft,
+    /// A take was refused.
+    Refused(Refusal),
+}
+
+/// What a turn of takes came to: how many keys were taken, and how it has ended.
+#[derive(Clone, Copy, Debug, PartialEq, Eq)]
+pub struct Takes {
+    pub keys: u32,
+    pub end: TakesEnd,
+}
+
+// How the reply to a take ends a turn; none where a key was taken.
+fn end_by(reply: &Reply) -> Option<TakesEnd>
+    ensures { result ≡ end_by reply.now }
+{
+    match reply {
+        Reply::NoneLeft => Some(TakesEnd::NoneLeft),
+        Reply::Refused(why) => Some(TakesEnd::Refused(*why)),
+        _ => None,
+    }
+}
+
+// A reply of the kind that such takes were given last, with no key: whether one was taken.
+fn told_takes(keys: u32) -> Reply {
+    if keys == 0 {
+        Reply::NoneLeft
+    } else {
+        Reply::Absent
+    }
+}
+
+impl<N: StoreName> UnderLatch<N> {
+    // Keys of the point are taken, one after the other, until they are this many, none is left, or a take is refused.
+    #[tactic(auto, using(crate::proofs::Taking::taken_on))]
+    fn take_keys(
+        &mut self,
+        tie: &Tie<N>,
+        checkpointer: &mut CheckpointerSeat<N>,
+        most: u32,
+    ) -> Takes
+        ensures { IsTurnOfTakes N.name.setting most checkpointer.old result checkpointer.new }
+    {
+        for keys in 0..most {
+            let reply = self.latched.take(tie, checkpointer);
+            let end = end_by(&reply);
+            drop(reply);
+            if let Some(end) = end {
+                return Takes { keys, end };
+            }
+        }
+        Takes {
+            keys: most,
+            end: TakesEnd::Enough,
+        }
+    }
+}
+
+impl<N: StoreName> Shared<N> {
+    /// The checkpointer takes one key of the point: the key with what it had there, that none is left, or a refusal. What it has
+    /// seen moves on by each answer but a refusal.
+    pub fn take<R: Wait>(&self, rt: &R, checkpointer: &mut CheckpointerSeat<N>) -> Reply
+        ensures { IsTakeCalled N.name.setting checkpointer.old result checkpointer.new }
+    {
+        let mut held = self.get_latch_soon(rt);
+        let reply = held.latched.take(&self.tie, checkpointer);
+        self.let_go(held, &reply);
+        reply
+    }
+
+    /// The checkpointer takes keys of the point in one turn of the latch, one after the other, until they are this many, none is
+    /// left, or a take is refused. Each take is a call of its own, and what the checkpointer has seen moves on by each answer but a
+    /// refusal.
+    pub fn take_keys<R: Wait>(
+        &self,
+        rt: &R,
+        checkpointer: &mut CheckpointerSeat<N>,
+        most: u32,
+    ) -> Takes
+        ensures { IsTurnOfTakes N.name.setting most checkpointer.old result checkpointer.new }
+    {
+        let mut held = self.get_latch_soon(rt);
+        let takes = held.take_keys(&self.tie, checkpointer, most);
+        let told = told_takes(takes.keys);
+        self.let_go(held, &told);
+        takes
+    }
+}
