@@ -1,3 +1,7 @@
 mod ServerLaws
 mod ServiceLaws
 mod ServingLaws
+mod LogLimits
+mod FileLaws
+mod AnsweredLaws
+mod LossLaws

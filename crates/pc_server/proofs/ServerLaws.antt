@@ -25,12 +25,13 @@ use Rattle.pc_types.specs.declared.Entry.{Entry}
 use Rattle.pc_turn.specs.Turns.{IsKept, IsLogOut, TurnEnds, is_due, rest_text}
 use Rattle.pc_turn.specs.declared.turn.TurnEnd.{TurnEnd}
 use Rattle.pc_turn.specs.declared.turn.TurnEnd.TheVariants as end
-use Rattle.pc_serving.specs.Points.{due_in, is_checkpoint, IsTurn}
+use Rattle.pc_serving.specs.Points.{due_in, is_checkpoint, IsShelvedAs, IsTurn}
 use Rattle.pc_serving.specs.Requests.{request_of}
 use Rattle.pc_serving.specs.Serving.{AnswersServed, Serves, awaits, granted_text, is_of_client, is_wait, wrong_phase}
 use Rattle.pc_serving.specs.declared.answers.Served.{Served}
 use Rattle.pc_serving.specs.declared.pace.Pace.{Pace}
 use Rattle.pc_serving.specs.declared.pace.Turned.{Turned}
+use Rattle.pc_serving.specs.declared.pace.Turned.TheVariants as turned
 use Rattle.pc_serving.specs.declared.request.Request.{Request}
 use Rattle.pc_serving.specs.declared.request.Request.TheVariants as request
 use Rattle.pc_server.specs.Acts.{Act, Lead, AnswersRequest, answers_of}
@@ -75,16 +76,19 @@ went_on old world pace = record { served = record { world = world; waiting = old
 -- the checkpointer had its turn
 pub went : (st : Setting) (gone turn : List Act) (at history next : History) (old : Server) (world : Store) (pace : Pace) (result : Result Turned Refusal) → Stays st gone at turn history old
     → setting_of world ≡ setting_of old.served.world → Stands world next → IsTurn (setting_of old.served.world) old.pace history pace next result
-    → Stays st gone at turn history (went_on old world pace) ⊎ ((step : Step) × Stays st gone at (WentOn step ∷ turn) (step ∷ history) (went_on old world pace))
+    → (Stays st gone at turn history (went_on old world pace) × (result ≡ Ok turned.Nothing)) ⊎ ((step : Step) × Stays st gone at (WentOn step ∷ turn) (step ∷ history) (went_on old world pace) × IsShelvedAs step.reply result)
 went st gone turn at history next old world pace result stays kept stands (inl none) =
-    inl (record {
-      serves = record { stands = subst (Stands world) none.1 stands; setting = kept ∙ stays.serves.setting; awaited = stays.serves.awaited };
-      gone_by = stays.gone_by;
-      turn_by = stays.turn_by;
-      waiting = stays.waiting;
-      kept = stays.kept;
-      within = stays.within;
-    })
+    inl (
+      record {
+        serves = record { stands = subst (Stands world) none.1 stands; setting = kept ∙ stays.serves.setting; awaited = stays.serves.awaited };
+        gone_by = stays.gone_by;
+        turn_by = stays.turn_by;
+        waiting = stays.waiting;
+        kept = stays.kept;
+        within = stays.within;
+      },
+      none.3,
+    )
 went st gone turn at history next old world pace result stays kept stands (inr (event, reply, due, legal, after, noted, shelved)) =
     let is : is_checkpoint event ≡ true = subst (λ o. IfSome o (λ e. is_checkpoint e ≡ true)) due (due_is_checkpoint old.pace (phase_of history)) in
     let step : Step = record { event = event; reply = reply } in
@@ -98,6 +102,7 @@ went st gone turn at history next old world pace result stays kept stands (inr (
         kept = stays.kept;
         within = omega (arith, stays.within, no_shorter history (step ∷ history) (step_extends step history));
       },
+      shelved,
     )
 
 same_extends : (before after : History) → after ≡ before → Extends before after

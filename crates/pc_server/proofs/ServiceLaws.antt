@@ -1,13 +1,14 @@
 -- What has gone out, act by act.
 use Rattle.std.proofs.Common.{◌≡◌, ℕ, zero, suc, ◌≤◌, ◌⊎◌, inl, inr, Bool, true, false, List, [], ◌∷◌, ◌++◌, length, take, drop, take_all, append-nil, refl, sym, ap, subst, ◌∙◌, arith, append_assoc}
-use Rattle.std.specs.Prelude.{Option, Some, None, MatchBool}
+use Rattle.std.specs.Prelude.{Option, Some, None, Result, Ok, MatchBool}
 use Rattle.std.specs.List.{flat_map}
 use Rattle.std.specs.Io.KnownBytes.{Appends}
-use Rattle.std.proofs.lemmas.List.{take-append-drop, take-append-le}
+use Rattle.std.proofs.lemmas.List.{length-append, take-append-drop, take-append-le}
 use Rattle.std.proofs.lemmas.List.Concat.{flat_map-append}
 use Rattle.pc_types.specs.Counted.{AppendsBeginning}
 use Rattle.pc_types.specs.Tallies.{inner_of}
 use Rattle.pc_types.specs.declared.Entry.{Entry}
+use Rattle.pc_types.specs.declared.Refusal.{Refusal}
 use Rattle.pc_types.specs.declared.Step.{Step}
 use Rattle.pc_types.specs.declared.tally.Tally.{Tally}
 use Rattle.pc_types.proofs.KnownBytesLaws.{appends_nothing, appends_then, begins_after}
@@ -17,12 +18,15 @@ use Rattle.pc_log.specs.Texts.{entry_text}
 use Rattle.pc_turn.specs.Devices.{Grows}
 use Rattle.pc_turn.specs.Turns.{IsKept, IsLogOut, TurnEnds, is_due, rest_text}
 use Rattle.pc_turn.specs.declared.turn.TurnEnd.TheVariants as end
+use Rattle.pc_serving.specs.Points.{IsShelvedAs}
 use Rattle.pc_serving.specs.Requests.{request_of}
+use Rattle.pc_serving.specs.declared.pace.Turned.{Turned}
+use Rattle.pc_serving.specs.declared.pace.Turned.TheVariants as turned
 use Rattle.pc_server.specs.Acts.{Act, AnswersRequest, answers_of}
 use Rattle.pc_server.specs.Acts.Act.{Answered, WentOn}
 use Rattle.pc_server.specs.Turns.{Stays}
 use Rattle.pc_server.specs.Inputs.{IsRead, ServesOn}
-use Rattle.pc_server.specs.Services.{GrowsFrom, Holds, IsCutOff, first_text}
+use Rattle.pc_server.specs.Services.{GrowsFrom, Holds, IsCutOff, entries_text, first_text}
 use Rattle.pc_server.specs.declared.server.Server.{Server}
 use Rattle.pc_server.specs.declared.service.Service.{Service}
 use Rattle.pc_server.proofs.ServerLaws.{Extends, answer_extends, answers_on, kept_enough, lead_extends, lead_on, step_extends}
@@ -32,6 +36,13 @@ all_begins : (a b : Option (List ℕ)) (x : List ℕ) → Appends a b x → Appe
 all_begins None b x p = tt
 all_begins (Some a) None x p = absurd p
 all_begins (Some a) (Some b) x p = (length x, omega arith, p ∙ ap (λ t. a ++ t) (sym (take_all (length x) x (omega arith))))
+
+-- what was appended is a beginning of a longer text
+appended_begins : (a b : Option (List ℕ)) (x y : List ℕ) → Appends a b x → AppendsBeginning a b (x ++ y)
+appended_begins None b x y p = tt
+appended_begins (Some a) None x y p = absurd p
+appended_begins (Some a) (Some b) x y p =
+    (length x, omega (arith, length-append x y), p ∙ ap (λ t. a ++ t) (sym (take-append-le (length x) x y (omega arith) ∙ take_all (length x) x (omega arith))))
 
 grows_on : (a b c : Option (List ℕ)) → Grows a b → Grows b c → Grows a c
 grows_on a b c (x, p) (y, q) = (x ++ y, appends_then a b c x y p q)
@@ -52,6 +63,10 @@ first_stay count before after (more, e) within = ap (flat_map entry_text) (sym (
 -- the first entries, and those behind them
 all_entries : (count : ℕ) (log : List Entry) → first_text count log ++ rest_text count log ≡ first_text (length log) log
 all_entries count log = sym (flat_map-append entry_text (take count log) (drop count log)) ∙ ap (flat_map entry_text) (take-append-drop count log ∙ sym (take_all (length log) log (omega arith)))
+
+-- the text of all entries, in two pieces
+two_pieces : (count : ℕ) (log : List Entry) → first_text count log ++ rest_text count log ≡ entries_text log
+two_pieces count log = all_entries count log ∙ ap (flat_map entry_text) (take_all (length log) log (omega arith))
 
 take_begins : {X : Type 0} (n : ℕ) (xs ys : List X) → (rest : List X) × (take n (xs ++ ys) ≡ take n xs ++ rest)
 take_begins zero xs ys = ([], refl)
@@ -99,12 +114,13 @@ module _ {T U : Type 0} (written keeps : T → Option (List ℕ)) (contents : U 
       goes_on gone turn (Answered line text ∷ turn) at history next old server holds (answer_extends st history next (request_of line) text told) stays same
 
   -- the checkpointer had its turn
-  pub point_went : (gone turn : List Act) (at history : History) (old : Service T U) (server : Server) → Holds written keeps contents log out st gone at turn history old → server.written ≡ old.server.written
-      → Stays st gone at turn history server ⊎ ((step : Step) × Stays st gone at (WentOn step ∷ turn) (step ∷ history) server)
-      → Holds written keeps contents log out st gone at turn history (record { server = server; log = old.log; out = old.out })
-      ⊎ ((step : Step) × Holds written keeps contents log out st gone at (WentOn step ∷ turn) (step ∷ history) (record { server = server; log = old.log; out = old.out }))
-  point_went gone turn at history old server holds same (inl stays) = inl (goes_on gone turn turn at history history old server holds ([], sym (append-nil (log_of history))) stays same)
-  point_went gone turn at history old server holds same (inr (step, stays)) = inr (step, goes_on gone turn (WentOn step ∷ turn) at history (step ∷ history) old server holds (step_extends step history) stays same)
+  pub point_went : (gone turn : List Act) (at history : History) (old : Service T U) (server : Server) (result : Result Turned Refusal) → Holds written keeps contents log out st gone at turn history old → server.written ≡ old.server.written
+      → (Stays st gone at turn history server × (result ≡ Ok turned.Nothing)) ⊎ ((step : Step) × Stays st gone at (WentOn step ∷ turn) (step ∷ history) server × IsShelvedAs step.reply result)
+      → (Holds written keeps contents log out st gone at turn history (record { server = server; log = old.log; out = old.out }) × (result ≡ Ok turned.Nothing))
+      ⊎ ((step : Step) × Holds written keeps contents log out st gone at (WentOn step ∷ turn) (step ∷ history) (record { server = server; log = old.log; out = old.out }) × IsShelvedAs step.reply result)
+  point_went gone turn at history old server result holds same (inl (stays, none)) = inl (goes_on gone turn turn at history history old server holds ([], sym (append-nil (log_of history))) stays same, none)
+  point_went gone turn at history old server result holds same (inr (step, stays, told)) =
+      inr (step, goes_on gone turn (WentOn step ∷ turn) at history (step ∷ history) old server holds (step_extends step history) stays same, told)
 
   -- what has gone out of the log
   log_is_out : (turn_log : List Entry) (lag before after : ℕ) (a b : T) → Appends log (written a) (first_text before turn_log) → GrowsFrom log (keeps a) (first_text before turn_log) → IsLogOut written keeps turn_log lag before after a b true
@@ -134,39 +150,54 @@ module _ {T U : Type 0} (written keeps : T → Option (List ℕ)) (contents : U 
         kept = logged.1;
       }
 
+  -- of a log some first entries are written, so a beginning of it
+  begun_log : (count : ℕ) (entries : List Entry) (device : T) → Appends log (written device) (first_text count entries) → AppendsBeginning log (written device) (entries_text entries)
+  begun_log count entries device p =
+      subst (AppendsBeginning log (written device)) (two_pieces count entries) (appended_begins log (written device) (first_text count entries) (rest_text count entries) p)
+
   -- what was sent so far, wherever it ends
-  pub held_cut : (gone turn : List Act) (at history : History) (service : Service T U) → Holds written keeps contents log out st gone at turn history service → IsCutOff keeps contents log out st service.server.lag gone at service.log (inner_of service.out)
+  pub held_cut : (gone turn : List Act) (at history : History) (service : Service T U) → Holds written keeps contents log out st gone at turn history service → IsCutOff written keeps contents log out st service.server.lag gone at turn history service.log (inner_of service.out)
   held_cut gone turn at history service holds =
       let begun = first_begin service.server.written at history (lead_extends st at history turn holds.stays.turn_by) in
       let before = less_grown log (keeps service.log) (first_text service.server.written (log_of at)) begun.0 (subst (GrowsFrom log (keeps service.log)) begun.1 holds.kept) in
       record {
+        stands = (service.server.served.world, holds.stays.serves.stands, holds.stays.serves.setting);
         gone_by = holds.stays.gone_by;
+        turn_by = holds.stays.turn_by;
         sent = all_begins out (contents (inner_of service.out)) (answers_of gone) holds.sent;
+        logged = begun_log service.server.written (log_of history) service.log holds.logged;
         kept = (service.server.written, holds.stays.kept, before);
       }
 
   -- the log's device failed
   pub log_cut : (gone turn : List Act) (at history : History) (old : Service T U) (after : ℕ) (device : T) (answers : Tally U) → Holds written keeps contents log out st gone at turn history old
       → TurnEnds written keeps contents (log_of history) old.server.lag (answers_of turn) old.server.written after old.log device old.out answers end.LogCut
-      → IsCutOff keeps contents log out st old.server.lag gone at device (inner_of answers)
+      → IsCutOff written keeps contents log out st old.server.lag gone at turn history device (inner_of answers)
   log_cut gone turn at history old after device answers holds ((due, (appended, grown), e), same) =
       let begun = first_begin old.server.written at history (lead_extends st at history turn holds.stays.turn_by) in
       let before = less_grown log (keeps old.log) (first_text old.server.written (log_of at)) begun.0 (subst (GrowsFrom log (keeps old.log)) begun.1 holds.kept) in
       record {
+        stands = (old.server.served.world, holds.stays.serves.stands, holds.stays.serves.setting);
         gone_by = holds.stays.gone_by;
+        turn_by = holds.stays.turn_by;
         sent = subst (λ o. AppendsBeginning out (contents (inner_of o)) (answers_of gone)) (sym same) (all_begins out (contents (inner_of old.out)) (answers_of gone) holds.sent);
+        logged = subst (AppendsBeginning log (written device)) (two_pieces old.server.written (log_of history))
+            (begins_after log (written old.log) (written device) (first_text old.server.written (log_of history)) (rest_text old.server.written (log_of history)) holds.logged appended);
         kept = (old.server.written, holds.stays.kept, (before.0, before.1, grows_on before.0 (keeps old.log) (keeps device) before.2 grown));
       }
 
   -- the answers' device failed
   pub answers_cut : (gone turn : List Act) (at history : History) (old : Service T U) (after : ℕ) (device : T) (answers : Tally U) → Holds written keeps contents log out st gone at turn history old
       → TurnEnds written keeps contents (log_of history) old.server.lag (answers_of turn) old.server.written after old.log device old.out answers end.AnswersCut
-      → IsCutOff keeps contents log out st old.server.lag (turn ++ gone) history device (inner_of answers)
+      → IsCutOff written keeps contents log out st old.server.lag (turn ++ gone) history [] history device (inner_of answers)
   answers_cut gone turn at history old after device answers holds (is_out, (e, risen, sent)) =
       let logged = log_is_out (log_of history) old.server.lag old.server.written after old.log device holds.logged holds.kept is_out in
       record {
+        stands = (old.server.served.world, holds.stays.serves.stands, holds.stays.serves.setting);
         gone_by = lead_on st [] at history gone turn holds.stays.gone_by holds.stays.turn_by;
+        turn_by = refl;
         sent = subst (AppendsBeginning out (contents (inner_of answers))) (sym (answers_on gone turn)) (begins_after out (contents (inner_of old.out)) (contents (inner_of answers)) (answers_of gone) (answers_of turn) holds.sent sent);
+        logged = begun_log after (log_of history) device logged.0;
         kept = (after, kept_enough written keeps (log_of history) old.server.lag old.server.written after old.log device is_out, logged.1);
       }
 
@@ -177,5 +208,5 @@ none_read (Some text) = refl
 
 -- an input may be served from the beginning on
 pub serves_from : {T U : Type 0} (written keeps : T → Option (List ℕ)) (contents : U → Option (List ℕ)) (log out : Option (List ℕ)) (st : Setting) (lag : ℕ) (service : Service T U) → service.server.lag ≡ lag → Holds written keeps contents log out st [] [] [] [] service
-    → (input : Option (List ℕ)) → ServesOn written keeps contents log out input st lag input service
-serves_from written keeps contents log out st lag service same holds input = ([], none_read input, ([], [], [], [], holds, refl, same))
+    → (input : Option (List ℕ)) → ServesOn written keeps contents log out input st lag input [] service
+serves_from written keeps contents log out st lag service same holds input = ([], none_read input, ([], [], [], [], holds, refl, same, refl))

@@ -1,5 +1,6 @@
 -- How far the input of a process that serves was read and answered.
 use Rattle.std.specs.Prelude.{◌≡◌, ◌⊎◌, ⊤, ℕ, Bool, true, false, List, [], ◌∷◌, ◌++◌, Option, Some, None}
+use Rattle.pc_model.specs.Files.{File, shelf}
 use Rattle.pc_model.specs.History.{History}
 use Rattle.pc_model.specs.Replies.{Setting}
 use Rattle.pc_lines.specs.Lines.{lines_in}
@@ -39,40 +40,40 @@ AskForEnd lines = (front : List (List ℕ)) × (line : List ℕ) × (lines ≡ f
 abbrev pub IsEnd : Option (List ℕ) → List (List ℕ) → Type 0
 IsEnd input lines = AreFirstLines input lines × (AreAllLines input lines ⊎ AskForEnd lines)
 
--- These lines are answered, and of the answers some are sent, and the others wait.
-abbrev pub Serving : {T U : Type 0} → (T → Option (List ℕ)) → (T → Option (List ℕ)) → (U → Option (List ℕ)) → Option (List ℕ) → Option (List ℕ) → Setting → ℕ → List (List ℕ) → Service T U → Type 0
-Serving written keeps contents log out st lag lines service =
-    (gone turn : List Act) × (at history : History) × Holds written keeps contents log out st gone at turn history service × (lines_of (turn ++ gone) ≡ lines) × (service.server.lag ≡ lag)
+-- These lines are answered, and of the answers some are sent, and the others wait. The points have these files.
+abbrev pub Serving : {T U : Type 0} → (T → Option (List ℕ)) → (T → Option (List ℕ)) → (U → Option (List ℕ)) → Option (List ℕ) → Option (List ℕ) → Setting → ℕ → List (List ℕ) → List File → Service T U → Type 0
+Serving written keeps contents log out st lag lines files service =
+    (gone turn : List Act) × (at history : History) × Holds written keeps contents log out st gone at turn history service × (lines_of (turn ++ gone) ≡ lines) × (service.server.lag ≡ lag) × (shelf st.run history ≡ files)
 
 -- These lines are answered, and the answers are sent.
-abbrev pub HasSent : {T U : Type 0} → (T → Option (List ℕ)) → (T → Option (List ℕ)) → (U → Option (List ℕ)) → Option (List ℕ) → Option (List ℕ) → Setting → ℕ → List (List ℕ) → Service T U → Type 0
-HasSent written keeps contents log out st lag lines service =
-    (gone : List Act) × (at : History) × Holds written keeps contents log out st gone at [] at service × (lines_of gone ≡ lines) × (service.server.lag ≡ lag)
+abbrev pub HasSent : {T U : Type 0} → (T → Option (List ℕ)) → (T → Option (List ℕ)) → (U → Option (List ℕ)) → Option (List ℕ) → Option (List ℕ) → Setting → ℕ → List (List ℕ) → List File → Service T U → Type 0
+HasSent written keeps contents log out st lag lines files service =
+    (gone : List Act) × (at : History) × Holds written keeps contents log out st gone at [] at service × (lines_of gone ≡ lines) × (service.server.lag ≡ lag) × (shelf st.run at ≡ files)
 
 -- Some first ones of these lines were answered, and of their answers a beginning was sent, and nothing else; of the log as it was then no
 -- more entries aren't kept than the lag.
-abbrev pub EndsWithin : {T U : Type 0} → (T → Option (List ℕ)) → (U → Option (List ℕ)) → Option (List ℕ) → Option (List ℕ) → Setting → ℕ → List (List ℕ) → T → U → Type 0
-EndsWithin keeps contents log out st lag lines log_device out_device =
-    (gone : List Act) × (at : History) × (rest : List (List ℕ)) × IsCutOff keeps contents log out st lag gone at log_device out_device × (lines ≡ lines_of gone ++ rest)
+abbrev pub EndsWithin : {T U : Type 0} → (T → Option (List ℕ)) → (T → Option (List ℕ)) → (U → Option (List ℕ)) → Option (List ℕ) → Option (List ℕ) → Setting → ℕ → List (List ℕ) → List File → T → U → Type 0
+EndsWithin written keeps contents log out st lag lines files log_device out_device =
+    (gone turn : List Act) × (at history : History) × (rest : List (List ℕ)) × IsCutOff written keeps contents log out st lag gone at turn history log_device out_device × (lines ≡ lines_of (turn ++ gone) ++ rest) × (shelf st.run history ≡ files)
 
 -- The same of some first lines of the input.
-abbrev pub EndsServed : {T U : Type 0} → (T → Option (List ℕ)) → (U → Option (List ℕ)) → Option (List ℕ) → Option (List ℕ) → Option (List ℕ) → Setting → ℕ → T → U → Type 0
-EndsServed keeps contents log out input st lag log_device out_device =
-    (lines : List (List ℕ)) × AreFirstLines input lines × EndsWithin keeps contents log out st lag lines log_device out_device
+abbrev pub EndsServed : {T U : Type 0} → (T → Option (List ℕ)) → (T → Option (List ℕ)) → (U → Option (List ℕ)) → Option (List ℕ) → Option (List ℕ) → Option (List ℕ) → Setting → ℕ → List File → T → U → Type 0
+EndsServed written keeps contents log out input st lag files log_device out_device =
+    (lines : List (List ℕ)) × AreFirstLines input lines × EndsWithin written keeps contents log out st lag lines files log_device out_device
 
 -- The lines that were read are answered.
-abbrev pub ServesOn : {T U : Type 0} → (T → Option (List ℕ)) → (T → Option (List ℕ)) → (U → Option (List ℕ)) → Option (List ℕ) → Option (List ℕ) → Option (List ℕ) → Setting → ℕ → Option (List ℕ) → Service T U → Type 0
-ServesOn written keeps contents log out input st lag left service = (lines : List (List ℕ)) × IsRead input left lines × Serving written keeps contents log out st lag lines service
+abbrev pub ServesOn : {T U : Type 0} → (T → Option (List ℕ)) → (T → Option (List ℕ)) → (U → Option (List ℕ)) → Option (List ℕ) → Option (List ℕ) → Option (List ℕ) → Setting → ℕ → Option (List ℕ) → List File → Service T U → Type 0
+ServesOn written keeps contents log out input st lag left files service = (lines : List (List ℕ)) × IsRead input left lines × Serving written keeps contents log out st lag lines files service
 
 -- Nothing more is to be answered.
-abbrev pub HasServed : {T U : Type 0} → (T → Option (List ℕ)) → (T → Option (List ℕ)) → (U → Option (List ℕ)) → Option (List ℕ) → Option (List ℕ) → Option (List ℕ) → Setting → ℕ → Service T U → Type 0
-HasServed written keeps contents log out input st lag service = (lines : List (List ℕ)) × IsEnd input lines × Serving written keeps contents log out st lag lines service
+abbrev pub HasServed : {T U : Type 0} → (T → Option (List ℕ)) → (T → Option (List ℕ)) → (U → Option (List ℕ)) → Option (List ℕ) → Option (List ℕ) → Option (List ℕ) → Setting → ℕ → List File → Service T U → Type 0
+HasServed written keeps contents log out input st lag files service = (lines : List (List ℕ)) × IsEnd input lines × Serving written keeps contents log out st lag lines files service
 
 -- And all answers were sent.
-abbrev pub HasServedAll : {T U : Type 0} → (T → Option (List ℕ)) → (T → Option (List ℕ)) → (U → Option (List ℕ)) → Option (List ℕ) → Option (List ℕ) → Option (List ℕ) → Setting → ℕ → Service T U → Type 0
-HasServedAll written keeps contents log out input st lag service = (lines : List (List ℕ)) × IsEnd input lines × HasSent written keeps contents log out st lag lines service
+abbrev pub HasServedAll : {T U : Type 0} → (T → Option (List ℕ)) → (T → Option (List ℕ)) → (U → Option (List ℕ)) → Option (List ℕ) → Option (List ℕ) → Option (List ℕ) → Setting → ℕ → List File → Service T U → Type 0
+HasServedAll written keeps contents log out input st lag files service = (lines : List (List ℕ)) × IsEnd input lines × HasSent written keeps contents log out st lag lines files service
 
 -- what a line leaves, by whether more are to be answered
-abbrev pub ServesLine : {T U : Type 0} → (T → Option (List ℕ)) → (T → Option (List ℕ)) → (U → Option (List ℕ)) → Option (List ℕ) → Option (List ℕ) → Option (List ℕ) → Setting → ℕ → Option (List ℕ) → Service T U → Bool → Type 0
-ServesLine written keeps contents log out input st lag left service true = ServesOn written keeps contents log out input st lag left service
-ServesLine written keeps contents log out input st lag left service false = HasServed written keeps contents log out input st lag service
+abbrev pub ServesLine : {T U : Type 0} → (T → Option (List ℕ)) → (T → Option (List ℕ)) → (U → Option (List ℕ)) → Option (List ℕ) → Option (List ℕ) → Option (List ℕ) → Setting → ℕ → Option (List ℕ) → List File → Service T U → Bool → Type 0
+ServesLine written keeps contents log out input st lag left files service true = ServesOn written keeps contents log out input st lag left files service
+ServesLine written keeps contents log out input st lag left files service false = HasServed written keeps contents log out input st lag files service

@@ -1,4 +1,6 @@
 pub mod Acts
 pub mod Turns
 pub mod Services
+pub mod Files
 pub mod Inputs
+pub mod Answered

@@ -1,5 +1,5 @@
 -- What a process that serves has put out, and what of it comes back.
-use Rattle.std.specs.Prelude.{◌≤◌, ◌+◌, ℕ, List, [], Option, take, length}
+use Rattle.std.specs.Prelude.{◌≡◌, ◌≤◌, ◌+◌, ℕ, List, [], Option, take, length}
 use Rattle.std.specs.List.{flat_map}
 use Rattle.std.specs.Io.KnownBytes.{Appends}
 use Rattle.pc_types.specs.Counted.{AppendsBeginning}
@@ -7,6 +7,8 @@ use Rattle.pc_types.specs.Tallies.{inner_of}
 use Rattle.pc_types.specs.declared.Entry.{Entry}
 use Rattle.pc_model.specs.History.{History, log_of}
 use Rattle.pc_model.specs.Replies.{Setting}
+use Rattle.pc_engine.specs.Stands.{Stands}
+use Rattle.pc_engine.specs.Store.{Store, setting_of}
 use Rattle.pc_log.specs.Texts.{entry_text}
 use Rattle.pc_turn.specs.Devices.{Grows}
 use Rattle.pc_server.specs.Acts.{Act, Lead, answers_of}
@@ -16,6 +18,10 @@ use Rattle.pc_server.specs.declared.service.Service.{Service}
 -- the text of the first entries of a log
 abbrev pub first_text : ℕ → List Entry → List ℕ
 first_text count log = flat_map entry_text (take count log)
+
+-- the text of all of them
+abbrev pub entries_text : List Entry → List ℕ
+entries_text log = flat_map entry_text log
 
 -- known bytes have grown by this text at the front, and maybe by more
 abbrev pub GrowsFrom : Option (List ℕ) → Option (List ℕ) → List ℕ → Type 0
@@ -30,9 +36,14 @@ pub record Holds {T U : Type 0} (written keeps : T → Option (List ℕ)) (conte
   pub logged : Appends log (written service.log) (first_text service.server.written (log_of history))
   pub kept : GrowsFrom log (keeps service.log) (first_text service.server.written (log_of history))
 
--- The same of one that a device has cut off, maybe in the middle of a text: some first acts `gone` were answered, and of their answers a
--- beginning was sent, and nothing else; of the log as it was then no more entries aren't kept than the lag.
-pub record IsCutOff {T U : Type 0} (keeps : T → Option (List ℕ)) (contents : U → Option (List ℕ)) (log out : Option (List ℕ)) (st : Setting) (lag : ℕ) (gone : List Act) (at : History) (log_device : T) (out_device : U) : Type 0 where
+-- What is left, wherever it ends, maybe in the middle of a text. It did the acts `gone`, of whose answers a beginning was sent, and nothing
+-- else, and then those of the turn, and a store stands after all of them. Of the log a beginning is written; and of the log as it was
+-- behind `gone` no more entries aren't kept than the lag.
+pub record IsCutOff {T U : Type 0} (written keeps : T → Option (List ℕ)) (contents : U → Option (List ℕ)) (log out : Option (List ℕ)) (st : Setting) (lag : ℕ) (gone : List Act) (at : History) (turn : List Act) (history : History)
+    (log_device : T) (out_device : U) : Type 0 where
+  pub stands : (world : Store) × Stands world history × (setting_of world ≡ st)
   pub gone_by : Lead st [] gone at
+  pub turn_by : Lead st at turn history
   pub sent : AppendsBeginning out (contents out_device) (answers_of gone)
+  pub logged : AppendsBeginning log (written log_device) (entries_text (log_of history))
   pub kept : (count : ℕ) × (length (log_of at) ≤ count + lag) × GrowsFrom log (keeps log_device) (first_text count (log_of at))

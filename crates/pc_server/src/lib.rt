@@ -2,10 +2,12 @@
 //! before the answers go out.
 #![tactic(auto)]
 
+mod laws;
 mod serve;
 mod server;
 mod service;
 
+pub use laws::serving_loses_no_answer;
 pub use serve::{PointFiles, ServeFault, serve_input};
 pub use server::Server;
 pub use service::{CutOff, Service};

@@ -1,10 +1,12 @@
 //! The lines of an input are answered until it ends.
-ghost use Rattle.std.specs.Prelude.{◌≡◌, ◌++◌, ◌∷◌, [], not, ℕ, List, Option, MatchResult, MatchBool, IfOk};
+ghost use Rattle.std.specs.Prelude.{◌≡◌, ◌++◌, ◌∷◌, [], not, ℕ, List, Option, Some, MatchResult, MatchBool, IfOk, OnOk};
 ghost use Rattle.std.specs.Io.Buffered.{reader_remaining};
 ghost use Rattle.pc_types.specs.Tallies.{inner_of};
+ghost use Rattle.pc_model.specs.Files.{File, file_at};
 ghost use Rattle.pc_model.specs.Replies.{Setting};
 ghost use Rattle.pc_serving.specs.Requests.{request_of};
 ghost use Rattle.pc_server.specs.Acts.{is_quit};
+ghost use Rattle.pc_server.specs.Files.{AreOfPoints, HasAllFiles, HasFile, HasNoMore, HasOnlyFiles, KeepsOthers, Shelves, WithFiles, WithSomeFiles};
 ghost use Rattle.pc_server.specs.Inputs.{shelved, IsRead, AreAllLines, Serving, HasSent, EndsWithin, EndsServed, ServesOn, ServesLine, HasServed, HasServedAll};
 
 use crate::service::{CutOff, Service};
@@ -27,10 +29,21 @@ pub enum ServeFault {
     CutOff(CutOff),
 }
 
-/// Where the files of points go.
+/// Where the files of points go. Contracts see the texts that it has under the points' numbers; of one of which that isn't known each
+/// text counts as had.
 pub trait PointFiles {
-    /// Keeps the file of a point that was taken, or tells why it can't be.
-    fn keep(&mut self, file: &Part) -> Result<(), Refusal>;
+    ghost use Rattle.std.specs.Prelude.{ℕ, List, OnOk};
+    ghost use Rattle.pc_server.specs.Files.{HasFile, HasNoMore, KeepsOthers};
+
+    // It has this text under this point.
+    ghost holds: { Self → ℕ → List ℕ → Type 0 };
+
+    /// Keeps the file of a point that was taken, or tells why it can't be. The files of other points stay. Where it can't be kept, it may
+    /// have the file all the same, whole or not at all.
+    fn keep(&mut self, file: &Part) -> Result<(), Refusal>
+        ensures kept { OnOk result (HasFile (holds self.new) file.now) }
+        ensures others { KeepsOthers (holds self.old) (holds self.new) file.now }
+        ensures no_more { HasNoMore (holds self.old) (holds self.new) file.now };
 }
 
 // The next line is read into the vector; false at the end of the input.
@@ -49,9 +62,9 @@ fn send<L: LogDevice + Drop, W: Write + Drop>(
     alloc: Global,
     service: &mut Service<L, W>,
 ) -> Result<(), ServeFault>
-    requires { (log out : Option (List ℕ)) × (st : Setting) × (lag : ℕ) × (lines : List (List ℕ)) × Serving L.written L.kept W.contents log out st lag lines service.old }
-    ensures { (log out : Option (List ℕ)) (st : Setting) (lag : ℕ) (lines : List (List ℕ)) → Serving L.written L.kept W.contents log out st lag lines service.old
-        → MatchResult result (λ _. HasSent L.written L.kept W.contents log out st lag lines service.new) (λ _. EndsWithin L.kept W.contents log out st lag lines service.new.log (inner_of service.new.out)) }
+    requires { (log out : Option (List ℕ)) × (st : Setting) × (lag : ℕ) × (lines : List (List ℕ)) × (files : List File) × Serving L.written L.kept W.contents log out st lag lines files service.old }
+    ensures { (log out : Option (List ℕ)) (st : Setting) (lag : ℕ) (lines : List (List ℕ)) (files : List File) → Serving L.written L.kept W.contents log out st lag lines files service.old
+        → MatchResult result (λ _. HasSent L.written L.kept W.contents log out st lag lines files service.new) (λ _. EndsWithin L.written L.kept W.contents log out st lag lines files service.new.log (inner_of service.new.out)) }
 {
     match service.end_turn(alloc) {
         Ok(()) => Ok(()),
@@ -65,9 +78,9 @@ fn send_if_idle<R: Read + Drop, L: LogDevice + Drop, W: Write + Drop>(
     service: &mut Service<L, W>,
     input: &BufReader<R>,
 ) -> Result<(), ServeFault>
-    requires { (log out : Option (List ℕ)) × (st : Setting) × (lag : ℕ) × (lines : List (List ℕ)) × Serving L.written L.kept W.contents log out st lag lines service.old }
-    ensures { (log out : Option (List ℕ)) (st : Setting) (lag : ℕ) (lines : List (List ℕ)) → Serving L.written L.kept W.contents log out st lag lines service.old
-        → MatchResult result (λ _. Serving L.written L.kept W.contents log out st lag lines service.new) (λ _. EndsWithin L.kept W.contents log out st lag lines service.new.log (inner_of service.new.out)) }
+    requires { (log out : Option (List ℕ)) × (st : Setting) × (lag : ℕ) × (lines : List (List ℕ)) × (files : List File) × Serving L.written L.kept W.contents log out st lag lines files service.old }
+    ensures { (log out : Option (List ℕ)) (st : Setting) (lag : ℕ) (lines : List (List ℕ)) (files : List File) → Serving L.written L.kept W.contents log out st lag lines files service.old
+        → MatchResult result (λ _. Serving L.written L.kept W.contents log out st lag lines files service.new) (λ _. EndsWithin L.written L.kept W.contents log out st lag lines files service.new.log (inner_of service.new.out)) }
 {
     if input.buffer().contains(&b'\n') {
         return Ok(());
@@ -82,8 +95,8 @@ fn answer_line<L: LogDevice + Drop, W: Write + Drop>(
     line: &[u8],
 ) -> Result<bool, ServeFault>
     ensures asks { IfOk result (λ goes_on. goes_on ≡ not (is_quit (request_of line.now))) }
-    ensures served { (log out : Option (List ℕ)) (st : Setting) (lag : ℕ) (lines : List (List ℕ)) → Serving L.written L.kept W.contents log out st lag lines service.old
-        → MatchResult result (λ _. Serving L.written L.kept W.contents log out st lag (lines ++ line.now ∷ []) service.new) (λ _. EndsWithin L.kept W.contents log out st lag lines service.new.log (inner_of service.new.out)) }
+    ensures served { (log out : Option (List ℕ)) (st : Setting) (lag : ℕ) (lines : List (List ℕ)) (files : List File) → Serving L.written L.kept W.contents log out st lag lines files service.old
+        → MatchResult result (λ _. Serving L.written L.kept W.contents log out st lag (lines ++ line.now ∷ []) files service.new) (λ _. EndsWithin L.written L.kept W.contents log out st lag lines files service.new.log (inner_of service.new.out)) }
 {
     match service.answer(alloc, line) {
         Ok(goes_on) => Ok(goes_on),
@@ -96,8 +109,10 @@ fn go_on<L: LogDevice + Drop, W: Write + Drop, P: PointFiles>(
     service: &mut Service<L, W>,
     points: &mut P,
 ) -> Result<(), ServeFault>
-    ensures { (log out : Option (List ℕ)) (st : Setting) (lag : ℕ) (lines : List (List ℕ)) → Serving L.written L.kept W.contents log out st lag lines service.old
-        → MatchResult result (λ _. Serving L.written L.kept W.contents log out st lag lines service.new) (λ _. EndsWithin L.kept W.contents log out st lag lines service.new.log (inner_of service.new.out)) }
+    ensures { (log out : Option (List ℕ)) (st : Setting) (lag : ℕ) (lines : List (List ℕ)) (first : P) → WithFiles (P.holds first) (P.holds points.old) (λ files. Serving L.written L.kept W.contents log out st lag lines files service.old)
+        → MatchResult result
+        (λ _. WithFiles (P.holds first) (P.holds points.new) (λ files. Serving L.written L.kept W.contents log out st lag lines files service.new))
+        (λ _. WithSomeFiles (P.holds first) (P.holds points.new) (λ files. EndsWithin L.written L.kept W.contents log out st lag lines files service.new.log (inner_of service.new.out))) }
 {
     match service.go_on() {
         Ok(turned) => keep_shelved(&*service, points, turned),
@@ -110,9 +125,14 @@ fn keep_shelved<L: LogDevice + Drop, W: Write + Drop, P: PointFiles>(
     service: &Service<L, W>,
     points: &mut P,
     turned: Turned,
-) -> Result<(), ServeFault> {
+) -> Result<(), ServeFault>
+    ensures { (first : P) (files : List File) → Shelves turned files service.now.server.served.world.shelf → AreOfPoints service.now.server.served.world.shelf → HasAllFiles (P.holds points.old) files → HasOnlyFiles (P.holds first) (P.holds points.old) files
+        → MatchResult result
+        (λ _. HasAllFiles (P.holds points.new) service.now.server.served.world.shelf × HasOnlyFiles (P.holds first) (P.holds points.new) service.now.server.served.world.shelf)
+        (λ _. HasOnlyFiles (P.holds first) (P.holds points.new) service.now.server.served.world.shelf) }
+{
     match shelved(turned) {
-        Some(number) => keep_file(service.file(number), points),
+        Some(number) => keep_file(service, number, points),
         None => Ok(()),
     }
 }
@@ -127,9 +147,15 @@ fn shelved(turned: Turned) -> Option<FileNo>
     }
 }
 
-// Keeps a file that is on the shelf.
-fn keep_file<P: PointFiles>(file: Option<&Part>, points: &mut P) -> Result<(), ServeFault> {
-    let Some(file) = file else {
+// Keeps the shelf's file of this number.
+fn keep_file<L: LogDevice + Drop, W: Write + Drop, P: PointFiles>(
+    service: &Service<L, W>,
+    number: FileNo,
+    points: &mut P,
+) -> Result<(), ServeFault>
+    ensures { (file : File) → file_at service.now.server.served.world.shelf number ≡ Some file → OnOk result (HasFile (P.holds points.new) file) × KeepsOthers (P.holds points.old) (P.holds points.new) file × HasNoMore (P.holds points.old) (P.holds points.new) file }
+{
+    let Some(file) = service.file(number) else {
         return Err(ServeFault::Refused(Refusal::NoFile));
     };
     match points.keep(file) {
@@ -146,8 +172,10 @@ fn take_turns<L: LogDevice + Drop, W: Write + Drop, P: PointFiles>(
     points: &mut P,
 ) -> Result<bool, ServeFault>
     ensures asks { IfOk result (λ goes_on. goes_on ≡ not (is_quit (request_of line.now))) }
-    ensures served { (log out : Option (List ℕ)) (st : Setting) (lag : ℕ) (lines : List (List ℕ)) → Serving L.written L.kept W.contents log out st lag lines service.old
-        → MatchResult result (λ _. Serving L.written L.kept W.contents log out st lag (lines ++ line.now ∷ []) service.new) (λ _. EndsWithin L.kept W.contents log out st lag (lines ++ line.now ∷ []) service.new.log (inner_of service.new.out)) }
+    ensures served { (log out : Option (List ℕ)) (st : Setting) (lag : ℕ) (lines : List (List ℕ)) (first : P) → WithFiles (P.holds first) (P.holds points.old) (λ files. Serving L.written L.kept W.contents log out st lag lines files service.old)
+        → MatchResult result
+        (λ _. WithFiles (P.holds first) (P.holds points.new) (λ files. Serving L.written L.kept W.contents log out st lag (lines ++ line.now ∷ []) files service.new))
+        (λ _. WithSomeFiles (P.holds first) (P.holds points.new) (λ files. EndsWithin L.written L.kept W.contents log out st lag (lines ++ line.now ∷ []) files service.new.log (inner_of service.new.out))) }
 {
     match answer_line(alloc, service, line) {
         Ok(goes_on) => match go_on(service, points) {
@@ -166,8 +194,10 @@ fn serve_next<R: Read + Drop, L: LogDevice + Drop, W: Write + Drop, P: PointFile
     line: &mut Vec<u8>,
     points: &mut P,
 ) -> Result<bool, ServeFault>
-    ensures { (log out text : Option (List ℕ)) (st : Setting) (lag : ℕ) → ServesOn L.written L.kept W.contents log out text st lag (reader_remaining R.remaining input.old) service.old
-        → MatchResult result (ServesLine L.written L.kept W.contents log out text st lag (reader_remaining R.remaining input.new) service.new) (λ _. EndsServed L.kept W.contents log out text st lag service.new.log (inner_of service.new.out)) }
+    ensures { (log out text : Option (List ℕ)) (st : Setting) (lag : ℕ) (first : P) → WithFiles (P.holds first) (P.holds points.old) (λ files. ServesOn L.written L.kept W.contents log out text st lag (reader_remaining R.remaining input.old) files service.old)
+        → MatchResult result
+        (λ goes_on. WithFiles (P.holds first) (P.holds points.new) (λ files. ServesLine L.written L.kept W.contents log out text st lag (reader_remaining R.remaining input.new) files service.new goes_on))
+        (λ _. WithSomeFiles (P.holds first) (P.holds points.new) (λ files. EndsServed L.written L.kept W.contents log out text st lag files service.new.log (inner_of service.new.out))) }
 {
     match read_next(input, line) {
         Ok(true) => take_turns(alloc, service, line, points),
@@ -184,9 +214,11 @@ fn serve_line<R: Read + Drop, L: LogDevice + Drop, W: Write + Drop, P: PointFile
     line: &mut Vec<u8>,
     points: &mut P,
 ) -> Result<bool, ServeFault>
-    requires { (log out text : Option (List ℕ)) × (st : Setting) × (lag : ℕ) × ServesOn L.written L.kept W.contents log out text st lag (reader_remaining R.remaining input.old) service.old }
-    ensures { (log out text : Option (List ℕ)) (st : Setting) (lag : ℕ) → ServesOn L.written L.kept W.contents log out text st lag (reader_remaining R.remaining input.old) service.old
-        → MatchResult result (ServesLine L.written L.kept W.contents log out text st lag (reader_remaining R.remaining input.new) service.new) (λ _. EndsServed L.kept W.contents log out text st lag service.new.log (inner_of service.new.out)) }
+    requires { (log out text : Option (List ℕ)) × (st : Setting) × (lag : ℕ) × (first : P) × WithFiles (P.holds first) (P.holds points.old) (λ files. ServesOn L.written L.kept W.contents log out text st lag (reader_remaining R.remaining input.old) files service.old) }
+    ensures { (log out text : Option (List ℕ)) (st : Setting) (lag : ℕ) (first : P) → WithFiles (P.holds first) (P.holds points.old) (λ files. ServesOn L.written L.kept W.contents log out text st lag (reader_remaining R.remaining input.old) files service.old)
+        → MatchResult result
+        (λ goes_on. WithFiles (P.holds first) (P.holds points.new) (λ files. ServesLine L.written L.kept W.contents log out text st lag (reader_remaining R.remaining input.new) files service.new goes_on))
+        (λ _. WithSomeFiles (P.holds first) (P.holds points.new) (λ files. EndsServed L.written L.kept W.contents log out text st lag files service.new.log (inner_of service.new.out))) }
 {
     match send_if_idle(alloc, service, &*input) {
         Ok(()) => serve_next(alloc, service, input, line, points),
@@ -201,9 +233,11 @@ fn serve_lines<R: Read + Drop, L: LogDevice + Drop, W: Write + Drop, P: PointFil
     input: &mut BufReader<R>,
     points: &mut P,
 ) -> Result<(), ServeFault>
-    requires { (log out text : Option (List ℕ)) × (st : Setting) × (lag : ℕ) × ServesOn L.written L.kept W.contents log out text st lag (reader_remaining R.remaining input.old) service.old }
-    ensures { (log out text : Option (List ℕ)) (st : Setting) (lag : ℕ) → ServesOn L.written L.kept W.contents log out text st lag (reader_remaining R.remaining input.old) service.old
-        → MatchResult result (λ _. HasServed L.written L.kept W.contents log out text st lag service.new) (λ _. EndsServed L.kept W.contents log out text st lag service.new.log (inner_of service.new.out)) }
+    requires { (log out text : Option (List ℕ)) × (st : Setting) × (lag : ℕ) × (first : P) × WithFiles (P.holds first) (P.holds points.old) (λ files. ServesOn L.written L.kept W.contents log out text st lag (reader_remaining R.remaining input.old) files service.old) }
+    ensures { (log out text : Option (List ℕ)) (st : Setting) (lag : ℕ) (first : P) → WithFiles (P.holds first) (P.holds points.old) (λ files. ServesOn L.written L.kept W.contents log out text st lag (reader_remaining R.remaining input.old) files service.old)
+        → MatchResult result
+        (λ _. WithFiles (P.holds first) (P.holds points.new) (λ files. HasServed L.written L.kept W.contents log out text st lag files service.new))
+        (λ _. WithSomeFiles (P.holds first) (P.holds points.new) (λ files. EndsServed L.written L.kept W.contents log out text st lag files service.new.log (inner_of service.new.out))) }
 {
     let mut line = Vec::new(alloc);
     for _ in 0..u64::MAX {
@@ -220,16 +254,19 @@ fn serve_lines<R: Read + Drop, L: LogDevice + Drop, W: Write + Drop, P: PointFil
 /// line is left of what was read, so it has at most as many bytes of lines as the reader's buffer; the points that are due are taken
 /// between the lines. Where nothing fails all lines were answered, or all up to that one, and all answers are sent. At every other end,
 /// and so whatever device fails at whatever call: some first lines of the input were answered, of their answers a beginning was sent, and
-/// nothing else, and of the log as it was then no more entries aren't kept than the lag.
+/// nothing else, and of the log as it was then no more entries aren't kept than the lag. Each file of a point was given to `points`,
+/// which has its text, and nothing else of that run; where the service ends because one can't be kept, `points` may lack that one.
 pub fn serve_input<R: Read + Drop, L: LogDevice + Drop, W: Write + Drop, P: PointFiles>(
     alloc: Global,
     service: &mut Service<L, W>,
     input: &mut BufReader<R>,
     points: &mut P,
 ) -> Result<(), ServeFault>
-    requires { (log out text : Option (List ℕ)) × (st : Setting) × (lag : ℕ) × ServesOn L.written L.kept W.contents log out text st lag (reader_remaining R.remaining input.old) service.old }
-    ensures { (log out text : Option (List ℕ)) (st : Setting) (lag : ℕ) → ServesOn L.written L.kept W.contents log out text st lag (reader_remaining R.remaining input.old) service.old
-        → MatchResult result (λ _. HasServedAll L.written L.kept W.contents log out text st lag service.new) (λ _. EndsServed L.kept W.contents log out text st lag service.new.log (inner_of service.new.out)) }
+    requires { (log out text : Option (List ℕ)) × (st : Setting) × (lag : ℕ) × (first : P) × WithFiles (P.holds first) (P.holds points.old) (λ files. ServesOn L.written L.kept W.contents log out text st lag (reader_remaining R.remaining input.old) files service.old) }
+    ensures { (log out text : Option (List ℕ)) (st : Setting) (lag : ℕ) (first : P) → WithFiles (P.holds first) (P.holds points.old) (λ files. ServesOn L.written L.kept W.contents log out text st lag (reader_remaining R.remaining input.old) files service.old)
+        → MatchResult result
+        (λ _. WithFiles (P.holds first) (P.holds points.new) (λ files. HasServedAll L.written L.kept W.contents log out text st lag files service.new))
+        (λ _. WithSomeFiles (P.holds first) (P.holds points.new) (λ files. EndsServed L.written L.kept W.contents log out text st lag files service.new.log (inner_of service.new.out))) }
 {
     match serve_lines(alloc, service, input, points) {
         Ok(()) => send(alloc, service),

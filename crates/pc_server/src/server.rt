@@ -1,5 +1,5 @@
 //! The store that is served, in turns.
-ghost use Rattle.std.specs.Prelude.{◌≡◌, ◌⊎◌, ◌≤◌, ◌++◌, ◌∷◌, [], not, ℕ, List, length, option_copied, OnOk, IfOk, IfErr};
+ghost use Rattle.std.specs.Prelude.{◌≡◌, ◌⊎◌, ◌≤◌, ◌++◌, ◌∷◌, [], not, ℕ, List, length, option_copied, Ok, OnOk, IfOk, IfErr};
 ghost use Rattle.pc_types.specs.Tallies.{Puts, inner_of};
 ghost use Rattle.pc_types.specs.declared.Step.{Step};
 ghost use Rattle.pc_model.specs.History.{History, log_of};
@@ -8,7 +8,9 @@ ghost use Rattle.pc_engine.specs.Stands.{Stands};
 ghost use Rattle.pc_engine.specs.Store.{setting_of};
 ghost use Rattle.pc_model.specs.Files.{file_at};
 ghost use Rattle.pc_turn.specs.Turns.{TurnEnds};
+ghost use Rattle.pc_serving.specs.Points.{IsShelvedAs};
 ghost use Rattle.pc_serving.specs.Requests.{request_of};
+ghost use Rattle.pc_serving.specs.declared.pace.Turned.TheVariants as turned;
 ghost use Rattle.pc_server.specs.Acts.{Act, AnswersRequest, answers_of, is_quit, run_line, stats_line};
 ghost use Rattle.pc_server.specs.Acts.Act.{Answered, WentOn};
 ghost use Rattle.pc_server.specs.Turns.{Stays, paced};
@@ -99,10 +101,11 @@ impl Server {
         }
     }
 
-    /// Asks the next event of the point's cycle, where one is due, as `Pace::go_on` does. No client is answered by it.
+    /// Asks the next event of the point's cycle, where one is due, as `Pace::go_on` does, and tells of a file exactly where its reply
+    /// put one on the shelf. No client is answered by it.
     pub fn go_on(&mut self) -> Result<Turned, Refusal>
         ensures went { (st : Setting) (gone turn : List Act) (at history : History) → Stays st gone at turn history self.old
-            → Stays st gone at turn history self.new ⊎ ((step : Step) × Stays st gone at (WentOn step ∷ turn) (step ∷ history) self.new) }
+            → (Stays st gone at turn history self.new × (result ≡ Ok turned.Nothing)) ⊎ ((step : Step) × Stays st gone at (WentOn step ∷ turn) (step ∷ history) self.new × IsShelvedAs step.reply result) }
         ensures same { (self.new.lag ≡ self.old.lag) × (self.new.written ≡ self.old.written) }
     {
         self.pace.go_on(&mut self.served.world)

@@ -1,5 +1,5 @@
 //! The store that is served, with the devices to which its log and its answers go.
-ghost use Rattle.std.specs.Prelude.{◌≡◌, ◌⊎◌, ◌≤◌, ◌++◌, ◌∷◌, [], not, ℕ, List, length, Option, option_copied, OnOk, OnErr, IfOk, IfErr, MatchResult};
+ghost use Rattle.std.specs.Prelude.{◌≡◌, ◌⊎◌, ◌≤◌, ◌++◌, ◌∷◌, [], not, ℕ, List, length, Option, option_copied, Ok, OnOk, OnErr, IfOk, IfErr, MatchResult};
 ghost use Rattle.pc_types.specs.Tallies.{inner_of};
 ghost use Rattle.pc_types.specs.declared.Step.{Step};
 ghost use Rattle.pc_model.specs.History.{History};
@@ -7,9 +7,11 @@ ghost use Rattle.pc_model.specs.Replies.{Setting};
 ghost use Rattle.pc_engine.specs.Stands.{Stands};
 ghost use Rattle.pc_engine.specs.Store.{setting_of};
 ghost use Rattle.pc_model.specs.Files.{file_at};
+ghost use Rattle.pc_serving.specs.Points.{IsShelvedAs};
 ghost use Rattle.pc_serving.specs.Requests.{request_of};
+ghost use Rattle.pc_serving.specs.declared.pace.Turned.TheVariants as turned;
 ghost use Rattle.pc_turn.specs.Devices.{Grows};
-ghost use Rattle.pc_server.specs.Acts.{Act, is_quit};
+ghost use Rattle.pc_server.specs.Acts.{Act, AnswersRequest, is_quit};
 ghost use Rattle.pc_server.specs.Acts.Act.{Answered, WentOn};
 ghost use Rattle.pc_server.specs.Inputs.{ServesOn};
 ghost use Rattle.pc_server.specs.Services.{Holds, IsCutOff};
@@ -51,7 +53,7 @@ impl<L: LogDevice + Drop, W: Write + Drop> Service<L, W> {
         out: Tally<W>,
     ) -> Service<L, W>
         ensures holds { Stands world [] → Grows (L.written log) (L.kept log) → Holds L.written L.kept W.contents (L.written log) (W.contents (inner_of out)) (setting_of world) [] [] [] [] result }
-        ensures serves { Stands world [] → Grows (L.written log) (L.kept log) → (input : Option (List ℕ)) → ServesOn L.written L.kept W.contents (L.written log) (W.contents (inner_of out)) input (setting_of world) lag input result }
+        ensures serves { Stands world [] → Grows (L.written log) (L.kept log) → (input : Option (List ℕ)) → ServesOn L.written L.kept W.contents (L.written log) (W.contents (inner_of out)) input (setting_of world) lag input [] result }
     {
         let server = Server::new(alloc, world, every, lag);
         Service { server, log, out }
@@ -72,7 +74,7 @@ impl<L: LogDevice + Drop, W: Write + Drop> Service<L, W> {
     /// Answers a line, as `Server::answer` does; nothing goes out.
     pub fn answer(&mut self, alloc: Global, line: &[u8]) -> Result<bool, Refusal>
         ensures answered { (st : Setting) (log out : Option (List ℕ)) (gone turn : List Act) (at history : History) → Holds L.written L.kept W.contents log out st gone at turn history self.old
-            → OnOk result ((text : List ℕ) × (next : History) × Holds L.written L.kept W.contents log out st gone at (Answered line.now text ∷ turn) next self.new) }
+            → OnOk result ((text : List ℕ) × (next : History) × AnswersRequest st history (request_of line.now) text next × Holds L.written L.kept W.contents log out st gone at (Answered line.now text ∷ turn) next self.new) }
         ensures goes_on { IfOk result (λ goes_on. goes_on ≡ not (is_quit (request_of line.now))) }
         ensures refusals { IfErr result (λ e. e ≡ Refusal.OutOfMemory) }
         ensures devices { (self.new.log ≡ self.old.log) × (self.new.out ≡ self.old.out) }
@@ -81,10 +83,11 @@ impl<L: LogDevice + Drop, W: Write + Drop> Service<L, W> {
         self.server.answer(alloc, line)
     }
 
-    /// Asks the next event of the point's cycle, where one is due; nothing goes out.
+    /// Asks the next event of the point's cycle, where one is due, as `Server::go_on` does; nothing goes out.
     pub fn go_on(&mut self) -> Result<Turned, Refusal>
         ensures went { (st : Setting) (log out : Option (List ℕ)) (gone turn : List Act) (at history : History) → Holds L.written L.kept W.contents log out st gone at turn history self.old
-            → Holds L.written L.kept W.contents log out st gone at turn history self.new ⊎ ((step : Step) × Holds L.written L.kept W.contents log out st gone at (WentOn step ∷ turn) (step ∷ history) self.new) }
+            → (Holds L.written L.kept W.contents log out st gone at turn history self.new × (result ≡ Ok turned.Nothing))
+            ⊎ ((step : Step) × Holds L.written L.kept W.contents log out st gone at (WentOn step ∷ turn) (step ∷ history) self.new × IsShelvedAs step.reply result) }
         ensures devices { (self.new.log ≡ self.old.log) × (self.new.out ≡ self.old.out) }
         ensures lag { self.new.server.lag ≡ self.old.server.lag }
     {
@@ -106,8 +109,8 @@ impl<L: LogDevice + Drop, W: Write + Drop> Service<L, W> {
         ensures ended { (st : Setting) (log out : Option (List ℕ)) (gone turn : List Act) (at history : History) → Holds L.written L.kept W.contents log out st gone at turn history self.old
             → MatchResult result
             (λ _. Holds L.written L.kept W.contents log out st (turn ++ gone) history [] history self.new)
-            (λ _. IsCutOff L.kept W.contents log out st self.old.server.lag gone at self.new.log (inner_of self.new.out)
-            ⊎ IsCutOff L.kept W.contents log out st self.old.server.lag (turn ++ gone) history self.new.log (inner_of self.new.out)) }
+            (λ _. IsCutOff L.written L.kept W.contents log out st self.old.server.lag gone at turn history self.new.log (inner_of self.new.out)
+            ⊎ IsCutOff L.written L.kept W.contents log out st self.old.server.lag (turn ++ gone) history [] history self.new.log (inner_of self.new.out)) }
         ensures lag { self.new.server.lag ≡ self.old.server.lag }
     {
         match self.server.end_turn(alloc, &mut self.log, &mut self.out) {

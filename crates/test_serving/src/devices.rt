@@ -2,7 +2,8 @@
 use pc_part::Part;
 use pc_server::PointFiles;
 use pc_turn::LogDevice;
-use pc_types::Refusal;
+use pc_types::{Refusal, Tally};
+use std::alloc::Global;
 use std::io;
 use std::io::{Error, ErrorKind, Read, Write};
 
@@ -104,22 +105,32 @@ impl<'a> Read for Pieces<'a> {
     }
 }
 
-/// Counts the files of points, and refuses the one behind `room` of them.
+/// Keeps the texts of the files of points, and refuses the one behind `room` of them.
 #[derive(Drop)]
 pub struct Files {
-    /// How many files were kept.
-    pub count: usize,
+    /// Whose memory the texts take.
+    pub alloc: Global,
+    /// The texts that were kept.
+    pub texts: Vec<Vec<u8>>,
     /// How many more are kept.
     pub room: usize,
 }
 
 impl PointFiles for Files {
-    fn keep(&mut self, _file: &Part) -> Result<(), Refusal> {
+    ghost use Rattle.std.specs.Prelude.{⊤};
+
+    ghost holds = { λ files point text. ⊤ };
+
+    fn keep(&mut self, file: &Part) -> Result<(), Refusal> {
         if self.room == 0 {
             return Err(Refusal::Device);
         }
         self.room -= 1;
-        self.count = self.count.saturating_add(1);
-        Ok(())
+        let mut text = Tally::new(Vec::new(self.alloc));
+        file.encode(&mut text)?;
+        match self.texts.push(text.into_inner()) {
+            Ok(()) => Ok(()),
+            Err(_) => Err(Refusal::OutOfMemory),
+        }
     }
 }

@@ -1,7 +1,8 @@
 //! What a served store answers, and what it leaves wherever a device fails.
 use crate::devices::{Files, MemoryLog, Output, Pieces};
 use pc_engine::World;
-use pc_part::Base;
+use pc_part::{Base, Part};
+use pc_recover::recover;
 use pc_server::{CutOff, ServeFault, Service, serve_input};
 use pc_types::{Refusal, Tally};
 use std::alloc::Global;
@@ -16,13 +17,16 @@ const LINES: &[u8] =
 const ANSWERS: &[u8] =
     b"run 9\nbegun 1\nok\nbegun 2\nsum 5\ncommitted 1\n= 7\nbegun 3\nabsent\nwait\ncommitted 2\ngranted 2\ncommitted 3\nrefused WrongPhase\nentries=3\nbad line\nrefused NoSession\n";
 
+// What stands first in the log of run 9.
+const HEADER: &[u8] = b"PCALCL02\0\0\0\0\0\0\0\x09\0\0\0\0";
+
 // What a store that was served leaves.
 #[derive(Drop)]
 struct Left {
     ended: Result<(), ServeFault>,
     log: MemoryLog,
     sent: Vec<u8>,
-    files: usize,
+    files: Vec<Vec<u8>>,
 }
 
 fn device(alloc: Global, calls: usize) -> MemoryLog {
@@ -70,7 +74,8 @@ fn served(rt: &HostRuntime, case: Case) -> Result<Left, Fail> {
     };
     let mut input = BufReader::new(alloc, input)?;
     let mut files = Files {
-        count: 0,
+        alloc,
+        texts: Vec::new(alloc),
         room: case.files,
     };
     let ended = serve_input(alloc, &mut service, &mut input, &mut files);
@@ -79,7 +84,7 @@ fn served(rt: &HostRuntime, case: Case) -> Result<Left, Fail> {
         ended,
         log,
         sent: out.into_inner().bytes,
-        files: files.count,
+        files: files.texts,
     })
 }
 
@@ -178,12 +183,65 @@ fn as_many_entries_as_the_lag_are_not_kept(rt: HostRuntime) -> Result<(), Fail> 
     Ok(())
 }
 
+// The pairs that the first commits of `LINES` leave, by how many they are: none, `fig`, the same, and `fig`, `n` and `pear`.
+const PAIRS: [usize; 4] = [0, 1, 1, 3];
+
+// How many pairs are recovered of the base, the files of points, and of the log what was kept.
+fn recovered(rt: &HostRuntime, left: &Left) -> Result<usize, Fail> {
+    let alloc = rt.alloc();
+    let mut base = Tally::new(Vec::new(alloc));
+    Base::start(9, Vec::new(alloc)).encode(&mut base)?;
+    let mut parts: Vec<&[u8]> = Vec::new(alloc);
+    for text in &left.files {
+        parts.push(text)?;
+    }
+    let mut log = Vec::new(alloc);
+    log.extend_from_slice(HEADER)?;
+    let kept = left.log.kept.last().copied().unwrap_or(0);
+    log.extend_from_slice(left.log.bytes.get(..kept).unwrap_or(&[]))?;
+    let found = recover(alloc, &base.into_inner(), &parts, &log)?;
+    Ok(found.pairs.len())
+}
+
+// The log's device fails at each of its calls in turn, with points between the lines: of what was kept each commit that was answered is
+// recovered, and nothing that wasn't asked.
+#[test]
+fn what_was_answered_is_recovered(rt: HostRuntime) -> Result<(), Fail> {
+    for calls in 0..40 {
+        let (step, every) = (1, 1);
+        let left = served(
+            &rt,
+            Case {
+                step,
+                calls,
+                every,
+                ..SOUND
+            },
+        )?;
+        let answered = commits_in(&left.sent);
+        let least = PAIRS.get(answered).copied().unwrap_or(3);
+        let pairs = recovered(&rt, &left)?;
+        assert!(rt; least <= pairs);
+        assert!(rt; pairs <= 3);
+    }
+    Ok(())
+}
+
 // Points are taken between the lines, and each file is kept, or the refusal is told.
 #[test]
 fn files_of_points_are_kept(rt: HostRuntime) -> Result<(), Fail> {
     let left = served(&rt, Case { every: 1, ..SOUND })?;
     assert_eq!(rt; left.ended, Ok(()));
-    assert_eq!(rt; left.files, 2);
+    assert_eq!(rt; left.files.len(), 2);
+    for (place, text) in left.files.iter().enumerate() {
+        let part = Part::decode(rt.alloc(), text)?;
+        assert_eq!(rt; part.run(), 9);
+        assert_eq!(rt; part.ranges().len(), 1);
+        assert_eq!(rt;
+            part.ranges().first().map(|range| usize::from(range.low.0)),
+            Some(place + 1)
+        );
+    }
     assert_eq!(rt; commits_in(&left.sent), 3);
     let lost = served(
         &rt,
