@@ -183,8 +183,8 @@ fn as_many_entries_as_the_lag_are_not_kept(rt: HostRuntime) -> Result<(), Fail> 
     Ok(())
 }
 
-// The pairs that the first commits of `LINES` leave, by how many they are: none, `fig`, the same, and `fig`, `n` and `pear`.
-const PAIRS: [usize; 4] = [0, 1, 1, 3];
+// How many pairs the first commits of `LINES` leave, by how many they are: `fig` and `n` are written by the first one, and nothing else.
+const PAIRS: [usize; 4] = [0, 2, 2, 2];
 
 // How many pairs are recovered of the base, the files of points, and of the log what was kept.
 fn recovered(rt: &HostRuntime, left: &Left) -> Result<usize, Fail> {
@@ -219,10 +219,10 @@ fn what_was_answered_is_recovered(rt: HostRuntime) -> Result<(), Fail> {
             },
         )?;
         let answered = commits_in(&left.sent);
-        let least = PAIRS.get(answered).copied().unwrap_or(3);
+        let least = PAIRS.get(answered).copied().unwrap_or(2);
         let pairs = recovered(&rt, &left)?;
         assert!(rt; least <= pairs);
-        assert!(rt; pairs <= 3);
+        assert!(rt; pairs <= 2);
     }
     Ok(())
 }
