@@ -37,6 +37,11 @@ fn device(alloc: Global, calls: usize) -> MemoryLog {
     }
 }
 
+fn keeper(alloc: Global, room: usize) -> Files {
+    let texts = Vec::new(alloc);
+    Files { alloc, texts, room }
+}
+
 // How a store is served: by which pieces the input comes, with how many calls of the log, bytes of answers and files of points that
 // succeed, and how many commits between two points.
 #[derive(Clone, Copy)]
@@ -73,11 +78,7 @@ fn served(rt: &HostRuntime, case: Case) -> Result<Left, Fail> {
         step: case.step,
     };
     let mut input = BufReader::new(alloc, input)?;
-    let mut files = Files {
-        alloc,
-        texts: Vec::new(alloc),
-        room: case.files,
-    };
+    let mut files = keeper(alloc, case.files);
     let ended = serve_input(alloc, &mut service, &mut input, &mut files);
     let (log, out) = service.into_devices();
     Ok(Left {
