@@ -45,8 +45,8 @@ pub record CameBackServed (st : Setting) (holds : ℕ → List ℕ → Type 0) (
   pub all_kept : Grows kept (Some log)
   pub as_written : Grows (Some log) written
 
--- One history tells it all. It answers some first lines of the input; of the answers a beginning was sent, and nothing else; and
--- whatever came back, of what is recovered no commit that was answered is lost, but for as many as the lag.
+-- There is a history that answers some first lines of the input; of its answers a beginning was sent, and nothing else; and whatever came
+-- back, recovery gives each commit that was answered, but for the last entries of the log, as many as the lag.
 abbrev pub LosesNoAnswer : (ℕ → List ℕ → Type 0) → Option (List ℕ) → Option (List ℕ) → List ℕ → Option (List ℕ) → Setting → ℕ → Type 0
 LosesNoAnswer holds written kept sent input st lag =
     (gone turn : List Act) × (at history : History) × Lead st [] gone at × Lead st at turn history
