@@ -1,0 +1,61 @@
+-- What stands in the folders of generations, which of these counts, and how the next one begins. `stands n name (Some text)` says that
+-- the folder of generation n has this text under the name, and `stands n name None` that it has nothing there.
+use Rattle.std.specs.Prelude.{◌≢◌, ◌+◌, ◌<◌, ⊤, ℕ, List, Option, Some, None}
+use Rattle.pc_generations.specs.Names.{base_name, log_name}
+
+-- a generation counts where its base stands
+abbrev pub HasBase : (ℕ → List ℕ → Option (List ℕ) → Type 0) → ℕ → Type 0
+HasBase stands number = (text : List ℕ) × stands number base_name (Some text)
+
+-- no generation above this one has a base
+abbrev pub IsGreatest : (ℕ → List ℕ → Option (List ℕ) → Type 0) → ℕ → Type 0
+IsGreatest stands number = (other : ℕ) → number < other → stands other base_name None
+
+-- the generation that counts: the greatest one that has a base; or none has
+abbrev pub IsLatest : (ℕ → List ℕ → Option (List ℕ) → Type 0) → Option ℕ → Type 0
+IsLatest stands (Some number) = HasBase stands number × IsGreatest stands number
+IsLatest stands None = (number : ℕ) → stands number base_name None
+
+-- the number of the generation behind the one that counts
+abbrev pub next_of : Option ℕ → ℕ
+next_of (Some number) = number + 1
+next_of None = 1
+
+-- all that stood in the folder of this generation stands there still
+abbrev pub StaysAt : (ℕ → List ℕ → Option (List ℕ) → Type 0) → (ℕ → List ℕ → Option (List ℕ) → Type 0) → ℕ → Type 0
+StaysAt old new number = (name : List ℕ) (content : Option (List ℕ)) → old number name content → new number name content
+
+-- the same of all generations but this one
+abbrev pub StayBut : (ℕ → List ℕ → Option (List ℕ) → Type 0) → (ℕ → List ℕ → Option (List ℕ) → Type 0) → ℕ → Type 0
+StayBut old new number = (other : ℕ) → other ≢ number → StaysAt old new other
+
+-- nothing has come to the folder of this generation under a name where nothing stood
+abbrev pub NothingComes : (ℕ → List ℕ → Option (List ℕ) → Type 0) → (ℕ → List ℕ → Option (List ℕ) → Type 0) → ℕ → Type 0
+NothingComes old new number = (name : List ℕ) → old number name None → new number name None
+
+-- but for this name in the folder of this generation all is as it was
+abbrev pub StaysBeside : (ℕ → List ℕ → Option (List ℕ) → Type 0) → (ℕ → List ℕ → Option (List ℕ) → Type 0) → ℕ → List ℕ → Type 0
+StaysBeside old new number name = StayBut old new number × ((other : List ℕ) (content : Option (List ℕ)) → other ≢ name → old number other content → new number other content)
+
+-- The folder of this generation has this base and this log, and nothing else.
+pub record IsWhole (stands : ℕ → List ℕ → Option (List ℕ) → Type 0) (number : ℕ) (base log : List ℕ) : Type 0 where
+  pub base_is : stands number base_name (Some base)
+  pub log_is : stands number log_name (Some log)
+  pub alone : (name : List ℕ) → name ≢ base_name → name ≢ log_name → stands number name None
+
+-- it has this log, and nothing else
+abbrev pub IsLogged : (ℕ → List ℕ → Option (List ℕ) → Type 0) → ℕ → List ℕ → Type 0
+IsLogged stands number log = stands number log_name (Some log) × ((name : List ℕ) → name ≢ log_name → stands number name None)
+
+-- it counts, with these files
+abbrev pub Counts : (ℕ → List ℕ → Option (List ℕ) → Type 0) → ℕ → List ℕ → List ℕ → Type 0
+Counts stands number base log = IsWhole stands number base log × IsGreatest stands number
+
+-- the files of the generation that counted before are as they were
+abbrev pub KeepsLatest : (ℕ → List ℕ → Option (List ℕ) → Type 0) → (ℕ → List ℕ → Option (List ℕ) → Type 0) → Option ℕ → Type 0
+KeepsLatest old new (Some number) = StaysAt old new number
+KeepsLatest old new None = ⊤
+
+-- no generation has begun: the one that counted counts, and of it and all before it nothing is gone
+abbrev pub IsUnbegun : (ℕ → List ℕ → Option (List ℕ) → Type 0) → (ℕ → List ℕ → Option (List ℕ) → Type 0) → Option ℕ → Type 0
+IsUnbegun old new latest = IsLatest new latest × ((number : ℕ) → number < next_of latest → StaysAt old new number)

@@ -1,0 +1,4 @@
+pub mod Names
+pub mod Folders
+pub mod Searches
+pub mod Digits

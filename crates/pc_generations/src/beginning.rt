@@ -1,0 +1,140 @@
+//! Which generation counts, and how the next one begins.
+ghost use Rattle.std.specs.Prelude.{◌≡◌, ◌⊎◌, ◌≤◌, ◌<◌, ℕ, None, IfOk, IfSome, OnOk, OnErr};
+ghost use Rattle.pc_types.specs.declared.refusal.Refusal.{Refusal};
+ghost use Rattle.pc_generations.specs.Names.{base_name};
+ghost use Rattle.pc_generations.specs.Folders.{Counts, IsLatest, IsLogged, IsUnbegun, IsWhole, KeepsLatest, StayBut, StaysAt, next_of};
+ghost use Rattle.pc_generations.specs.Searches.{IsFound, IsLaterOf};
+
+use crate::folders::Generations;
+use crate::names::{BASE_NAME, LOG_NAME, MOST_GENERATIONS};
+use pc_types::Refusal;
+use std::alloc::Global;
+
+/// The number of the generation that counts: the greatest one that has a base. None where none has one. Refuses only as the calls
+/// refuse that list the generations and look for their bases.
+pub fn latest_generation<G: Generations>(alloc: Global, folders: &G) -> Result<Option<u32>, Refusal>
+    ensures { IfOk result (IsLatest (G.stands folders.now)) }
+{
+    let numbers = folders.numbers(alloc)?;
+    let mut found = None;
+    for number in &numbers {
+        found = later_of(folders, found, *number)?;
+    }
+    Ok(found)
+}
+
+// Of the generation that was found and one more, the greatest one that has a base.
+fn later_of<G: Generations>(
+    folders: &G,
+    found: Option<u32>,
+    number: u32,
+) -> Result<Option<u32>, Refusal>
+    requires { IsFound (G.stands folders.now) found }
+    ensures { IfOk result (IsLaterOf (G.stands folders.now) found number) }
+{
+    if let Some(latest) = found {
+        if number <= latest {
+            return Ok(found);
+        }
+    }
+    match folders.has_base(number) {
+        Ok(true) => Ok(Some(number)),
+        Ok(false) => Ok(found),
+        Err(why) => Err(why),
+    }
+}
+
+/// The generation behind the one that counts, if one does, begins with this base and this log, which are the texts of whole files; its
+/// number. From then on it counts, the one that counted before is as it was, and older ones are removed, as far as that succeeds.
+///
+/// Where it refuses, and so wherever a process is killed in it, either the new generation counts, and has both texts whole; or the one
+/// that counted still does, and of it and of all before it nothing is gone. Refuses with `Full` behind generation 9,999,999, where
+/// nothing has changed, and else as the calls refuse that make the new one.
+pub fn begin_generation<G: Generations>(
+    alloc: Global,
+    folders: &mut G,
+    latest: Option<u32>,
+    base: &[u8],
+    log: &[u8],
+) -> Result<u32, Refusal>
+    ensures begun { IsLatest (G.stands folders.old) latest → OnOk result (Counts (G.stands folders.new) (next_of latest) base.now log.now) }
+    ensures number { IfOk result (λ number. number ≡ next_of latest) }
+    ensures cut_off { IsLatest (G.stands folders.old) latest → OnErr result (Counts (G.stands folders.new) (next_of latest) base.now log.now ⊎ IsUnbegun (G.stands folders.old) (G.stands folders.new) latest) }
+    ensures kept { KeepsLatest (G.stands folders.old) (G.stands folders.new) latest }
+    ensures full { MOST_GENERATIONS < next_of latest → (result ≡ Err Refusal.Full) × (folders.new ≡ folders.old) }
+{
+    let number = match next_number(latest) {
+        Some(number) => number,
+        None => return Err(Refusal::Full),
+    };
+    match fill(folders, number, base, log) {
+        Ok(()) => {}
+        Err(why) => return Err(why),
+    }
+    if let Some(kept) = latest {
+        remove_before(alloc, folders, kept);
+    }
+    Ok(number)
+}
+
+// The number behind the one that counts, where there is one.
+fn next_number(latest: Option<u32>) -> Option<u32>
+    ensures next { IfSome result (λ number. (number ≡ next_of latest) × (number ≤ MOST_GENERATIONS)) }
+    ensures none { result ≡ None → MOST_GENERATIONS < next_of latest }
+{
+    match latest {
+        None => Some(1),
+        Some(number) if number < MOST_GENERATIONS => Some(number + 1),
+        Some(_) => None,
+    }
+}
+
+// The generation is made anew, its log is written, and then its base.
+fn fill<G: Generations>(
+    folders: &mut G,
+    number: u32,
+    base: &[u8],
+    log: &[u8],
+) -> Result<(), Refusal>
+    ensures others { StayBut (G.stands folders.old) (G.stands folders.new) number }
+    ensures whole { OnOk result (IsWhole (G.stands folders.new) number base.now log.now) }
+    ensures cut_off { G.stands folders.old number base_name None → OnErr result (IsWhole (G.stands folders.new) number base.now log.now ⊎ G.stands folders.new number base_name None) }
+{
+    match begin_log(folders, number, log) {
+        Ok(()) => folders.write(number, BASE_NAME, base),
+        Err(why) => Err(why),
+    }
+}
+
+// The generation is made anew, and its log is written.
+fn begin_log<G: Generations>(folders: &mut G, number: u32, log: &[u8]) -> Result<(), Refusal>
+    ensures others { StayBut (G.stands folders.old) (G.stands folders.new) number }
+    ensures logged { OnOk result (IsLogged (G.stands folders.new) number log.now) }
+    ensures unbased { G.stands folders.old number base_name None → G.stands folders.new number base_name None }
+{
+    match folders.make(number) {
+        Ok(()) => folders.write(number, LOG_NAME, log),
+        Err(why) => Err(why),
+    }
+}
+
+// All generations before this one are removed, as far as that succeeds.
+fn remove_before<G: Generations>(alloc: Global, folders: &mut G, kept: u32)
+    ensures { (number : ℕ) → kept ≤ number → StaysAt (G.stands folders.old) (G.stands folders.new) number }
+{
+    let Ok(numbers) = folders.numbers(alloc) else {
+        return;
+    };
+    for number in &numbers {
+        remove_if_before(folders, *number, kept);
+    }
+}
+
+// The generation is removed, as far as that succeeds, where it stands before this one.
+fn remove_if_before<G: Generations>(folders: &mut G, number: u32, kept: u32)
+    ensures { (other : ℕ) → kept ≤ other → StaysAt (G.stands folders.old) (G.stands folders.new) other }
+{
+    if number < kept {
+        let _ = folders.remove(number);
+    }
+}
