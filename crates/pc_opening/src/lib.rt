@@ -1,0 +1,7 @@
+//! The store of a folder of generations, as it is opened: it starts from what the generation that counts is worth, and the next one begins
+//! with that.
+#![tactic(auto)]
+
+mod opening;
+
+pub use opening::{OpenedStore, StoreSize, open_store};

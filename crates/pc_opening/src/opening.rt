@@ -1,0 +1,130 @@
+//! A store is opened over the base that it starts from, and the generation begins in which its log will stand.
+ghost use Rattle.std.specs.Prelude.{◌≡◌, ◌≤◌, ◌<◌, [], Err, IfOk, IfErr, IfSome, OnOk, OnErr};
+ghost use Rattle.pc_types.specs.declared.limits.TheConstants.{MOST_KEYS, MOST_SESSIONS};
+ghost use Rattle.pc_types.specs.declared.refusal.Refusal.{Refusal};
+ghost use Rattle.pc_model.specs.Maps.{len};
+ghost use Rattle.pc_log.specs.Texts.{header_text};
+ghost use Rattle.pc_part.specs.Texts.{base_text};
+ghost use Rattle.pc_engine.specs.Stands.{Stands};
+ghost use Rattle.pc_engine.specs.Runs.{starting};
+ghost use Rattle.pc_engine.specs.Store.{setting_of};
+ghost use Rattle.pc_generations.specs.Folders.{IsLatest, KeepsLatest, next_of};
+ghost use Rattle.pc_opening.specs.Openings.{CountsWith, IsCutOff};
+
+use pc_engine::World;
+use pc_generations::{Generations, begin_generation};
+use pc_log::encode_header;
+use pc_part::Base;
+use pc_types::{Refusal, Tally};
+use std::alloc::Global;
+use std::hash::RandomState;
+
+/// For how much a store has room: its sessions, 1 to 64, and its keys, 1 to 1,048,576.
+#[derive(Clone, Copy, Debug)]
+pub struct StoreSize {
+    pub sessions: u8,
+    pub capacity: u32,
+    ghost some_sessions: { (1 ≤ sessions) × (sessions ≤ MOST_SESSIONS) },
+    ghost in_range: { (1 ≤ capacity) × (capacity ≤ MOST_KEYS) },
+}
+
+/// A store that was opened, and the number of the generation that has begun with it.
+#[derive(Drop)]
+pub struct OpenedStore {
+    pub world: World,
+    pub generation: u32,
+}
+
+/// Opens a store that starts from this base, and begins the generation behind the one that counts, if one does, as
+/// `begin_generation` does, with the text of the base and a log of its run without entries. Nothing was asked of the store.
+///
+/// Where it refuses, and so wherever a process is killed in it, either the new generation counts, with both texts, or the one that
+/// counted still does, and of it and of all before it nothing is gone. Refuses with `Full` where the base has more pairs than there is
+/// room for, and then changes nothing; with `OutOfMemory`; and as `begin_generation` refuses.
+pub fn open_store<G: Generations>(
+    alloc: Global,
+    folders: &mut G,
+    latest: Option<u32>,
+    base: Base,
+    size: StoreSize,
+    seed: RandomState,
+) -> Result<OpenedStore, Refusal>
+    requires { base.point ≡ 0 }
+    ensures store { IfOk result (λ opened. Stands opened.world [] × (setting_of opened.world ≡ starting base size.sessions size.capacity)) }
+    ensures number { IfOk result (λ opened. opened.generation ≡ next_of latest) }
+    ensures begun { IsLatest (G.stands folders.old) latest → OnOk result (CountsWith (G.stands folders.new) latest base) }
+    ensures cut_off { IsLatest (G.stands folders.old) latest → OnErr result (IsCutOff (G.stands folders.old) (G.stands folders.new) latest base) }
+    ensures kept { KeepsLatest (G.stands folders.old) (G.stands folders.new) latest }
+    ensures full { size.capacity < len base.pairs → (result ≡ Err Refusal.Full) × (folders.new ≡ folders.old) }
+{
+    if base.pairs().len() > size.capacity as usize {
+        return Err(Refusal::Full);
+    }
+    let generation = match begin_with(alloc, folders, latest, &base) {
+        Ok(generation) => generation,
+        Err(why) => return Err(why),
+    };
+    match World::new(alloc, base, size.sessions, size.capacity, seed) {
+        Ok(world) => Ok(OpenedStore { world, generation }),
+        Err(why) => Err(why),
+    }
+}
+
+// Begins the generation behind the one that counts with the text of the base and a log of its run without entries.
+fn begin_with<G: Generations>(
+    alloc: Global,
+    folders: &mut G,
+    latest: Option<u32>,
+    base: &Base,
+) -> Result<u32, Refusal>
+    ensures number { IfOk result (λ number. number ≡ next_of latest) }
+    ensures begun { IsLatest (G.stands folders.old) latest → OnOk result (CountsWith (G.stands folders.new) latest base.now) }
+    ensures cut_off { IsLatest (G.stands folders.old) latest → OnErr result (IsCutOff (G.stands folders.old) (G.stands folders.new) latest base.now) }
+    ensures kept { KeepsLatest (G.stands folders.old) (G.stands folders.new) latest }
+{
+    let texts = match texts_of(alloc, base) {
+        Ok(texts) => texts,
+        Err(why) => return Err(why),
+    };
+    begin_generation(alloc, folders, latest, &texts.base, &texts.log)
+}
+
+// The texts of the files with which a generation begins.
+#[derive(Drop)]
+struct BeginningTexts {
+    base: Vec<u8>,
+    log: Vec<u8>,
+}
+
+// The texts of this base, and of a log of its run without entries.
+fn texts_of(alloc: Global, base: &Base) -> Result<BeginningTexts, Refusal>
+    ensures texts { IfOk result (λ texts. (texts.base.items ≡ base_text base.now) × (texts.log.items ≡ header_text base.now.run)) }
+    ensures refusals { IfErr result (λ e. e ≡ Refusal.OutOfMemory) }
+{
+    match (base_bytes(alloc, base), header_bytes(alloc, base.run())) {
+        (Some(base), Some(log)) => Ok(BeginningTexts { base, log }),
+        _ => Err(Refusal::OutOfMemory),
+    }
+}
+
+// The text of the base; none where memory ran out.
+fn base_bytes(alloc: Global, base: &Base) -> Option<Vec<u8>>
+    ensures { IfSome result (λ bytes. bytes.items ≡ base_text base.now) }
+{
+    let mut out = Tally::new(Vec::new(alloc));
+    match base.encode(&mut out) {
+        Ok(()) => Some(out.into_inner()),
+        Err(_) => None,
+    }
+}
+
+// What stands before the entries in a log of the run; none where memory ran out.
+fn header_bytes(alloc: Global, run: u64) -> Option<Vec<u8>>
+    ensures { IfSome result (λ bytes. bytes.items ≡ header_text run) }
+{
+    let mut out = Tally::new(Vec::new(alloc));
+    match encode_header(&mut out, run) {
+        Ok(()) => Some(out.into_inner()),
+        Err(_) => None,
+    }
+}
