@@ -1,0 +1,125 @@
+//! What is left of a beginning that is cut off at each of its calls.
+use crate::folders::{Failure, MemoryFolders, StoredFile};
+use pc_generations::{
+    BASE_NAME, LOG_NAME, MOST_GENERATIONS, begin_generation, generation_name, latest_generation,
+    number_in,
+};
+use pc_types::Refusal;
+use std::alloc::Global;
+use std::test::Fail;
+
+// How many calls a beginning makes over what is given: the new generation is made, its two files are written, and an older one goes.
+const CALLS: usize = 4;
+
+fn add(files: &mut Vec<StoredFile>, alloc: Global, number: u32, name: &[u8]) -> Result<(), Fail> {
+    files.push(StoredFile {
+        number,
+        name: Vec::from_slice(alloc, name)?,
+        text: Vec::from_slice(alloc, name)?,
+    })?;
+    Ok(())
+}
+
+// Generations 3 and 4, and what a beginning of 5 has left that was cut off.
+fn given(rt: &HostRuntime, calls: usize, failure: Failure) -> Result<MemoryFolders, Fail> {
+    let alloc = rt.alloc();
+    let mut files = Vec::new(alloc);
+    for number in [3, 4] {
+        add(&mut files, alloc, number, BASE_NAME)?;
+        add(&mut files, alloc, number, LOG_NAME)?;
+        add(&mut files, alloc, number, b"part-00001.pcp")?;
+    }
+    add(&mut files, alloc, 5, LOG_NAME)?;
+    add(&mut files, alloc, 5, b"part-00001.pcp")?;
+    Ok(MemoryFolders {
+        alloc,
+        files,
+        calls,
+        failure,
+    })
+}
+
+// The generation has the three files that it was given.
+fn is_as_given(folders: &MemoryFolders, number: u32) -> bool {
+    let (base, log) = (
+        folders.text(number, BASE_NAME),
+        folders.text(number, LOG_NAME),
+    );
+    folders.count(number) == 3 && base == Some(BASE_NAME) && log == Some(LOG_NAME)
+}
+
+// The generation has this text under the name.
+fn has_text(folders: &MemoryFolders, number: u32, name: &[u8], text: &[u8]) -> bool {
+    match folders.text(number, name) {
+        Some(found) => found == text,
+        None => false,
+    }
+}
+
+#[test]
+fn each_cut_leaves_one_generation_whole(rt: HostRuntime) -> Result<(), Fail> {
+    for failure in [Failure::Undone, Failure::Done] {
+        for calls in 0..CALLS + 1 {
+            let mut folders = given(&rt, calls, failure)?;
+            let latest = latest_generation(rt.alloc(), &folders)?;
+            assert_eq!(rt; latest, Some(4));
+            let begun = begin_generation(rt.alloc(), &mut folders, latest, b"pairs", b"header");
+            assert_eq!(rt; begun.is_ok(), calls >= 3);
+            assert!(rt; is_as_given(&folders, 4));
+            let counts = latest_generation(rt.alloc(), &folders)?;
+            if counts == Some(5) {
+                assert!(rt; has_text(&folders, 5, BASE_NAME, b"pairs"));
+                assert!(rt; has_text(&folders, 5, LOG_NAME, b"header"));
+                assert_eq!(rt; folders.count(5), 2);
+            } else {
+                assert_eq!(rt; counts, Some(4));
+                assert!(rt; is_as_given(&folders, 3));
+            }
+            assert_eq!(rt; folders.count(3) == 0, calls == CALLS);
+        }
+    }
+    Ok(())
+}
+
+#[test]
+fn first_generation_begins(rt: HostRuntime) -> Result<(), Fail> {
+    let alloc = rt.alloc();
+    let mut folders = MemoryFolders {
+        alloc,
+        files: Vec::new(alloc),
+        calls: 3,
+        failure: Failure::Undone,
+    };
+    assert_eq!(rt; latest_generation(alloc, &folders)?, None);
+    assert_eq!(rt;
+        begin_generation(alloc, &mut folders, None, b"pairs", b"header"),
+        Ok(1)
+    );
+    assert_eq!(rt; latest_generation(alloc, &folders)?, Some(1));
+    let last = Some(MOST_GENERATIONS);
+    let begun = begin_generation(alloc, &mut folders, last, b"pairs", b"header");
+    assert_eq!(rt; begun, Err(Refusal::Full));
+    assert_eq!(rt; latest_generation(alloc, &folders)?, Some(1));
+    Ok(())
+}
+
+#[test]
+fn names_of_generations_are_read_back(rt: HostRuntime) -> Result<(), Fail> {
+    for number in [0, 1, 7, 10, 99, 12_345, 1_234_567, 9_999_999] {
+        assert_eq!(rt; number_in(&generation_name(number)), Some(number));
+    }
+    assert_eq!(rt; generation_name(7).as_slice(), b"gen-0000007".as_slice());
+    let others: [&[u8]; 7] = [
+        b"",
+        b"gen-",
+        b"gen-7",
+        b"gen-00000007",
+        b"gen-000000x",
+        b"Gen-0000007",
+        b"lock",
+    ];
+    for name in others {
+        assert_eq!(rt; number_in(name), None);
+    }
+    Ok(())
+}
