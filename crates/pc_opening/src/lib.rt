@@ -1,4 +1,4 @@
-//! The store of a folder of generations, as it is opened: it starts from what the generation that counts is worth, and the next one begins
+//! The store of a folder of generations, as it is opened: it starts from the pairs of the generation that counts, and the next one begins
 //! with that.
 #![tactic(auto)]
 

@@ -59,7 +59,7 @@ impl MemoryFolders {
         self.files.iter().position(|file| file.number == number)
     }
 
-    // At most so many files of a generation go.
+    // How many files of a generation go, at most.
     fn remove_files(&mut self, number: u32, most: usize) {
         for _ in 0..most {
             let Some(place) = self.place(number) else {
