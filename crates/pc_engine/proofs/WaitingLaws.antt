@@ -1,5 +1,6 @@
--- Whether a request of a session waits, by what the world has and by the history.
+-- Whether a session has a transaction open, and whether a request of it waits, by what the world has and by the history.
 use Rattle.std.proofs.Common.{◌≡◌, ℕ, ◌-◌, ◌≤◌, Bool, true, false, ◌&&◌, length, Some, None, cond, eqb, refl, ap, ◌∙◌, arith}
+use Rattle.std.specs.Prelude.{is_some}
 use Rattle.std.proofs.lemmas.Bool.Decides.{nat_tests}
 use Rattle.std.proofs.lemmas.List.{get_or_past}
 use Rattle.pc_model.specs.History.{History, is_open, number_of, class_of, has_died, writes_of}
@@ -11,7 +12,7 @@ use Rattle.pc_records.proofs.WaitingLaws.{waiting_now}
 use Rattle.pc_engine.specs.Store.{Active, Store, setting_of, active, active_of}
 use Rattle.pc_engine.specs.Sessions.{waits_in}
 use Rattle.pc_engine.specs.Stands.{Stands}
-use Rattle.pc_engine.specs.Waiting.{waits_after}
+use Rattle.pc_engine.specs.Waiting.{opens_after, waits_after}
 
 -- a session's open transaction is the one that its number has
 pub one_there : (w : Store) (s : ℕ) → no_session (setting_of w) s ≡ false → active_of w s ≡ active w s
@@ -39,3 +40,18 @@ waits_told w h s stands = by_session (no_session (setting_of w) s) refl
     by_session : (b : Bool) → no_session (setting_of w) s ≡ b → waits_in w.kept.rows (active_of w s) ≡ cond b false (is_open s h && is_waiting s h)
     by_session true e = ap (waits_in w.kept.rows) (none_there w s e)
     by_session false e = ap (waits_in w.kept.rows) (one_there w s e ∙ stands.parts.sessions s e) ∙ by_open (is_open s h) refl
+
+-- whether the world has an open transaction of the session, the history says too
+pub opens_told : (w : Store) (h : History) (s : ℕ) → Stands w h → is_some (active_of w s) ≡ opens_after (setting_of w) s h
+opens_told w h s stands = by_session (no_session (setting_of w) s) refl
+  where
+    latest : Active
+    latest = record { number = number_of s h; class = class_of s h; has_died = has_died s h; writes = writes_of s h }
+
+    by_open : (b : Bool) → is_some (cond b (Some latest) None) ≡ b
+    by_open true = refl
+    by_open false = refl
+
+    by_session : (b : Bool) → no_session (setting_of w) s ≡ b → is_some (active_of w s) ≡ cond b false (is_open s h)
+    by_session true e = ap is_some (none_there w s e)
+    by_session false e = ap is_some (one_there w s e ∙ stands.parts.sessions s e) ∙ by_open (is_open s h)

@@ -157,6 +157,16 @@ impl Sessions {
         }
     }
 
+    /// Whether the session has an open transaction.
+    pub(crate) fn has_open(&self, session: SessionNo) -> bool
+        ensures { result ≡ is_some (own self.now session) }
+    {
+        match self.active(session) {
+            Some(_) => true,
+            None => false,
+        }
+    }
+
     /// Whether the session's open transaction has written the key; false where it has none open.
     pub(crate) fn has_written(&self, session: SessionNo, key: &Key) -> bool
         ensures { result ≡ is_some (written (writes_in (own self.now session)) key.now) }

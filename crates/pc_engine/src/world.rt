@@ -16,7 +16,7 @@ ghost use Rattle.pc_engine.specs.Store.{active_of, setting_of};
 ghost use Rattle.pc_engine.specs.Stands.{Stands, Follows, IfRefused};
 ghost use Rattle.pc_engine.specs.Checks.{IsStoreSound};
 ghost use Rattle.pc_engine.specs.Runs.{starting, IsRun};
-ghost use Rattle.pc_engine.specs.Waiting.{waits_after};
+ghost use Rattle.pc_engine.specs.Waiting.{opens_after, waits_after};
 
 use crate::sessions::Sessions;
 use crate::shelving::{file_at, shared_at};
@@ -176,6 +176,15 @@ impl World {
         ensures told { (history : History) → Stands self.now history → result ≡ waits_after (setting_of self.now) session history }
     {
         session.0 != 0 && self.sessions.has_waiting(session)
+    }
+
+    /// Whether the session has a transaction open; false where no session has this number, as 0. After every history it is what
+    /// that says.
+    pub fn has_open(&self, session: SessionNo) -> bool
+        ensures row { result ≡ is_some (active_of self.now session) }
+        ensures told { (history : History) → Stands self.now history → result ≡ opens_after (setting_of self.now) session history }
+    {
+        session.0 != 0 && self.sessions.has_open(session)
     }
 
     /// The phase of the checkpoint's cycle.
