@@ -1,0 +1,634 @@
+#!/usr/bin/env python3
+"""A store behind a socket: many clients of one `pcalc serve`, over its own lines or over a part of Redis' protocol.
+
+    relay.py PATH DIR [--program PCALC] [OPTION..]       listens on the Unix socket PATH
+    relay.py :PORT DIR [--program PCALC] [OPTION..]      listens on 127.0.0.1; with port 0 on one that is free
+
+The options are those of `pcalc serve`. `listening on ADDRESS` is printed once clients may come. SIGTERM and SIGINT end the relay, and the
+store's process with it. Each connection has one of the store's sessions; one more connection than there are sessions is told so, and closed.
+
+A connection is of Redis' protocol where its first byte is `*`, or the first word of its first line is one of the commands below in capital
+or in small letters and no word of the store's own lines; so `GET` is Redis', and `get` the store's.
+
+The store's own lines: the connection's session is session 1 of them, whichever the store has given it, and there is no other one. Each line is
+answered by one line, in order; a line goes to the store once the one before it is answered. A connection sees neither `wait` nor
+`granted`: the relay asks again what was granted, so that an answer may take as long as another client's transaction. `quit` ends the
+connection, not the store. A transaction that is open when its connection closes is aborted.
+
+Redis' protocol (RESP2, arrays and inline words without quotes): GET SET DEL INCR DECR INCRBY DECRBY MULTI EXEC DISCARD PING COMMAND QUIT. A command
+alone is a transaction of its own, and what stands between MULTI and EXEC is one; it is begun again where it dies. There is no WATCH, and SET takes
+a key and a value alone. Keys are those of space 0, of 1 to 255 bytes. Where the store refuses an operation of a transaction, that one is
+answered `-ERR NAME`, and the others are committed, as it is with Redis. INCR and its like add to the store's own numbers, of eight bytes: GET
+gives the bytes as they are, a number's eight among them, since a text of eight bytes can't be told from a number. `INCRBY key 0` tells a
+number in digits, and what SET has set to digits is none.
+
+Nothing of this is proved.
+"""
+
+import argparse
+import collections
+import os
+import re
+import selectors
+import signal
+import socket
+import subprocess
+import sys
+
+import pcalc
+
+READ_BYTES = 65_536
+# what a connection may send of one line or command, and what may wait for it to be read
+MOST_BYTES = 4_194_304
+MOST_WORDS = 65_536
+OWN_WORDS = {b"base", b"begin", b"get", b"put", b"del", b"add", b"abort", b"commit", b"point", b"seal", b"capture", b"take", b"done", b"rest", b"join", b"state",
+             b"text", b"check", b"run", b"stats", b"quit"}
+OF_SESSIONS = {b"begin", b"get", b"put", b"del", b"add", b"abort", b"commit"}
+# a number follows, for which 0 stands where it isn't the connection's own session: no session and no file has it
+NUMBERED = OF_SESSIONS | {b"state", b"text"}
+# how many words each command of Redis' has behind its own, at least and at most
+COMMANDS = {b"GET": (1, 1), b"SET": (2, 2), b"DEL": (1, MOST_WORDS), b"INCR": (1, 1), b"DECR": (1, 1), b"INCRBY": (2, 2), b"DECRBY": (2, 2), b"MULTI": (0, 0),
+            b"EXEC": (0, 0), b"DISCARD": (0, 0), b"PING": (0, 1), b"COMMAND": (0, MOST_WORDS), b"QUIT": (0, 0)}
+NO_SESSION = b"refused NoSession\n"
+NUMBER = re.compile(rb"[0-9]{1,9}")
+DELTA = re.compile(rb"[+-]?[0-9]{1,19}")
+
+
+class Malformed(Exception):
+    """What a client of Redis' protocol has sent has no known form."""
+
+
+# Redis' protocol.
+
+def until_end(text, start):
+    """The line from there on without its end, and where the next one begins; None where its end isn't there."""
+    end = text.find(b"\n", start)
+    if end < 0:
+        return None
+    return bytes(text[start:end]).rstrip(b"\r"), end + 1
+
+
+def length_in(line, mark, most):
+    if not line.startswith(mark) or not NUMBER.fullmatch(line[1:]) or int(line[1:]) > most:
+        raise Malformed("Protocol error")
+    return int(line[1:])
+
+
+def command_in(text):
+    """The words of the first command, and how many bytes it takes; None where it isn't whole."""
+    found = until_end(text, 0)
+    if found is None:
+        return None
+    line, place = found
+    if not line.startswith(b"*"):
+        return line.split(), place
+    words = []
+    for _ in range(length_in(line, b"*", MOST_WORDS)):
+        found = until_end(text, place)
+        if found is None:
+            return None
+        length = length_in(found[0], b"$", MOST_BYTES)
+        place = found[1] + length + 2
+        if len(text) < place:
+            return None
+        words.append(bytes(text[found[1]:found[1] + length]))
+    return words, place
+
+
+def bulk(value):
+    return b"$-1\r\n" if value is None else b"$%d\r\n%s\r\n" % (len(value), value)
+
+
+def failure(told):
+    return b"-ERR %s\r\n" % told.encode()
+
+
+class Operation:
+    """A command of Redis' that is part of a transaction: the store's lines for it, without a session, and how their answers are told."""
+
+    def __init__(self, words):
+        name, self.tell = words[0].upper(), None
+        if name == b"PING":
+            self.lines, self.tell = [], lambda answers: bulk(words[1]) if len(words) > 1 else b"+PONG\r\n"
+        elif name == b"COMMAND":
+            self.lines, self.tell = [], lambda answers: b"*0\r\n"
+        elif name == b"GET":
+            self.lines, self.tell = [(b"get", pcalc.word(words[1]))], lambda answers: bulk(answers[0])
+        elif name == b"SET":
+            self.lines, self.tell = [(b"put", pcalc.word(words[1]) + b" " + pcalc.word(words[2]))], lambda answers: b"+OK\r\n"
+        elif name == b"DEL":
+            keys = [pcalc.word(it) for it in words[1:]]
+            self.lines = [line for key in keys for line in ((b"get", key), (b"del", key))]
+            self.tell = lambda answers: b":%d\r\n" % sum(it is not None for it in answers[::2])
+        else:
+            self.lines = [(b"add", pcalc.word(words[1]) + b" %d" % self.delta_of(name, words))]
+            self.tell = lambda answers: b":%d\r\n" % answers[0]
+
+    @staticmethod
+    def delta_of(name, words):
+        if len(words) > 2 and not DELTA.fullmatch(words[2]):
+            raise Malformed("value is not an integer or out of range")
+        delta = int(words[2]) if len(words) > 2 else 1
+        delta = -delta if name.startswith(b"DECR") else delta
+        if not -(2**63) <= delta < 2**63:
+            raise Malformed("value is not an integer or out of range")
+        return delta
+
+    def told(self, answers):
+        """What the client is told; the first refusal where there is one."""
+        try:
+            return self.tell([pcalc.meaning_of(it) for it in answers])
+        except pcalc.Error as fault:
+            return failure(str(fault))
+
+
+class Job:
+    """A transaction of a client of Redis' protocol: the lines of its operations between a begin and a commit, and the answers so far."""
+
+    def __init__(self, operations, is_alone):
+        self.operations, self.is_alone, self.answers = operations, is_alone, []
+
+    def lines(self, session):
+        """Its lines that aren't answered yet."""
+        inner = [b"%s %d %s" % (verb, session, rest) for it in self.operations for verb, rest in it.lines]
+        return [b"begin %d" % session, *inner, b"commit %d" % session][len(self.answers):]
+
+    def told(self):
+        """What the client is told of it once it is committed."""
+        answers, parts = iter(self.answers[1:-1]), []
+        for it in self.operations:
+            parts.append(it.told([next(answers) for _ in it.lines]))
+        return parts[0] if self.is_alone else b"*%d\r\n" % len(parts) + b"".join(parts)
+
+
+# The relay.
+
+class Relay:
+    """The store's process and its connections. What is asked of the process is answered in order: `asked` has who is to be told."""
+
+    def __init__(self, words, listener, sessions):
+        self.selector, self.listener = selectors.DefaultSelector(), listener
+        self.process = subprocess.Popen(words, stdin=subprocess.PIPE, stdout=subprocess.PIPE, bufsize=0)
+        ready = b""
+        while not ready.endswith(b"\n"):
+            byte = self.process.stdout.read(1)
+            if not byte:
+                sys.exit(self.process.wait())
+            ready += byte
+        print(ready.decode().rstrip(), flush=True)
+        self.source, self.target = self.process.stdout.fileno(), self.process.stdin.fileno()
+        os.set_blocking(self.source, False), os.set_blocking(self.target, False)
+        self.asked, self.out, self.rest = collections.deque(), bytearray(), b""
+        self.free, self.owners = list(range(sessions, 0, -1)), {}
+        # how many transactions have ended, but by their death, and who begins again behind the next such end: what they died of was older, and is
+        # open, or has ended so, or has died of one that is older still
+        self.ends, self.dead = 0, []
+        self.is_ending = False
+        listener.setblocking(False)
+        self.selector.register(listener, selectors.EVENT_READ, self.accept)
+        self.selector.register(self.source, selectors.EVENT_READ, self.read)
+
+    def run(self):
+        while not self.is_ending:
+            for key, events in self.selector.select():
+                key.data(events)
+            self.send()
+
+    def accept(self, _):
+        try:
+            sock, _ = self.listener.accept()
+        except OSError:
+            return
+        Connection(self, sock)
+
+    def ask(self, owner, lines):
+        """Asks lines that stand together; `owner.answered` is told each answer. They go out behind what is at hand now."""
+        self.asked.extend([owner] * len(lines))
+        self.out += b"\n".join(lines) + b"\n"
+
+    def send(self, _=None):
+        """Writes what is to go out, as far as the process takes it."""
+        try:
+            while self.out:
+                del self.out[:os.write(self.target, self.out[:READ_BYTES])]
+        except BlockingIOError:
+            pass
+        except OSError:
+            self.out.clear()  # the process has ended: so do its answers
+        is_known = self.target in self.selector.get_map()
+        if self.out and not is_known:
+            self.selector.register(self.target, selectors.EVENT_WRITE, self.send)
+        elif is_known and not self.out:
+            self.selector.unregister(self.target)
+
+    def read(self, _):
+        try:
+            chunk = os.read(self.source, READ_BYTES)
+        except BlockingIOError:
+            return
+        if not chunk:
+            self.is_ending = True
+            return
+        lines = (self.rest + chunk).split(b"\n")
+        self.rest = lines.pop()
+        for line in lines:
+            if line.startswith(b"granted "):
+                self.owners[int(line[8:])].granted()
+            else:
+                self.tell(self.asked.popleft(), line)
+
+    def tell(self, owner, line):
+        is_end = line.startswith(b"committed ") or line == b"aborted" and not owner.is_dying
+        dead, self.dead = (self.dead, []) if is_end else ([], self.dead)
+        owner.answered(line)
+        self.ends += is_end
+        for it in dead:
+            it.begin_again()
+
+    def close(self):
+        """Ends the process's input, and gives its status."""
+        os.set_blocking(self.target, True)
+        self.process.stdin.close()
+        self.process.stdout.close()
+        return self.process.wait()
+
+
+class Connection:
+    """A client's connection: its session, what it has sent, and what it is asking. It asks one thing at a time."""
+
+    def __init__(self, relay, sock):
+        self.relay, self.sock, self.session = relay, sock, 0
+        self.into, self.out = bytearray(), bytearray()
+        self.speaker, self.has_ended, self.is_gone, self.events = None, False, False, selectors.EVENT_READ
+        sock.setblocking(False)
+        if sock.family != socket.AF_UNIX:
+            sock.setsockopt(socket.IPPROTO_TCP, socket.TCP_NODELAY, 1)
+        relay.selector.register(sock, self.events, self.ready)
+
+    def ready(self, events):
+        if events & selectors.EVENT_READ:
+            self.read()
+        if not self.is_gone:
+            self.go_on()
+
+    def read(self):
+        try:
+            chunk = self.sock.recv(READ_BYTES)
+        except BlockingIOError:
+            return
+        except OSError:
+            chunk = b""
+        self.into += chunk
+        if not chunk:
+            self.close()
+
+    def go_on(self):
+        """Takes what has come as far as it can be taken, and sends what there is to tell."""
+        self.send()
+        if self.speaker is None and not self.is_gone:
+            self.begin()
+        if self.speaker is not None and not self.is_gone:
+            self.speaker.take()
+        self.send()
+
+    def is_taken_further(self):
+        """Whether more of what the client has sent may be looked at: not while it doesn't take what it is told."""
+        return not self.has_ended and len(self.out) <= MOST_BYTES
+
+    def begin(self):
+        """Finds out how the client speaks, and gives it a session."""
+        while self.into[:1] in (b"\n", b"\r"):
+            del self.into[:1]
+        line = b"*" if self.into[:1] == b"*" else self.into.partition(b"\n")[0] if b"\n" in self.into else None
+        if line is None:
+            if len(self.into) > MOST_BYTES:
+                self.has_ended = True
+            return
+        first = bytes((line.split() or [b""])[0])
+        is_redis = first[:1] == b"*" or first.upper() in COMMANDS and first in (first.upper(), first.lower()) and first not in OWN_WORDS
+        if not self.relay.free:
+            self.out += failure("max number of clients reached") if is_redis else NO_SESSION
+            self.has_ended = True
+            return
+        self.session = self.relay.free.pop()
+        self.relay.owners[self.session] = self.speaker = (Commands if is_redis else Lines)(self)
+
+    def send(self):
+        if self.is_gone:
+            return
+        try:
+            while self.out:
+                del self.out[:self.sock.send(self.out)]
+        except BlockingIOError:
+            pass
+        except OSError:
+            self.close()
+        if self.has_ended and not self.out:
+            self.close()
+        if not self.is_gone:
+            self.watch_for_more()
+
+    def watch_for_more(self):
+        is_reading = not self.has_ended and max(len(self.into), len(self.out)) <= MOST_BYTES
+        events = (selectors.EVENT_READ if is_reading else 0) | (selectors.EVENT_WRITE if self.out else 0)
+        self.watch(events)
+
+    def watch(self, events):
+        if events == self.events:
+            return
+        if not self.events:
+            self.relay.selector.register(self.sock, events, self.ready)
+        elif not events:
+            self.relay.selector.unregister(self.sock)
+        else:
+            self.relay.selector.modify(self.sock, events, self.ready)
+        self.events = events
+
+    def close(self):
+        """The connection is over: its session goes back once nothing is open in it."""
+        if self.is_gone:
+            return
+        self.is_gone = True
+        self.watch(0)
+        self.sock.close()
+        if self.speaker is not None:
+            self.speaker.leave()
+
+
+class Speaker:
+    """How a client speaks: takes what it has sent from the connection, one thing after the other, and is told the store's answers."""
+
+    def __init__(self, connection):
+        self.connection, self.relay, self.session = connection, connection.relay, connection.session
+        # lines that are asked and not answered; whether a request waits; whether the connection is over, and its last line asked
+        self.open, self.is_parked, self.is_over, self.is_leaving = 0, False, False, False
+        # what is asked is the abort of a transaction that has died
+        self.is_dying = False
+
+    def ask(self, lines):
+        self.open += len(lines)
+        self.relay.ask(self, lines)
+
+    def answered(self, line):
+        self.open -= 1
+        if self.is_leaving:
+            if self.open == 0:
+                del self.relay.owners[self.session]
+                self.relay.free.append(self.session)
+            return
+        self.note(line)
+        if self.is_over and self.open == 0:
+            self.abort_last()
+
+    def granted(self):
+        if self.is_parked and not self.is_leaving:
+            self.is_parked = False
+            self.ask_again()
+
+    def leave(self):
+        """The connection is over. What is open is aborted, behind what was asked already."""
+        self.is_over = True
+        if self.open == 0:
+            self.abort_last()
+
+    def abort_last(self):
+        if not self.is_leaving:
+            self.is_leaving = True
+            self.relay.dead = [it for it in self.relay.dead if it is not self]
+            self.ask([b"abort %d" % self.session])
+
+    def tell(self, text):
+        """Tells the client, which then may be taken further."""
+        if not self.is_over:
+            self.connection.out += text
+            self.connection.go_on()
+
+
+class Lines(Speaker):
+    """The store's own lines, session 1 of which is the connection's."""
+
+    line = b""
+
+    def take(self):
+        into = self.connection.into
+        while not self.open and not self.is_parked and self.connection.is_taken_further():
+            end = into.find(b"\n")
+            if end < 0:
+                self.connection.has_ended = len(into) > MOST_BYTES
+                return
+            line = bytes(into[:end])
+            del into[:end + 1]
+            self.take_line(line[:-1] if line.endswith(b"\r") else line)
+
+    def take_line(self, line):
+        words = [it for it in line.split(b" ") if it]
+        if line == b"quit":
+            self.connection.has_ended = True
+        elif words and not line.startswith(b"#"):
+            if len(words) > 1 and words[0] in NUMBERED and NUMBER.fullmatch(words[1]):
+                words[1] = b"%d" % (self.session if words[0] in OF_SESSIONS and int(words[1]) == 1 else 0)
+                line = b" ".join(words)
+            self.line = line
+            self.ask([line])
+
+    def note(self, line):
+        if line == b"wait":
+            self.is_parked = True
+        else:
+            self.tell(line + b"\n")
+
+    def ask_again(self):
+        self.ask([self.line])
+
+
+class Commands(Speaker):
+    """A part of Redis' protocol. `queued` has the operations behind a MULTI."""
+
+    job, queued, is_spoiled, died_at = None, None, False, 0
+    # the answer that has stopped the transaction, b"aborting" once its abort is asked; then that answer is the fault
+    stopped = fault = None
+
+    def take(self):
+        connection = self.connection
+        while self.job is None and connection.is_taken_further():
+            try:
+                found = command_in(connection.into)
+                if found is None:
+                    connection.has_ended = len(connection.into) > MOST_BYTES
+                    return
+                del connection.into[:found[1]]
+            except Malformed as fault:
+                connection.out += failure(str(fault))
+                connection.has_ended = True
+                return
+            if found[0]:
+                connection.out += self.take_command(found[0])
+
+    def take_command(self, words):
+        """What is told at once of a command."""
+        name = words[0].upper()
+        try:
+            if name not in COMMANDS:
+                raise Malformed("unknown command '%s'" % words[0][:64].decode(errors="replace").translate({10: " ", 13: " "}))
+            least, most = COMMANDS[name]
+            if not least <= len(words) - 1 <= most:
+                raise Malformed("wrong number of arguments for '%s' command" % name.decode().lower())
+            if name in (b"MULTI", b"EXEC", b"DISCARD", b"QUIT"):
+                return getattr(self, name.decode().lower())()
+            operation = Operation(words)
+        except Malformed as fault:
+            self.is_spoiled = self.queued is not None
+            return failure(str(fault))
+        if self.queued is not None:
+            self.queued.append(operation)
+            return b"+QUEUED\r\n"
+        return self.begin_job(Job([operation], True)) if operation.lines else operation.told([])
+
+    def multi(self):
+        if self.queued is not None:
+            raise Malformed("MULTI calls can not be nested")
+        self.queued = []
+        return b"+OK\r\n"
+
+    def discard(self):
+        if self.queued is None:
+            raise Malformed("DISCARD without MULTI")
+        self.queued, self.is_spoiled = None, False
+        return b"+OK\r\n"
+
+    def exec(self):
+        if self.queued is None:
+            return failure("EXEC without MULTI")
+        queued, is_spoiled, self.queued, self.is_spoiled = self.queued, self.is_spoiled, None, False
+        if is_spoiled:
+            return b"-EXECABORT Transaction discarded because of previous errors.\r\n"
+        return self.begin_job(Job(queued, False))
+
+    def quit(self):
+        self.connection.has_ended = True
+        return b"+OK\r\n"
+
+    def begin_job(self, job):
+        self.job = job
+        self.ask_again()
+        return b""
+
+    def ask_again(self):
+        """Asks what isn't answered yet of the transaction, in one piece: where one of its lines waits, none behind it does anything."""
+        self.stopped = None
+        self.ask(self.job.lines(self.session))
+
+    def begin_again(self):
+        self.job.answers.clear()
+        self.ask_again()
+
+    def note(self, line):
+        if self.stopped is None:
+            self.go_on(line)
+        elif self.stopped == b"aborting":
+            self.end_aborted()
+        elif self.open == 0:
+            self.end_stopped()
+
+    def go_on(self, line):
+        job = self.job
+        place, last = len(job.answers), self.open == 0
+        if line in (b"wait", b"died") or place == 0 and not line.startswith(b"begun ") or last and not line.startswith(b"committed "):
+            self.stopped, self.died_at = line, self.relay.ends
+            if last:
+                self.end_stopped()
+            return
+        job.answers.append(line)
+        if last:
+            self.job = None
+            self.tell(job.told())
+
+    def end_stopped(self):
+        """All lines behind the one that has stopped the transaction are answered, and have done nothing."""
+        if self.stopped == b"wait":
+            self.is_parked = True
+            return
+        self.fault, self.stopped = self.stopped, b"aborting"
+        self.is_dying = self.fault == b"died"
+        self.ask([b"abort %d" % self.session])
+
+    def end_aborted(self):
+        """The transaction that was stopped is aborted: it begins again behind the end of another one, or its client is told why not."""
+        self.is_dying = False
+        if self.fault != b"died":
+            self.job = None
+            self.tell(failure(str(pcalc.fault_of(self.fault))))
+        elif self.is_over:
+            return
+        elif self.relay.ends > self.died_at:
+            self.begin_again()
+        else:
+            self.relay.dead.append(self)
+
+
+# The program.
+
+def listening(address):
+    """A socket that listens, and how it is told."""
+    if not re.fullmatch(r"(127\.0\.0\.1|localhost)?:[0-9]{1,5}", address):
+        listener = socket.socket(socket.AF_UNIX)
+        clear(address)
+        listener.bind(address)
+        told = address
+    else:
+        listener = socket.socket(socket.AF_INET)
+        listener.setsockopt(socket.SOL_SOCKET, socket.SO_REUSEADDR, 1)
+        listener.bind(("127.0.0.1", int(address.rpartition(":")[2])))
+        told = "127.0.0.1:%d" % listener.getsockname()[1]
+    listener.listen(128)
+    return listener, told
+
+
+def clear(path):
+    """Removes a socket that nobody listens on."""
+    if not os.path.exists(path):
+        return
+    with socket.socket(socket.AF_UNIX) as probe:
+        try:
+            probe.connect(path)
+        except ConnectionRefusedError:
+            os.unlink(path)
+
+
+def main():
+    words = argparse.ArgumentParser(description="a store behind a socket", epilog="Further options go to `pcalc serve`.")
+    words.add_argument("address", help="the path of a Unix socket, or :PORT of 127.0.0.1")
+    words.add_argument("folder", help="the store's folder")
+    words.add_argument("--program", default="pcalc", help="the path of pcalc")
+    words.add_argument("--sessions", type=int, default=pcalc.MOST_SESSIONS, help="how many clients there may be, 1 to 64")
+    said, options = words.parse_known_args()
+    try:
+        listener, told = listening(said.address)
+    except OSError as fault:
+        sys.exit("relay: %s: %s" % (said.address, fault.strerror))
+    for number in (signal.SIGTERM, signal.SIGINT):
+        signal.signal(number, lambda *_: sys.exit(0))
+    try:
+        status = served(listener, told, [*pcalc.command(said.folder, said.program, sessions=said.sessions), *options], said.sessions)
+    finally:
+        if listener.family == socket.AF_UNIX:
+            os.unlink(told)
+    sys.exit(status)
+
+
+def served(listener, told, words, sessions):
+    """Serves until the store's process ends, and gives its status."""
+    try:
+        relay = Relay(words, listener, sessions)
+    except OSError as fault:
+        sys.exit("relay: %s: %s" % (words[0], fault.strerror))
+    try:
+        print("listening on %s" % told, flush=True)
+        relay.run()
+    finally:
+        status = relay.close()
+    return status
+
+
+if __name__ == "__main__":
+    main()

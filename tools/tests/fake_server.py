@@ -1,0 +1,59 @@
+"""Serves a plain store over standard input and output as `pcalc serve` does, and keeps nothing: for tests of clients.
+
+    fake_server.py serve DIR [--sessions N] [--fails AFTER] ...      further options are passed over
+
+With DIR `busy` it ends as where another process has the folder. With `--fails` it ends behind so many lines, with words and status 1.
+"""
+
+import sys
+
+import support  # noqa: F401, which puts the tools on the path
+
+from plain_store import Script, lines_of
+
+
+class Server:
+    def __init__(self, sessions):
+        self.script, self.sessions, self.waiting = Script(sessions, 1024, 1), sessions, set()
+        self.script.stored()
+
+    def waits(self, session):
+        return self.script.store.why_not(session) == ("refused", "StillWaiting")
+
+    def answer(self, line):
+        """What the line prints, and behind it the sessions that wait no more."""
+        if line in (b"run", b"stats"):
+            return b"run 1\n" if line == b"run" else b"entries=%d\n" % self.script.store.log
+        told = self.script.answer(line)
+        own = int(line.split()[1]) if told and line.split()[1:] and line.split()[1].isdigit() else 0
+        if told == b"wait\n":
+            self.waiting.add(own)
+        granted = sorted(session for session in self.waiting if not self.waits(session))
+        self.waiting.difference_update(granted)
+        return told + b"".join(b"granted %d\n" % session for session in granted if session != own)
+
+
+def number_behind(option, otherwise):
+    return int(sys.argv[sys.argv.index(option) + 1]) if option in sys.argv else otherwise
+
+
+def main():
+    if sys.argv[2] == "busy":
+        sys.exit("pcalc: busy: Busy")
+    server, left = Server(number_behind("--sessions", 64)), number_behind("--fails", -1)
+    out = sys.stdout.buffer
+    out.write(b"ready run 1 pairs 0\n")
+    out.flush()
+    for text in sys.stdin.buffer:
+        line, = lines_of(text)
+        if line == b"quit":
+            return
+        if left == 0:
+            sys.exit("pcalc: log.pcl: Device")
+        left -= 1
+        out.write(server.answer(line))
+        out.flush()
+
+
+if __name__ == "__main__":
+    main()

@@ -1,0 +1,449 @@
+"""Tests of the client and the relay of `clients/python`, over a plain store that a script serves."""
+
+import contextlib
+import os
+import signal
+import socket
+import subprocess
+import sys
+import threading
+import unittest
+
+from support import ROOT, InFolder
+
+CLIENTS = os.path.join(ROOT, "clients", "python")
+sys.path.insert(0, CLIENTS)
+
+import pcalc  # noqa: E402
+import relay  # noqa: E402
+
+FAKE = [sys.executable, os.path.join(os.path.dirname(os.path.abspath(__file__)), "fake_server.py")]
+SECONDS = 20
+
+
+class Words(unittest.TestCase):
+    def test_bytes_are_spelled_as_words(self):
+        for value, spelled in ((b"", b"-"), (b"-", b"\\x2d"), (b"--", b"--"), (b"a b", b"a\\x20b"), (b"\\", b"\\x5c"), (b"\0\xff~!", b"\\x00\\xff~!"), (b"#", b"#")):
+            self.assertEqual((pcalc.word(value), pcalc.bytes_of(spelled)), (spelled, value))
+
+    def test_every_byte_comes_back(self):
+        for value in [bytes(range(256)), *(bytes((it,)) for it in range(256)), *(bytes((0x5c, it)) for it in range(256))]:
+            self.assertEqual(pcalc.bytes_of(pcalc.word(value)), value)
+
+    def test_keys_have_spaces(self):
+        for key, spelled in ((b"k", b"k"), ((0, b"k"), b"k"), ((7, b":"), b"\\s7::"), ((65535, b"-"), b"\\s65535:\\x2d"), (b"\\s7:k", b"\\x5cs7:k")):
+            self.assertEqual(pcalc.key_word(key), spelled)
+
+    def test_what_is_no_key_or_value_is_told(self):
+        for call, given, fault in ((pcalc.key_word, b"", pcalc.Refused), (pcalc.key_word, b"k" * 256, pcalc.Refused), (pcalc.key_word, (65536, b"k"), ValueError),
+                                   (pcalc.key_word, "k", TypeError), (pcalc.value_word, bytes(65_536), pcalc.Refused), (pcalc.value_word, 7, TypeError),
+                                   (pcalc.delta_word, 2**63, ValueError), (pcalc.number_of, b"7", ValueError)):
+            with self.assertRaises(fault):
+                call(given)
+
+    def test_numbers_are_values_of_eight_bytes(self):
+        for number in (0, 1, -1, 2**63 - 1, -(2**63)):
+            self.assertEqual(pcalc.number_of(pcalc.value_of(number)), number)
+
+    def test_answers_have_meanings(self):
+        self.assertEqual([pcalc.meaning_of(it) for it in (b"ok", b"absent", b"= -", b"= a\\x20b", b"sum -5")], [None, None, b"", b"a b", -5])
+        for answer, fault in ((b"died", pcalc.Died), (b"refused MustAbort", pcalc.Died), (b"refused Full", pcalc.Refused), (b"bad line", pcalc.Error)):
+            with self.assertRaises(fault):
+                pcalc.meaning_of(answer)
+
+    def test_a_command_has_its_options(self):
+        self.assertEqual(pcalc.command("d", "p", create=True, sync=True, lag=5, run=None), ["p", "serve", "d", "--create", "--sync", "--lag", "5"])
+        with self.assertRaises(TypeError):
+            pcalc.command("d", every=5)
+
+
+class OfStore(unittest.TestCase):
+    """A test with a store, of whose process the settings may be changed."""
+
+    settings = {}
+
+    def setUp(self):
+        self.store = pcalc.Store("shop", program=FAKE, **self.settings)
+        self.addCleanup(self.ended)
+
+    def ended(self):
+        with contextlib.suppress(pcalc.Ended):
+            self.store.close()
+
+    def value(self, key):
+        with self.store.transaction() as t:
+            return t.get(key)
+
+    def started(self, body, *given):
+        """A thread that runs the body, and ends with the test."""
+        thread = threading.Thread(target=body, args=given)
+        thread.start()
+        self.addCleanup(thread.join, SECONDS)
+        return thread
+
+
+class Transactions(OfStore):
+    def test_a_block_commits(self):
+        with self.store.transaction() as t:
+            t[b"fig"] = b"7"
+            t[(9, b"a b")] = b""
+            self.assertEqual((t[b"fig"], t[(9, b"a b")], t.get(b"pear"), t.get(b"pear", b"0"), b"pear" in t, t.add(b"n", 5), t.add(b"n", -7)),
+                             (b"7", b"", None, b"0", False, 5, -2))
+            with self.assertRaises(KeyError):
+                t[b"pear"]
+            del t[b"fig"]
+        self.assertEqual((t.number, t.entry, self.value(b"fig"), self.value(b"n")), (1, 1, None, pcalc.value_of(-2)))
+
+    def test_a_block_that_raises_aborts(self):
+        with self.assertRaises(ZeroDivisionError):
+            with self.store.transaction() as t:
+                t[b"fig"] = b"7"
+                t.add(b"n", 1 // 0)
+        self.assertEqual((t.entry, self.value(b"fig")), (None, None))
+
+    def test_a_refusal_has_its_word(self):
+        with self.store.transaction() as t:
+            t[b"fig"] = b"7"
+            with self.assertRaises(pcalc.Refused) as refused:
+                t.add(b"fig", 1)
+        self.assertEqual((refused.exception.word, self.value(b"fig")), ("NotNumber", b"7"))
+
+    def test_a_transaction_that_is_over_is_asked_nothing(self):
+        with self.store.transaction() as t:
+            pass
+        with self.assertRaises(pcalc.Error):
+            t[b"fig"] = b"7"
+
+    def test_a_thread_has_one_transaction_at_a_time(self):
+        with self.store.transaction():
+            with self.assertRaises(pcalc.Error):
+                with self.store.transaction():
+                    pass
+        self.assertIsNone(self.value(b"fig"))
+
+    def test_the_younger_one_dies(self):
+        with self.store.transaction() as t:
+            t[b"fig"] = b"1"
+            deaths = []
+            self.started(self.note_death, deaths).join(SECONDS)
+        self.assertEqual((deaths, self.value(b"fig")), ([True, True], b"1"))
+
+    def note_death(self, deaths):
+        """Notes that a transaction dies, and that it does so too where what it was told is passed over."""
+        for is_passed_over in (False, True):
+            with contextlib.suppress(pcalc.Died):
+                with self.store.transaction() as t:
+                    try:
+                        t[b"fig"] = b"2"
+                    except pcalc.Died:
+                        if not is_passed_over:
+                            raise
+                deaths.append(False)
+                continue
+            deaths.append(True)
+
+    def test_the_older_one_waits_and_goes_on(self):
+        is_begun, is_locked = threading.Event(), threading.Event()
+
+        def younger():
+            is_begun.wait(SECONDS)
+            with self.store.transaction() as t:
+                t[b"fig"] = b"younger"
+                is_locked.set()
+                threading.Event().wait(0.05)
+
+        self.started(younger)
+        with self.store.transaction() as t:
+            is_begun.set()
+            is_locked.wait(SECONDS)
+            self.assertEqual(t[b"fig"], b"younger")
+            t[b"fig"] = b"older"
+        self.assertEqual(self.value(b"fig"), b"older")
+
+    def test_what_dies_is_begun_again(self):
+        attempts = []
+
+        def sell(t):
+            attempts.append(t)
+            return t.add(b"n", 1)
+
+        with self.store.transaction() as t:
+            t[b"n"] = pcalc.value_of(7)
+            thread = self.started(lambda: attempts.append(self.store.run(sell)))
+            while len(attempts) < 2:
+                threading.Event().wait(0.001)
+        thread.join(SECONDS)
+        self.assertEqual(attempts[-1], 8)
+
+    def test_attempts_may_be_counted(self):
+        def dies(t):
+            raise pcalc.Died()
+
+        with self.assertRaises(pcalc.Died):
+            self.store.run(dies, attempts=2)
+
+    def test_threads_lose_no_add(self):
+        def work():
+            for _ in range(50):
+                self.store.run(lambda t: t.add(b"n", 1))
+
+        for thread in [self.started(work) for _ in range(4)]:
+            thread.join(SECONDS)
+        self.assertEqual((pcalc.number_of(self.value(b"n")), self.store.check()), (200, True))
+        self.assertEqual(self.store.stats(), {"entries": 201})
+
+
+class Pipelines(OfStore):
+    def test_many_are_sent_at_once(self):
+        with self.store.pipeline(depth=10) as pipeline:
+            noted = []
+            for number in range(25):
+                with pipeline.transaction() as t:
+                    t[b"k%d" % number] = b"%d" % number
+                    t.add(b"n", 1)
+                    t.get(b"k%d" % (number - 1))
+                    noted.append(t)
+        self.assertEqual(([it.entry for it in noted], pipeline.committed), (list(range(1, 26)), 25))
+        self.assertEqual(noted[24].results, [None, 25, b"23"])
+
+    def test_blocks_that_raise_send_nothing(self):
+        with contextlib.suppress(ZeroDivisionError):
+            with self.store.pipeline() as pipeline:
+                with contextlib.suppress(KeyError):
+                    with pipeline.transaction() as t:
+                        t[b"a"] = b"1"
+                        raise KeyError
+                with pipeline.transaction() as t:
+                    t[b"b"] = b"1"
+                pipeline.flush()
+                with pipeline.transaction() as t:
+                    t[b"c"] = b"1"
+                1 // 0
+        self.assertEqual([self.value(it) for it in (b"a", b"b", b"c")], [None, b"1", None])
+
+    def test_what_is_refused_is_left_out_and_raised(self):
+        with self.assertRaises(pcalc.Refused) as refused:
+            with self.store.pipeline() as pipeline:
+                for key in (b"fig", b"n"):
+                    with pipeline.transaction() as t:
+                        t[b"fig"] = b"7"
+                        t.add(key, 1)
+        self.assertEqual((refused.exception.word, pipeline.committed, self.value(b"n")), ("NotNumber", 2, pcalc.value_of(1)))
+
+    def test_a_transaction_has_so_many_keys(self):
+        with self.store.pipeline() as pipeline:
+            with pipeline.transaction() as t:
+                for number in range(pcalc.MOST_WRITES):
+                    t[b"%d" % number] = b""
+                t[b"0"] = b"again"
+                with self.assertRaises(pcalc.Refused):
+                    t[b"more"] = b""
+        self.assertEqual((len(t.results), self.value(b"0")), (pcalc.MOST_WRITES + 1, b"again"))
+
+    def test_pipelines_of_threads_lose_nothing(self):
+        """Two in an opposite order of keys, and one thread of transactions line by line."""
+        def work(keys):
+            with self.store.pipeline(depth=5) as pipeline:
+                for _ in range(40):
+                    with pipeline.transaction() as t:
+                        for key in keys:
+                            t.add(key, 1)
+
+        def alone():
+            for _ in range(20):
+                self.store.run(lambda t: (t.add(b"b", 1), t.add(b"a", 1)))
+
+        for thread in (self.started(work, (b"a", b"b")), self.started(work, (b"b", b"a")), self.started(alone)):
+            thread.join(SECONDS)
+        self.assertEqual([pcalc.number_of(self.value(it)) for it in (b"a", b"b")], [100, 100])
+
+    def test_one_that_waits_goes_on_with_what_waited(self):
+        batch, line = pcalc.Batch(), b"put 1 b 2"
+        batch[b"a"], batch[b"b"] = b"1", b"2"
+        self.assertEqual(batch.take([b"begun 1", b"ok", b"wait", b"refused StillWaiting", b"begun 2"]), b"wait")
+        self.assertEqual(batch.spelled(1), [line, b"commit 1"])
+        self.assertEqual((batch.take([b"ok", b"committed 3"]), batch.entry, batch.results), (None, 3, [None, None]))
+
+    def test_a_log_that_is_full_is_told(self):
+        for answers in ([b"refused LogFull", b"refused NoTransaction"], [b"begun 1", b"refused LogFull"]):
+            self.assertEqual(pcalc.Batch().take(answers), b"refused LogFull")
+
+
+class Ends(unittest.TestCase):
+    def test_a_store_that_cant_be_opened_tells_why(self):
+        with self.assertRaises(pcalc.Ended) as ended:
+            pcalc.Store("busy", program=FAKE)
+        self.assertEqual((str(ended.exception), ended.exception.status), ("pcalc: busy: Busy", 1))
+
+    def test_a_program_that_isnt_there_is_told(self):
+        with self.assertRaises(pcalc.Ended):
+            pcalc.Store("shop", program="/none/pcalc")
+
+    def test_a_program_that_is_another_one_is_told(self):
+        with self.assertRaises(pcalc.Ended):
+            pcalc.Store("shop", program=[sys.executable, "-c", "print('hello'); import time; time.sleep(60)"])
+
+    def test_a_process_that_fails_is_told_to_all(self):
+        store = pcalc.Store("shop", program=[*FAKE], sessions=4)
+        store.process.kill()
+        for _ in range(2):
+            with self.assertRaises(pcalc.Ended) as ended:
+                store.run(lambda t: t.add(b"n", 1))
+        self.assertEqual(ended.exception.status, -signal.SIGKILL)
+        with self.assertRaises(pcalc.Ended):
+            store.close()
+        store.close()
+
+    def test_what_it_tells_is_passed_on(self):
+        words = [sys.executable, "-c", "import sys; sys.argv[1:1] = []; sys.path.insert(0, %r); import fake_server; sys.argv += ['--fails', '2']; fake_server.main()"
+                 % os.path.dirname(FAKE[1])]
+        with self.assertRaises(pcalc.Ended) as ended:
+            with pcalc.Store("shop", program=words) as store:
+                with store.transaction() as t:
+                    t[b"a"] = b"1"
+                    t[b"b"] = b"1"
+        self.assertEqual(str(ended.exception), "pcalc: log.pcl: Device")
+
+
+class Commands(unittest.TestCase):
+    def test_commands_are_read(self):
+        for text, found in ((b"*2\r\n$3\r\nGET\r\n$1\r\nk\r\n*1", ([b"GET", b"k"], 20)), (b"GET  k\r\nSET", ([b"GET", b"k"], 8)), (b"*0\r\n", ([], 4)), (b"\r\n", ([], 2)),
+                            (b"*1\r\n$2\r\n\r\n\r\n", ([b"\r\n"], 12)), (b"PING\n", ([b"PING"], 5))):
+            self.assertEqual(relay.command_in(bytearray(text)), found)
+            for end in range(found[1] - 1):
+                self.assertIsNone(relay.command_in(bytearray(text[:end])))
+
+    def test_what_is_no_command_is_told(self):
+        for text in (b"*x\r\n", b"*1\r\n:1\r\n", b"*1\r\n$-1\r\n", b"*-1\r\n", b"*1\r\n$999999999\r\n", b"*999999999\r\n"):
+            with self.assertRaises(relay.Malformed):
+                relay.command_in(bytearray(text))
+
+    def test_operations_are_lines(self):
+        for words, lines, answers, told in (
+            ((b"get", b"a b"), [(b"get", b"a\\x20b")], [b"= x\\x0a"], b"$2\r\nx\n\r\n"),
+            ((b"GET", b"k"), [(b"get", b"k")], [b"absent"], b"$-1\r\n"),
+            ((b"SET", b"k", b""), [(b"put", b"k -")], [b"ok"], b"+OK\r\n"),
+            ((b"SET", b"", b"v"), [(b"put", b"- v")], [b"refused KeyLength"], b"-ERR KeyLength\r\n"),
+            ((b"DEL", b"k", b"l"), [(b"get", b"k"), (b"del", b"k"), (b"get", b"l"), (b"del", b"l")], [b"= -", b"ok", b"absent", b"ok"], b":1\r\n"),
+            ((b"INCR", b"n"), [(b"add", b"n 1")], [b"sum 7"], b":7\r\n"),
+            ((b"DECRBY", b"n", b"-3"), [(b"add", b"n 3")], [b"refused NotNumber"], b"-ERR NotNumber\r\n"),
+            ((b"PING",), [], [], b"+PONG\r\n"),
+            ((b"PING", b"x"), [], [], b"$1\r\nx\r\n"),
+        ):
+            operation = relay.Operation(words)
+            self.assertEqual((operation.lines, operation.told(answers)), (lines, told))
+
+    def test_numbers_that_arent_are_told(self):
+        for words in ((b"INCRBY", b"n", b"x"), (b"INCRBY", b"n", b"9223372036854775808"), (b"DECRBY", b"n", b"-9223372036854775808"), (b"INCRBY", b"n", b"1.5")):
+            with self.assertRaises(relay.Malformed):
+                relay.Operation(words)
+
+
+class Relays(InFolder):
+    """A relay over a plain store, on a socket of the folder."""
+
+    def setUp(self):
+        super().setUp()
+        self.path = os.path.join(self.folder, "socket")
+        program = self.write("server", "#!/bin/sh\nexec %s %s \"$@\"\n" % tuple(FAKE))
+        os.chmod(program, 0o755)
+        words = [sys.executable, os.path.join(CLIENTS, "relay.py"), self.path, "shop", "--program", program, "--sessions", "3"]
+        self.process = subprocess.Popen(words, stdout=subprocess.PIPE, stderr=subprocess.PIPE)
+        self.addCleanup(self.stop)
+        self.assertEqual([self.process.stdout.readline() for _ in range(2)], [b"ready run 1 pairs 0\n", b"listening on %s\n" % self.path.encode()])
+
+    def stop(self):
+        self.process.send_signal(signal.SIGTERM)
+        self.assertEqual((self.process.communicate(timeout=SECONDS)[1], self.process.returncode, os.path.exists(self.path)), (b"", 0, False))
+
+    def connected(self):
+        sock = socket.socket(socket.AF_UNIX)
+        self.addCleanup(sock.close)
+        sock.settimeout(SECONDS)
+        sock.connect(self.path)
+        return sock
+
+    def tell(self, sock, text, wanted):
+        """Sends the text, which is to be answered so."""
+        sock.sendall(text)
+        self.assertEqual(self.told(sock, len(wanted)), wanted)
+
+    def told(self, sock, length):
+        got = b""
+        while len(got) < length:
+            chunk = sock.recv(length - len(got))
+            if not chunk:
+                break
+            got += chunk
+        return got
+
+    def test_lines_of_two_clients(self):
+        one, two = self.connected(), self.connected()
+        self.tell(one, b"begin 1\n# x\n\n  \nput 1 k 1\nrun\n", b"begun 1\nok\nrun 1\n")
+        self.tell(two, b"begin 1\r\nget 1 k\nget 2 k\nget 1\nabort 01\n", b"begun 2\ndied\nrefused NoSession\nbad line\naborted\n")
+        self.tell(two, b"begin 1\nput 1 m 2\n", b"begun 3\nok\n")
+        one.sendall(b"put 1 m 1\ncommit 1\n")
+        self.tell(two, b"commit 1\n", b"committed 1\n")
+        self.assertEqual(self.told(one, 15), b"ok\ncommitted 2\n")
+        self.tell(two, b"begin 1\nget 1 m\nquit\nget 1 m\n", b"begun 4\n= 1\n")
+        self.assertEqual(two.recv(1), b"")
+
+    def test_a_transaction_goes_with_its_connection(self):
+        one, two = self.connected(), self.connected()
+        self.tell(one, b"begin 1\nput 1 k 1\n", b"begun 1\nok\n")
+        self.tell(two, b"MULTI\r\nSET k 2\r\n", b"+OK\r\n+QUEUED\r\n")
+        two.sendall(b"EXEC\r\n")
+        one.close()
+        self.assertEqual(self.told(two, 9), b"*1\r\n+OK\r\n")
+        self.tell(two, b"GET k\r\n", b"$1\r\n2\r\n")
+
+    def test_more_clients_than_sessions(self):
+        for _ in range(5):
+            clients = [self.connected() for _ in range(3)]
+            for sock in clients:
+                self.tell(sock, b"PING\r\n", b"+PONG\r\n")
+            for text, told in ((b"stats\n", b"refused NoSession\n"), (b"PING\r\n", b"-ERR max number of clients reached\r\n")):
+                sock = self.connected()
+                self.tell(sock, text, told)
+                self.assertEqual(sock.recv(1), b"")
+            for sock in clients:
+                self.tell(sock, b"QUIT\r\n", b"+OK\r\n")
+                self.assertEqual(sock.recv(1), b"")
+
+    def test_commands(self):
+        sock = self.connected()
+        for text, told in (
+            (b"*1\r\n$4\r\nPING\r\n", b"+PONG\r\n"),
+            (b"SET a 1\r\nget a\r\nGET b\r\n", b"+OK\r\n$1\r\n1\r\n$-1\r\n"),
+            (b"INCR n\r\nINCRBY n 9\r\nDECR n\r\nDECRBY n 10\r\n", b":1\r\n:10\r\n:9\r\n:-1\r\n"),
+            (b"GET n\r\n", b"$8\r\n\xff\xff\xff\xff\xff\xff\xff\xff\r\n"),
+            (b"INCR a\r\n", b"-ERR NotNumber\r\n"),
+            (b"DEL a a n x\r\n", b":2\r\n"),
+            (b"MULTI\r\nMULTI\r\nSET a 1\r\nPING\r\nINCR a\r\nGET a\r\nEXEC\r\n",
+             b"+OK\r\n-ERR MULTI calls can not be nested\r\n+QUEUED\r\n+QUEUED\r\n+QUEUED\r\n+QUEUED\r\n-EXECABORT Transaction discarded because of previous errors.\r\n"),
+            (b"MULTI\r\nSET a 1\r\nPING\r\nINCR a\r\nGET a\r\nEXEC\r\n",
+             b"+OK\r\n+QUEUED\r\n+QUEUED\r\n+QUEUED\r\n+QUEUED\r\n*4\r\n+OK\r\n+PONG\r\n-ERR NotNumber\r\n$1\r\n1\r\n"),
+            (b"MULTI\r\nWATCH a\r\nEXEC\r\n", b"+OK\r\n-ERR unknown command 'WATCH'\r\n-EXECABORT Transaction discarded because of previous errors.\r\n"),
+            (b"MULTI\r\nSET a 2\r\nDISCARD\r\nDISCARD\r\nEXEC\r\n", b"+OK\r\n+QUEUED\r\n+OK\r\n-ERR DISCARD without MULTI\r\n-ERR EXEC without MULTI\r\n"),
+            (b"MULTI\r\nEXEC\r\nCOMMAND DOCS\r\n", b"+OK\r\n*0\r\n*0\r\n"),
+            (b"SET a\r\nSET a 1 EX 5\r\n", b"-ERR wrong number of arguments for 'set' command\r\n" * 2),
+            (b"GET a\r\n*1\r\n:\r\n", b"$1\r\n1\r\n-ERR Protocol error\r\n"),
+        ):
+            self.tell(sock, text, told)
+        self.assertEqual(sock.recv(1), b"")
+
+    def test_clients_that_want_the_same_key(self):
+        line, *clients = [self.connected() for _ in range(3)]
+        self.tell(line, b"begin 1\nadd 1 n 1000\n", b"begun 1\nsum 1000\n")
+        for sock in clients:
+            sock.sendall(b"INCR n\r\nMULTI\r\nINCR m\r\nINCR n\r\nEXEC\r\n" * 40)
+        self.tell(line, b"commit 1\n", b"committed 1\n")
+        for sock in clients:
+            got = b""
+            while got.count(b"*2\r\n") < 40 or not got.endswith(b"\r\n") or got.count(b":") < 120:
+                got += sock.recv(65_536)
+        self.tell(clients[0], b"MULTI\r\nINCRBY n 0\r\nINCRBY m 0\r\nEXEC\r\n", b"+OK\r\n+QUEUED\r\n+QUEUED\r\n*2\r\n:1160\r\n:80\r\n")
+
+
+if __name__ == "__main__":
+    unittest.main()
