@@ -1,0 +1,209 @@
+#!/usr/bin/env python3
+"""Measures `pcalc serve`: transactions of one put each a second, beside a Redis server that logs too.
+
+    bench/serve.py                       20,000 transactions line by line, 20 times as many where many are under way, over 1,000 keys
+    bench/serve.py COMMITS               so many line by line
+    bench/serve.py --pairs N             a start with so many pairs, and else with 1,000,000
+    bench/serve.py --program FILE ..     of the program FILE, and else of the one that `rt run` has built
+
+Told are rates with a round trip for each line, with one for each transaction, and with 16 and 1,000 transactions under way; by a client in C
+(`bench/serve.c`, where a C compiler is) and by `clients/python/pcalc.py`, which sends 16 or 1,000 and then waits for all of them. Servers take turns, and
+the best and the worst of several runs are told. The other one is `redis-server` with `appendonly yes`, over a Unix socket, where it is installed: with
+`appendfsync no` beside pcalc, and with `always` beside `--sync`, over as many transactions as fit in some seconds. Its transactions are MULTI, SET, EXEC, and
+beside them stands a SET alone. Then the memory of the process behind its start and behind two counts of commits; and how long a start with many
+pairs takes, with the memory behind it.
+"""
+
+import argparse
+import contextlib
+import os
+import shutil
+import socket
+import subprocess
+import sys
+import tempfile
+import time
+
+import history
+import shared
+
+BENCH = os.path.dirname(os.path.abspath(__file__))
+sys.path.insert(0, os.path.join(BENCH, "..", "clients", "python"))
+
+import pcalc  # noqa: E402
+
+KEYS = 1000
+ROUNDS = 3
+# a name, whether each line is answered before the next one, how many transactions are under way, and how many times the commits are made
+SHAPES = (("a round trip a line", 1, 1, 1), ("a round trip a transaction", 0, 1, 1), ("16 under way", 0, 16, 5), ("1,000 under way", 0, 1000, 20))
+# how many of them where each is brought to the disk
+SYNCED = 0.02
+COUNTS = (100_000, 1_000_000)
+PUTS = 250
+PATIENCE = 100
+
+
+@contextlib.contextmanager
+def pcalc_server(program, folder, *words):
+    """A process that serves a new store, by its number, with what it is read from and written to."""
+    command = [program, "serve", os.path.join(folder, "store"), "--create", *words]
+    with subprocess.Popen(command, stdin=subprocess.PIPE, stdout=subprocess.PIPE, bufsize=0) as process:
+        if not process.stdout.readline().startswith(b"ready"):
+            sys.exit("pcalc doesn't serve")
+        yield process.pid, process.stdout, process.stdin
+        process.stdin.close()
+
+
+@contextlib.contextmanager
+def redis_server(program, folder, *words):
+    path = os.path.join(folder, "socket")
+    command = [program, "--port", "0", "--unixsocket", path, "--dir", folder, "--save", "", "--appendonly", "yes", *words]
+    with subprocess.Popen(command, stdout=subprocess.DEVNULL) as process, socket.socket(socket.AF_UNIX) as sock:
+        for _ in range(PATIENCE):
+            with contextlib.suppress(OSError):
+                sock.connect(path)
+                break
+            time.sleep(0.05)
+        yield process.pid, sock, sock
+        process.terminate()
+
+
+def built(folder):
+    """The client in C, where a compiler is."""
+    if shutil.which("cc") is None:
+        print("no C compiler is here: only the client in Python is measured")
+        return None
+    client = os.path.join(folder, "client")
+    subprocess.run(["cc", "-O2", "-std=gnu11", "-o", client, os.path.join(BENCH, "serve.c")], check=True)
+    return client
+
+
+def c_seconds(client, server, speaks, lines, depth, count):
+    """The seconds of so many transactions of the client in C."""
+    _, source, target = server
+    ran = subprocess.run([client, speaks, str(lines), str(depth), str(count), str(KEYS)], stdin=source, stdout=target, stderr=subprocess.PIPE, text=True)
+    if ran.returncode:
+        sys.exit(ran.stderr)
+    return int(ran.stderr) / 1e6
+
+
+def python_seconds(store, lines, depth, count):
+    """The same of the client in Python."""
+    began = time.monotonic()
+    if lines:
+        for number in range(count):
+            with store.transaction() as t:
+                t[b"k%07d" % (number % KEYS)] = b"v%07d" % number
+    else:
+        with store.pipeline(depth) as pipeline:
+            for number in range(count):
+                with pipeline.transaction() as t:
+                    t[b"k%07d" % (number % KEYS)] = b"v%07d" % number
+    return time.monotonic() - began
+
+
+def of_c(client, serve, program, words, speaks):
+    """What measures a shape of a new server by the client in C."""
+    def measured(lines, depth, count):
+        with tempfile.TemporaryDirectory() as folder, serve(program, folder, *words) as server:
+            return c_seconds(client, server, speaks, lines, depth, count)
+    return measured
+
+
+def of_python(program, words):
+    def measured(lines, depth, count):
+        with tempfile.TemporaryDirectory() as folder, pcalc.Store(os.path.join(folder, "store"), program=[program], create=True, sync="--sync" in words) as store:
+            return python_seconds(store, lines, depth, count)
+    return measured
+
+
+def measurers(program, client, redis, is_synced):
+    """What is measured in turn, by its name."""
+    words, name = (("--sync",), "pcalc --sync") if is_synced else ((), "pcalc")
+    if client:
+        yield f"{name}, C", of_c(client, pcalc_server, program, words, "pcalc")
+    yield f"{name}, Python", of_python(program, words)
+    if client and redis:
+        fsync = "always" if is_synced else "no"
+        for speaks, told in (("redis", "MULTI SET EXEC"), ("set", "SET")):
+            yield f"redis appendfsync {fsync}, C, {told}", of_c(client, redis_server, redis, ("--appendfsync", fsync), speaks)
+
+
+def tell_rates(program, client, redis, commits):
+    for is_synced in (False, True):
+        for shape, lines, depth, times in SHAPES:
+            # so many are synced together that the time of all shapes is alike
+            count = max(depth, int(commits * times * SYNCED)) if is_synced else commits * times
+            seconds = {}
+            for _ in range(ROUNDS):
+                for name, measured in measurers(program, client, redis, is_synced):
+                    seconds.setdefault(name, []).append(measured(lines, depth, count))
+            for name, taken in seconds.items():
+                best, worst = count / min(taken), count / max(taken)
+                history.note(f"serve: {name}, {shape}", best, "a second")
+                print(f"{name}, {shape}: {best:.0f} a second (from {worst:.0f})", flush=True)
+
+
+def resident(number):
+    """The memory that a process has in use, in MB."""
+    with open(f"/proc/{number}/status", encoding="ascii") as it:
+        return next(int(line.split()[1]) for line in it if line.startswith("VmRSS")) * 1024 / 1e6
+
+
+def tell_memory(name, client, serve, program, words, speaks):
+    with tempfile.TemporaryDirectory() as folder, serve(program, folder, *words) as server:
+        told, done = [resident(server[0])], 0
+        for count in COUNTS:
+            c_seconds(client, server, speaks, 0, 1000, count - done)
+            told, done = [*told, resident(server[0])], count
+        history.note(f"serve: {name}, memory behind {COUNTS[-1]} commits", told[-1], "MB")
+        print(f"{name}: memory {told[0]:.0f} MB at first, " + ", ".join(f"{mb:.0f} behind {count:,} commits" for mb, count in zip(told[1:], COUNTS)), flush=True)
+
+
+def filled(program, folder, pairs):
+    """Makes a store of so many pairs, and tells how long that took."""
+    lines, began = os.path.join(folder, "lines"), time.monotonic()
+    with open(lines, "w", encoding="ascii") as out:
+        for first in range(0, pairs, PUTS):
+            puts = "".join("put 1 k%07d v%07d\n" % (number, number) for number in range(first, min(first + PUTS, pairs)))
+            out.write(f"begin 1\n{puts}commit 1\n")
+    spelled = time.monotonic()
+    with open(lines, "rb") as source:
+        command = [program, "serve", os.path.join(folder, "store"), "--create", "--capacity", str(max(1, pairs))]
+        subprocess.run(command, stdin=source, stdout=subprocess.DEVNULL, check=True)
+    print(f"{pairs:,} pairs, written {PUTS} a transaction: {pairs / (time.monotonic() - spelled):.0f} a second; the lines took {spelled - began:.1f} s to spell")
+
+
+def tell_start(program, pairs):
+    """How long starts take: of the log of one generation, and then of its base."""
+    with tempfile.TemporaryDirectory() as folder:
+        filled(program, folder, pairs)
+        for what in ("out of a log", "out of a base"):
+            began = time.monotonic()
+            with pcalc_server(program, folder, "--capacity", str(max(1, pairs))) as (number, _, _):
+                seconds, mb = time.monotonic() - began, resident(number)
+            history.note(f"serve: start with {pairs} pairs {what}", seconds, "s")
+            print(f"start with {pairs:,} pairs, {what}: {seconds:.2f} s, memory {mb:.0f} MB, {mb * 1e6 / pairs:.0f} bytes a pair", flush=True)
+
+
+def main():
+    ask = argparse.ArgumentParser(description=__doc__, formatter_class=argparse.RawDescriptionHelpFormatter)
+    ask.add_argument("--program", default=shared.program("pcalc"))
+    ask.add_argument("--pairs", type=int, default=1_000_000)
+    ask.add_argument("commits", type=int, nargs="?", default=20_000)
+    said = ask.parse_args()
+    redis = shutil.which("redis-server")
+    if redis is None:
+        print("redis-server isn't here: only pcalc is measured")
+    with tempfile.TemporaryDirectory() as folder:
+        client = built(folder)
+        tell_rates(said.program, client, redis, said.commits)
+        if client:
+            tell_memory("pcalc", client, pcalc_server, said.program, (), "pcalc")
+        if client and redis:
+            tell_memory("redis", client, redis_server, redis, ("--appendfsync", "no"), "set")
+    tell_start(said.program, said.pairs)
+
+
+if __name__ == "__main__":
+    main()
