@@ -11,7 +11,7 @@ Told are rates with a round trip for each line, with one for each transaction, a
 the best and the worst of several runs are told. The other one is `redis-server` with `appendonly yes`, over a Unix socket, where it is installed: with
 `appendfsync no` beside pcalc, and with `always` beside `--sync`, over as many transactions as fit in some seconds. Its transactions are MULTI, SET, EXEC, and
 beside them stands a SET alone. Then the memory of the process behind its start and behind two counts of commits; and how long a start with many
-pairs takes, with the memory behind it.
+pairs takes, by the clock and in processor time, with the memory behind it.
 """
 
 import argparse
@@ -150,6 +150,12 @@ def resident(number):
         return next(int(line.split()[1]) for line in it if line.startswith("VmRSS")) * 1024 / 1e6
 
 
+def processor_seconds(number):
+    """The processor time that a process has used, the system's for it among that."""
+    with open(f"/proc/{number}/stat", encoding="ascii") as it:
+        return sum(map(int, it.read().rpartition(")")[2].split()[11:13])) / os.sysconf("SC_CLK_TCK")
+
+
 def tell_memory(name, client, serve, program, words, speaks):
     with tempfile.TemporaryDirectory() as folder, serve(program, folder, *words) as server:
         told, done = [resident(server[0])], 0
@@ -181,9 +187,10 @@ def tell_start(program, pairs):
         for what in ("out of a log", "out of a base"):
             began = time.monotonic()
             with pcalc_server(program, folder, "--capacity", str(max(1, pairs))) as (number, _, _):
-                seconds, mb = time.monotonic() - began, resident(number)
-            history.note(f"serve: start with {pairs} pairs {what}", seconds, "s")
-            print(f"start with {pairs:,} pairs, {what}: {seconds:.2f} s, memory {mb:.0f} MB, {mb * 1e6 / pairs:.0f} bytes a pair", flush=True)
+                seconds, used, mb = time.monotonic() - began, processor_seconds(number), resident(number)
+            history.note(f"serve: start with {pairs} pairs {what}", used, "s of processor time")
+            memory = f"memory {mb:.0f} MB, {mb * 1e6 / pairs:.0f} bytes a pair"
+            print(f"start with {pairs:,} pairs, {what}: {seconds:.2f} s, {used:.2f} of processor time, {memory}", flush=True)
 
 
 def main():

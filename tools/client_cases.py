@@ -62,7 +62,8 @@ def all_of(store, keys):
 
 # The client.
 
-ODD = {b"fig": b"7", b"-": b"-", (9, b"fig"): b"", (65_535, b"\\s7:k"): bytes(range(256)), bytes(range(1, 256)): b"\\x41", b" #": b"a b\r\n", b"k" * 255: bytes(65_535)}
+EVERY = bytes(range(256))
+ODD = {b"fig": b"7", b"-": b"-", (9, b"fig"): b"", (65_535, b"\\s7:k"): EVERY, EVERY[1:]: b"\\x41", b" #": b"a b\r\n", b"k" * 255: bytes(65_535)}
 
 
 def operations(program, room):
@@ -84,7 +85,8 @@ def operations(program, room):
 
 def raises(store):
     lines = []
-    for fault, body in ((KeyError, lambda t: t[b"none"]), (pcalc.Refused, lambda t: t.add(b"-", 1)), (pcalc.Refused, lambda t: t.add(b"n", 2**63 - 1) and t.add(b"n", 9))):
+    bodies = (lambda t: t[b"none"], KeyError), (lambda t: t.add(b"-", 1), pcalc.Refused), (lambda t: t.add(b"n", 2**63 - 1) and t.add(b"n", 9), pcalc.Refused)
+    for body, fault in bodies:
         try:
             with store.transaction() as t:
                 t[b"left"] = b"1"
@@ -261,7 +263,6 @@ def command(*words):
     return b"*%d\r\n" % len(words) + b"".join(b"$%d\r\n%s\r\n" % (len(it), it) for it in words)
 
 
-EVERY = bytes(range(256))
 COMMANDS = (
     (command(b"SET", b"a", EVERY), b"+OK\r\n"),
     (command(b"GET", b"a"), b"$256\r\n" + EVERY + b"\r\n"),
@@ -273,7 +274,8 @@ COMMANDS = (
     (command(b"INCR", b"n"), b"-ERR OutOfRange\r\n"),
     (command(b"MULTI") + command(b"DECRBY", b"n", b"7") + command(b"DEL", b"a", b"none") + command(b"EXEC"),
      b"+OK\r\n+QUEUED\r\n+QUEUED\r\n*2\r\n:9223372036854775800\r\n:1\r\n"),
-    (b"MULTI\r\n" + b"".join(b"SET k%d v\r\n" % it for it in range(257)) + b"EXEC\r\n", b"+OK\r\n" + b"+QUEUED\r\n" * 257 + b"*257\r\n" + b"+OK\r\n" * 256 + b"-ERR TooManyWrites\r\n"),
+    (b"MULTI\r\n" + b"".join(b"SET k%d v\r\n" % it for it in range(257)) + b"EXEC\r\n",
+     b"+OK\r\n" + b"+QUEUED\r\n" * 257 + b"*257\r\n" + b"+OK\r\n" * 256 + b"-ERR TooManyWrites\r\n"),
     (b"EVAL x\r\n", b"-ERR unknown command 'EVAL'\r\n"),
     (b"PING\r\nQUIT\r\n", b"+PONG\r\n+OK\r\n"),
 )

@@ -327,8 +327,8 @@ class Store:
         self.process = self._line.process
         _, _, run, _, pairs = self._line.ready.split()
         self.run_number, self.pairs = int(run), int(pairs)
-        self._free = queue.LifoQueue()
-        for session in range(sessions, 0, -1):
+        self._free = queue.SimpleQueue()
+        for session in range(1, sessions + 1):
             self._free.put(session)
         # the threads that have a transaction open
         self._busy = set()
@@ -418,6 +418,7 @@ class Transaction:
 
     def __enter__(self):
         self._session, self._thread = self._store._take_session()
+        self._has_died, self.number, self.entry = False, None, None
         try:
             answer, = self._line.ask([b"begin %d" % self._session])
             if answer[:6] != b"begun ":

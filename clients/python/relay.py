@@ -27,8 +27,10 @@ Nothing of this is proved.
 
 import argparse
 import collections
+import contextlib
 import os
 import re
+import select
 import selectors
 import signal
 import socket
@@ -180,6 +182,8 @@ class Relay:
         os.set_blocking(self.source, False), os.set_blocking(self.target, False)
         self.asked, self.out, self.rest = collections.deque(), bytearray(), b""
         self.free, self.owners = list(range(sessions, 0, -1)), {}
+        # how many sessions are about to be free, and the connections that wait for one of these
+        self.leaving, self.hopeful = 0, collections.deque()
         # how many transactions have ended, but by their death, and who begins again behind the next such end: what they died of was older, and is
         # open, or has ended so, or has died of one that is older still
         self.ends, self.dead = 0, []
@@ -187,6 +191,18 @@ class Relay:
         listener.setblocking(False)
         self.selector.register(listener, selectors.EVENT_READ, self.accept)
         self.selector.register(self.source, selectors.EVENT_READ, self.read)
+
+    def end(self, _):
+        self.is_ending = True
+
+    def end_at_signals(self, *numbers):
+        """Ends `run` at one of these signals, behind what it does just then."""
+        self.waker, self.woken = socket.socketpair()
+        self.waker.setblocking(False)
+        signal.set_wakeup_fd(self.waker.fileno())
+        for number in numbers:
+            signal.signal(number, lambda *_: None)
+        self.selector.register(self.woken, selectors.EVENT_READ, self.end)
 
     def run(self):
         while not self.is_ending:
@@ -245,12 +261,31 @@ class Relay:
         for it in dead:
             it.begin_again()
 
+    def take_back(self, session):
+        """The session is free again, for a connection that waits for one if there is any."""
+        del self.owners[session]
+        self.leaving -= 1
+        self.free.append(session)
+        while self.hopeful and self.free:
+            self.hopeful.popleft().go_on()
+
     def close(self):
-        """Ends the process's input, and gives its status."""
-        os.set_blocking(self.target, True)
+        """Ends the process's input, and gives its status. What has begun to go out goes out whole before, since the beginning of a line may be
+        another line."""
+        while self.out:
+            select.select([self.source], [self.target], [])
+            self.send()
+            self.pass_over()
         self.process.stdin.close()
-        self.process.stdout.close()
+        os.set_blocking(self.source, True)
+        self.pass_over()
         return self.process.wait()
+
+    def pass_over(self):
+        """Reads answers that nobody is told any more, as far as they are there."""
+        with contextlib.suppress(BlockingIOError):
+            while os.read(self.source, READ_BYTES):
+                pass
 
 
 class Connection:
@@ -306,12 +341,16 @@ class Connection:
             return
         first = bytes((line.split() or [b""])[0])
         is_redis = first[:1] == b"*" or first.upper() in COMMANDS and first in (first.upper(), first.lower()) and first not in OWN_WORDS
-        if not self.relay.free:
+        if self in self.relay.hopeful:
+            return
+        if not self.relay.free and len(self.relay.hopeful) < self.relay.leaving:
+            self.relay.hopeful.append(self)
+        elif not self.relay.free:
             self.out += failure("max number of clients reached") if is_redis else NO_SESSION
             self.has_ended = True
-            return
-        self.session = self.relay.free.pop()
-        self.relay.owners[self.session] = self.speaker = (Commands if is_redis else Lines)(self)
+        else:
+            self.session = self.relay.free.pop()
+            self.relay.owners[self.session] = self.speaker = (Commands if is_redis else Lines)(self)
 
     def send(self):
         if self.is_gone:
@@ -373,8 +412,7 @@ class Speaker:
         self.open -= 1
         if self.is_leaving:
             if self.open == 0:
-                del self.relay.owners[self.session]
-                self.relay.free.append(self.session)
+                self.relay.take_back(self.session)
             return
         self.note(line)
         if self.is_over and self.open == 0:
@@ -388,6 +426,7 @@ class Speaker:
     def leave(self):
         """The connection is over. What is open is aborted, behind what was asked already."""
         self.is_over = True
+        self.relay.leaving += 1
         if self.open == 0:
             self.abort_last()
 
@@ -606,8 +645,6 @@ def main():
         listener, told = listening(said.address)
     except OSError as fault:
         sys.exit("relay: %s: %s" % (said.address, fault.strerror))
-    for number in (signal.SIGTERM, signal.SIGINT):
-        signal.signal(number, lambda *_: sys.exit(0))
     try:
         status = served(listener, told, [*pcalc.command(said.folder, said.program, sessions=said.sessions), *options], said.sessions)
     finally:
@@ -623,6 +660,7 @@ def served(listener, told, words, sessions):
     except OSError as fault:
         sys.exit("relay: %s: %s" % (words[0], fault.strerror))
     try:
+        relay.end_at_signals(signal.SIGTERM, signal.SIGINT)
         print("listening on %s" % told, flush=True)
         relay.run()
     finally:

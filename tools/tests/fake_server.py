@@ -1,15 +1,16 @@
 """Serves a plain store over standard input and output as `pcalc serve` does, and keeps nothing: for tests of clients.
 
-    fake_server.py serve DIR [--sessions N] [--fails AFTER] ...      further options are passed over
+    fake_server.py [--fails N] serve DIR [--sessions N] ..      further options are passed over
 
-With DIR `busy` it ends as where another process has the folder. With `--fails` it ends behind so many lines, with words and status 1.
+With DIR `busy` it ends as where another process has the folder. With `--fails` it ends behind so many lines, as where its log can't be written.
 """
 
+import os
 import sys
 
-import support  # noqa: F401, which puts the tools on the path
+sys.path.insert(0, os.path.dirname(os.path.dirname(os.path.abspath(__file__))))
 
-from plain_store import Script, lines_of
+from plain_store import Script, lines_of  # noqa: E402
 
 
 class Server:
@@ -38,7 +39,7 @@ def number_behind(option, otherwise):
 
 
 def main():
-    if sys.argv[2] == "busy":
+    if "busy" in sys.argv:
         sys.exit("pcalc: busy: Busy")
     server, left = Server(number_behind("--sessions", 64)), number_behind("--fails", -1)
     out = sys.stdout.buffer

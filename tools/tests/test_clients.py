@@ -2,6 +2,7 @@
 
 import contextlib
 import os
+import re
 import signal
 import socket
 import subprocess
@@ -9,7 +10,7 @@ import sys
 import threading
 import unittest
 
-from support import ROOT, InFolder
+from support import ROOT, InFolder, stored
 
 CLIENTS = os.path.join(ROOT, "clients", "python")
 sys.path.insert(0, CLIENTS)
@@ -18,7 +19,7 @@ import pcalc  # noqa: E402
 import relay  # noqa: E402
 
 FAKE = [sys.executable, os.path.join(os.path.dirname(os.path.abspath(__file__)), "fake_server.py")]
-SECONDS = 20
+SECONDS = 60
 
 
 class Words(unittest.TestCase):
@@ -100,6 +101,16 @@ class Transactions(OfStore):
                 t[b"fig"] = b"7"
                 t.add(b"n", 1 // 0)
         self.assertEqual((t.entry, self.value(b"fig")), (None, None))
+
+    def test_a_transaction_may_be_begun_anew(self):
+        transaction = self.store.transaction()
+        for value in (b"1", b"2"):
+            with transaction as t:
+                t[b"fig"] = value
+        with contextlib.suppress(ZeroDivisionError):
+            with transaction as t:
+                t[b"fig"] = b"%d" % (1 // 0)
+        self.assertEqual((transaction.number, transaction.entry, self.value(b"fig")), (3, None, b"2"))
 
     def test_a_refusal_has_its_word(self):
         with self.store.transaction() as t:
@@ -295,14 +306,22 @@ class Ends(unittest.TestCase):
         store.close()
 
     def test_what_it_tells_is_passed_on(self):
-        words = [sys.executable, "-c", "import sys; sys.argv[1:1] = []; sys.path.insert(0, %r); import fake_server; sys.argv += ['--fails', '2']; fake_server.main()"
-                 % os.path.dirname(FAKE[1])]
         with self.assertRaises(pcalc.Ended) as ended:
-            with pcalc.Store("shop", program=words) as store:
+            with pcalc.Store("shop", program=[*FAKE, "--fails", "2"]) as store:
                 with store.transaction() as t:
                     t[b"a"] = b"1"
                     t[b"b"] = b"1"
         self.assertEqual(str(ended.exception), "pcalc: log.pcl: Device")
+
+
+class Pages(InFolder):
+    def test_the_example_of_the_page_runs(self):
+        code = re.search(r"(?s)```python\n(.*?)```", stored("clients", "README.md").decode())[1]
+        os.chmod(self.write("pcalc", "#!/bin/sh\nexec %s %s \"$@\"\n" % tuple(FAKE)), 0o755)
+        code = code.replace("10_000", "500")
+        settings = {**os.environ, "PATH": self.folder + os.pathsep + os.environ["PATH"], "PYTHONPATH": CLIENTS}
+        ran = subprocess.run([sys.executable, "-c", code], env=settings, capture_output=True, timeout=SECONDS)
+        self.assertEqual((ran.returncode, ran.stdout, ran.stderr), (0, b"1\n500\n", b""))
 
 
 class Commands(unittest.TestCase):
@@ -420,7 +439,7 @@ class Relays(InFolder):
             (b"INCR a\r\n", b"-ERR NotNumber\r\n"),
             (b"DEL a a n x\r\n", b":2\r\n"),
             (b"MULTI\r\nMULTI\r\nSET a 1\r\nPING\r\nINCR a\r\nGET a\r\nEXEC\r\n",
-             b"+OK\r\n-ERR MULTI calls can not be nested\r\n+QUEUED\r\n+QUEUED\r\n+QUEUED\r\n+QUEUED\r\n-EXECABORT Transaction discarded because of previous errors.\r\n"),
+             b"+OK\r\n-ERR MULTI calls can not be nested\r\n" + b"+QUEUED\r\n" * 4 + b"-EXECABORT Transaction discarded because of previous errors.\r\n"),
             (b"MULTI\r\nSET a 1\r\nPING\r\nINCR a\r\nGET a\r\nEXEC\r\n",
              b"+OK\r\n+QUEUED\r\n+QUEUED\r\n+QUEUED\r\n+QUEUED\r\n*4\r\n+OK\r\n+PONG\r\n-ERR NotNumber\r\n$1\r\n1\r\n"),
             (b"MULTI\r\nWATCH a\r\nEXEC\r\n", b"+OK\r\n-ERR unknown command 'WATCH'\r\n-EXECABORT Transaction discarded because of previous errors.\r\n"),
