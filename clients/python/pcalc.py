@@ -227,6 +227,9 @@ class _Line:
                 lines = text.split(b"\n")
                 rest = lines.pop()
                 self.deal(self.without_granted(lines) if b"granted " in text else lines)
+        except BaseException:
+            self.process.kill()  # what it tells is nothing that was asked
+            raise
         finally:
             with self.writing:
                 self.has_ended = True

@@ -13,7 +13,7 @@ or in small letters and no word of the store's own lines; so `GET` is Redis', an
 The store's own lines: the connection's session is session 1 of them, whichever the store has given it, and there is no other one. Each line is
 answered by one line, in order; a line goes to the store once the one before it is answered. A connection sees neither `wait` nor
 `granted`: the relay asks again what was granted, so that an answer may take as long as another client's transaction. `quit` ends the
-connection, not the store. A transaction that is open when its connection closes is aborted.
+connection, not the store. A transaction that is open when its connection closes is aborted; until then it keeps its locks, however long that is.
 
 Redis' protocol (RESP2, arrays and inline words without quotes): GET SET DEL INCR DECR INCRBY DECRBY MULTI EXEC DISCARD PING COMMAND QUIT. A command
 alone is a transaction of its own, and what stands between MULTI and EXEC is one; it is begun again where it dies. There is no WATCH, and SET takes
@@ -635,7 +635,7 @@ def clear(path):
 
 
 def main():
-    words = argparse.ArgumentParser(description="a store behind a socket", epilog="Further options go to `pcalc serve`.")
+    words = argparse.ArgumentParser(description="a store behind a socket", epilog="Further options go to `pcalc serve`.", allow_abbrev=False)
     words.add_argument("address", help="the path of a Unix socket, or :PORT of 127.0.0.1")
     words.add_argument("folder", help="the store's folder")
     words.add_argument("--program", default="pcalc", help="the path of pcalc")

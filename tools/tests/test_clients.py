@@ -9,6 +9,7 @@ import subprocess
 import sys
 import threading
 import unittest
+import unittest.mock
 
 from support import ROOT, InFolder, stored
 
@@ -293,6 +294,16 @@ class Ends(unittest.TestCase):
     def test_a_program_that_is_another_one_is_told(self):
         with self.assertRaises(pcalc.Ended):
             pcalc.Store("shop", program=[sys.executable, "-c", "print('hello'); import time; time.sleep(60)"])
+
+    def test_a_process_that_tells_more_than_was_asked_is_ended(self):
+        told = "import sys, time; print('ready run 1 pairs 0', flush=True); sys.stdin.readline(); print('begun 1', 'ok', sep='\\n', flush=True); time.sleep(60)"
+        store = pcalc.Store("shop", program=[sys.executable, "-c", told])
+        with unittest.mock.patch.object(threading, "excepthook"):
+            with self.assertRaises(pcalc.Ended):
+                with store.transaction():
+                    self.assertEqual(store.process.wait(SECONDS), -signal.SIGKILL)
+        with self.assertRaises(pcalc.Ended):
+            store.close()
 
     def test_a_process_that_fails_is_told_to_all(self):
         store = pcalc.Store("shop", program=[*FAKE], sessions=4)
