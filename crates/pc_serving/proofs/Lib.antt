@@ -1,3 +1,4 @@
 mod SweepLaws
 mod AnswerLaws
 mod InputLaws
+pub mod OpenLaws

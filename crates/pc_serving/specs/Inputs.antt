@@ -1,8 +1,22 @@
 -- The lines of an input, one after the other.
-use Rattle.std.specs.Prelude.{◌≡◌, ℕ, Bool, true, false, List, [], ◌∷◌, Option, Some}
+use Rattle.std.specs.Prelude.{◌≡◌, ◌==◌, ◌||◌, ℕ, Bool, true, false, List, [], ◌∷◌, Option, Some, if◌then◌else◌}
 use Rattle.pc_lines.specs.Lines.{lines_in}
 
--- The text has a next line, which is this, and this is left behind it; or it has none.
+-- it has a line feed
+abbrev pub has_feed : List ℕ → Bool
+has_feed [] = false
+has_feed (x ∷ text) = (x == 10) || has_feed text
+
+-- the text up to its last line feed: what stands behind that is a line that was cut off
+abbrev pub whole_part : List ℕ → List ℕ
+whole_part [] = []
+whole_part (x ∷ text) = if (x == 10) || has_feed text then x ∷ whole_part text else []
+
+-- the lines of the text that are whole
+abbrev pub whole_lines : List ℕ → List (List ℕ)
+whole_lines text = lines_in (whole_part text)
+
+-- The text has a next whole line, which is this, and this is left behind it; or it has none.
 abbrev pub IsNextLine : List ℕ → Bool → List ℕ → Option (List ℕ) → Type 0
-IsNextLine text true line left = (rest : List ℕ) × (left ≡ Some rest) × (lines_in text ≡ line ∷ lines_in rest)
-IsNextLine text false line left = text ≡ []
+IsNextLine text true line left = (rest : List ℕ) × (left ≡ Some rest) × (whole_lines text ≡ line ∷ whole_lines rest)
+IsNextLine text false line left = whole_lines text ≡ []

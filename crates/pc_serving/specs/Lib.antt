@@ -3,3 +3,4 @@ pub mod Points
 pub mod Serving
 pub mod Sweeps
 pub mod Inputs
+pub mod OpenSessions

@@ -12,6 +12,7 @@ ghost use Rattle.pc_engine.specs.Store.{setting_of};
 ghost use Rattle.pc_script.specs.Scripts.{AnswersLine, answer_text};
 ghost use Rattle.pc_script.specs.declared.script.LineAnswer.{LineAnswer};
 ghost use Rattle.pc_texts.specs.Texts.{reply_text};
+ghost use Rattle.pc_serving.specs.OpenSessions.{open_after, open_now};
 ghost use Rattle.pc_serving.specs.Serving.{AnswersEvent, AnswersServed, Serves, granted_line, is_of_client, is_wait};
 ghost use Rattle.pc_serving.specs.Sweeps.{IsTold, swept_line, swept_to, waits_now};
 
@@ -41,6 +42,20 @@ impl Served {
             world,
             waiting: SessionSet::new(),
         }
+    }
+
+    /// How many sessions have a transaction open: as many as the history says.
+    pub fn open_sessions(&self) -> u8
+        ensures now { result ≡ open_now self.now.world }
+        ensures told { (st : Setting) (history : History) → Serves st self.now.world self.now.waiting history → result ≡ open_after st history }
+    {
+        let mut count = 0;
+        for place in 0..MOST_SESSIONS {
+            if self.world.has_open(SessionNo(u32::from(place) + 1)) {
+                count += 1;
+            }
+        }
+        count
     }
 
     /// Answers a line. An event of a session is asked, its reply told, and behind it, a line for each, which other sessions' requests

@@ -1,22 +1,33 @@
 //! The lines of an input, one after the other.
 ghost use Rattle.std.specs.Prelude.{◌≡◌, IfOk, IfSome};
+ghost use Rattle.std.specs.Io.BufRead.{ends_with_byte};
 ghost use Rattle.bstr.specs.Text.{without_terminator, no_cr};
 ghost use Rattle.pc_serving.specs.Inputs.{IsNextLine};
 
 use std::io;
 use std::io::BufRead;
 
-/// Reads the next line of the input into the vector, without its end, as the lines of a script are read: a line feed, before which one
-/// carriage return is dropped, or the end of the input. False where no byte is left. What the vector had is dropped.
+/// Reads the next line of the input into the vector, without its end: a line feed, before which one carriage return is dropped. False
+/// where the input has no line feed any more: what stands behind its last one is a line that was cut off, and is none. What the vector
+/// had is dropped.
 pub fn next_line<R: BufRead>(input: &mut R, line: &mut Vec<u8>) -> io::Result<bool>
     ensures { IfOk result (λ some. IfSome (R.remaining input.old) (λ text. IsNextLine text some line.new.items (R.remaining input.new))) }
 {
     line.clear();
-    if input.read_until(b'\n', line)? == 0 {
-        return Ok(false);
-    }
+    input.read_until(b'\n', line)?;
+    let is_whole = has_end(line);
     drop_end(line);
-    Ok(true)
+    Ok(is_whole)
+}
+
+// Whether the line has its end.
+fn has_end(line: &[u8]) -> bool
+    ensures { result ≡ ends_with_byte 10 line.now }
+{
+    match line.last() {
+        Some(byte) => *byte == b'\n',
+        None => false,
+    }
 }
 
 // Drops the end of the line, if it is there.
