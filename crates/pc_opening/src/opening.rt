@@ -1,7 +1,9 @@
 //! A store is opened over the base that it starts from, and the generation begins in which its log will stand.
-ghost use Rattle.std.specs.Prelude.{◌≡◌, ◌≤◌, ◌<◌, [], Err, IfOk, IfErr, IfSome, OnOk, OnErr};
+ghost use Rattle.std.specs.Prelude.{◌≡◌, ◌⊎◌, ◌≤◌, ◌<◌, ◌+◌, [], Err, IfOk, IfErr, IfSome, OnOk, OnErr};
 ghost use Rattle.pc_types.specs.declared.limits.TheConstants.{MOST_KEYS, MOST_SESSIONS};
 ghost use Rattle.pc_types.specs.declared.refusal.Refusal.{Refusal};
+ghost use Rattle.pc_model.specs.History.{History};
+ghost use Rattle.pc_model.specs.Log.{after};
 ghost use Rattle.pc_model.specs.Maps.{len};
 ghost use Rattle.pc_log.specs.Texts.{header_text};
 ghost use Rattle.pc_part.specs.Texts.{base_text};
@@ -15,7 +17,7 @@ use pc_engine::World;
 use pc_generations::{Generations, begin_generation};
 use pc_log::encode_header;
 use pc_part::Base;
-use pc_types::{Refusal, Tally};
+use pc_types::{MOST_FILE_ENTRIES, Refusal, Tally};
 use std::alloc::Global;
 use std::hash::RandomState;
 
@@ -67,6 +69,24 @@ pub fn open_store<G: Generations>(
     match World::new(alloc, base, size.sessions, size.capacity, seed) {
         Ok(world) => Ok(OpenedStore { world, generation }),
         Err(why) => Err(why),
+    }
+}
+
+/// The base of the run behind that of this store: the number of its run is one higher, and it has the pairs that are committed, which
+/// are those of the log replayed on the base from which the store started. Refuses with `Full` if and only if the run has the number
+/// 2^64 - 1 or a base can't have the pairs, and else only with `OutOfMemory`.
+pub fn next_base(world: &World) -> Result<Base, Refusal>
+    ensures start { IfOk result (λ base. (base.point ≡ 0) × (base.run ≡ world.now.base.run + 1)) }
+    ensures pairs { (history : History) → Stands world.now history → IfOk result (λ base. base.pairs ≡ after world.now.base.pairs world.now.log) }
+    ensures refusals { IfErr result (λ e. (e ≡ Refusal.Full) ⊎ (e ≡ Refusal.OutOfMemory)) }
+{
+    let pairs = world.committed()?;
+    if pairs.len() > MOST_FILE_ENTRIES {
+        return Err(Refusal::Full);
+    }
+    match world.base().run().checked_add(1) {
+        Some(run) => Ok(Base::start(run, pairs)),
+        None => Err(Refusal::Full),
     }
 }
 

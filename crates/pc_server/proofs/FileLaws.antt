@@ -49,7 +49,7 @@ pushed [] x y (suc k) e = absurd (cc (e))
 pushed (z ∷ xs) x y zero e = inl e
 pushed (z ∷ xs) x y (suc k) e = elim (pushed xs x y k e) [ inl t ↦ inl t | inr t ↦ inr (ap suc t.0, t.1) ]
 
-get_last : {A : Type 0} (xs : List A) (x : A) → slice_get (xs ++ x ∷ []) (length xs) ≡ Some x
+pub get_last : {A : Type 0} (xs : List A) (x : A) → slice_get (xs ++ x ∷ []) (length xs) ≡ Some x
 get_last [] x = refl
 get_last (z ∷ xs) x = get_last xs x
 
@@ -294,10 +294,10 @@ module _ (st : Setting) (h : History) where
 -- ---- what lines leave
 
 -- a line has made no step, or one of a client
-abbrev IsStepped : History → History → Type 0
+abbrev pub IsStepped : History → History → Type 0
 IsStepped before after = (after ≡ before) ⊎ ((event : Event) × (reply : Reply) × (is_of_client event ≡ true) × (after ≡ record { event = event; reply = reply } ∷ before))
 
-request_steps : (st : Setting) (before after : History) (asked : Request) (text : List ℕ) → AnswersRequest st before asked text after → IsStepped before after
+pub request_steps : (st : Setting) (before after : History) (asked : Request) (text : List ℕ) → AnswersRequest st before asked text after → IsStepped before after
 request_steps st before after (request.Line (line.Asks event)) text a = by (is_of_client event) refl a
   where
     by : (b : Bool) → is_of_client event ≡ b → MatchBool b

@@ -3,5 +3,6 @@ mod ServiceLaws
 mod ServingLaws
 mod LogLimits
 mod FileLaws
+mod CountLaws
 mod AnsweredLaws
 mod LossLaws

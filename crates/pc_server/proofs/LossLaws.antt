@@ -31,15 +31,16 @@ use Rattle.pc_restarts.specs.Worlds.{EveryCutOfAWorldIsRecovered, IsTextOfShelf,
 use Rattle.pc_turn.specs.Devices.{Grows}
 use Rattle.pc_server.specs.Acts.{Act, answers_of}
 use Rattle.pc_server.specs.Files.{HasOnlyFiles, IsTextOf}
-use Rattle.pc_server.specs.Inputs.{AreFirstLines, EndsServed, HasServedAll}
+use Rattle.pc_server.specs.Inputs.{AreFirstLines, EndsServed, HasStopped}
 use Rattle.pc_server.specs.Services.{GrowsFrom, IsCutOff, entries_text, first_text}
 use Rattle.pc_server.specs.Answered.{CameBackServed, KeepsAnswered, LosesNoAnswer}
+use Rattle.pc_server.specs.declared.serve.Stopped.{Stopped}
 use Rattle.pc_server.specs.declared.service.Service.{Service}
 use Rattle.pc_server.proofs.ServerLaws.{Extends, lead_extends}
 use Rattle.pc_server.proofs.AnsweredLaws.{answered_entry, commit_stays}
 use Rattle.pc_server.proofs.FileLaws.{contains_at, second_has_part}
 use Rattle.pc_server.proofs.LogLimits.{log_within}
-use Rattle.pc_server.proofs.ServingLaws.{serving_ends}
+use Rattle.pc_server.proofs.ServingLaws.{serving_ends, stopped_sent}
 
 -- what came back of a text that was written in part is a cut of it
 cut_of : (header log text : List ℕ) (w : Option (List ℕ)) → AppendsBeginning (Some header) w text → Grows (Some log) w → take (length log) (header ++ text) ≡ log
@@ -173,7 +174,7 @@ module _ (law : EveryCutOfAWorldIsRecovered) {T U : Type 0} (written keeps : T �
       subst (λ (s : Setting). Cut s → HasOnlyFiles first holds (shelf s.run history) → ((point : ℕ) (text : List ℕ) → first point text → IsForeign s.run text) → CameBackServed s holds (written device) (keeps device) base parts log → MatchResult (recovery base parts log) (KeepsAnswered s lag gone sent (log_of history)) (λ refusal. refusal ≡ Full)) same
       (λ cut_w only_w none_w back_w. world_loses_none world base parts log stands known cut_w only_w none_w back_w) cut only none back
 
-module _ (law : EveryCutOfAWorldIsRecovered) {T U : Type 0} (written keeps : T → Option (List ℕ)) (contents : U → Option (List ℕ)) (before sent : List ℕ) (input : Option (List ℕ)) (st : Setting) (lag : ℕ) (first holds : ℕ → List ℕ → Type 0)
+module _ (law : EveryCutOfAWorldIsRecovered) {T U : Type 0} (written keeps : T → Option (List ℕ)) (contents : U → Option (List ℕ)) (before sent : List ℕ) (input left : Option (List ℕ)) (stopped : Stopped) (st : Setting) (lag : ℕ) (first holds : ℕ → List ℕ → Type 0)
     (none : (point : ℕ) (text : List ℕ) → first point text → IsForeign st.run text) where
   -- at every end
   ends_lose_none : (device : T) (answers : U) (files : List File) → contents answers ≡ Some (before ++ sent) → EndsServed written keeps contents (Some (header_text st.run)) (Some before) input st lag files device answers → HasOnlyFiles first holds files
@@ -192,9 +193,10 @@ module _ (law : EveryCutOfAWorldIsRecovered) {T U : Type 0} (written keeps : T �
 
   -- and where all was sent
   pub all_lose_none : (service : Service T U) (files : List File) → contents (inner_of service.out) ≡ Some (before ++ sent)
-      → HasServedAll written keeps contents (Some (header_text st.run)) (Some before) input st lag files service ⊎ EndsServed written keeps contents (Some (header_text st.run)) (Some before) input st lag files service.log (inner_of service.out)
+      → HasStopped written keeps contents (Some (header_text st.run)) (Some before) input st lag left files service stopped ⊎ EndsServed written keeps contents (Some (header_text st.run)) (Some before) input st lag files service.log (inner_of service.out)
       → HasOnlyFiles first holds files → LosesNoAnswer holds (written service.log) (keeps service.log) sent input st lag
   all_lose_none service files known (inr ends) only = ends_lose_none service.log (inner_of service.out) files known ends only
-  all_lose_none service files known (inl (lines, ended, (gone, at, holds_all, these, same, there))) only =
+  all_lose_none service files known (inl stops) only =
+      let (lines, firsts, (gone, at, holds_all, these, same, there)) = stopped_sent written keeps contents (Some (header_text st.run)) (Some before) input left st lag files service stopped stops in
       ends_lose_none service.log (inner_of service.out) files known
-      (lines, ended.0, serving_ends written keeps contents (Some (header_text st.run)) (Some before) st lag files lines service (gone, [], at, at, holds_all, these, same, there)) only
+      (lines, firsts, serving_ends written keeps contents (Some (header_text st.run)) (Some before) st lag files lines service (gone, [], at, at, holds_all, these, same, there)) only

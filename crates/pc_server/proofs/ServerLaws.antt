@@ -1,6 +1,6 @@
 -- What each act of a process that serves leaves.
-use Rattle.std.proofs.Common.{◌≡◌, ℕ, ◌+◌, ◌≤◌, ◌⊎◌, inl, inr, ◌==◌, ◌&&◌, ◌||◌, Bool, true, false, List, [], ◌∷◌, ◌++◌, Ok, Err, length, refl, sym, ap, subst, ◌∙◌, arith, append_assoc}
-use Rattle.std.specs.Prelude.{codes, Option, Result, OnOk, IfSome, Some, None, MatchBool, cond}
+use Rattle.std.proofs.Common.{◌≡◌, ℕ, ◌+◌, ◌-◌, ◌^◌, ◌<◌, ◌≤◌, ◌⊎◌, inl, inr, ◌==◌, ◌&&◌, ◌||◌, Bool, true, false, List, [], ◌∷◌, ◌++◌, Ok, Err, length, refl, sym, ap, subst, ◌∙◌, arith, append_assoc}
+use Rattle.std.specs.Prelude.{codes, Option, Result, OnOk, IfSome, Some, None, MatchBool, cond, min, nat_lt}
 use Rattle.std.specs.Global.{Vec}
 use Rattle.std.proofs.lemmas.Bool.Decides.{nat_tests}
 use Rattle.std.proofs.lemmas.List.{length-append, append-nil}
@@ -13,7 +13,8 @@ use Rattle.pc_types.specs.declared.Refusal.{Refusal}
 use Rattle.pc_types.specs.declared.Step.{Step}
 use Rattle.pc_types.specs.declared.tally.Tally.{Tally}
 use Rattle.pc_model.specs.History.{History, log_of, effect, entries_by, phase_of}
-use Rattle.pc_model.specs.Replies.{Setting, IsLegal}
+use Rattle.pc_model.specs.Replies.{Setting, IsLegal, IsLegalHistory}
+use Rattle.pc_model.specs.Files.{shelf}
 use Rattle.pc_engine.specs.Stands.{Stands}
 use Rattle.pc_engine.specs.Store.{Store, setting_of}
 use Rattle.pc_model.specs.Calls.{session_of}
@@ -25,6 +26,8 @@ use Rattle.pc_types.specs.declared.Entry.{Entry}
 use Rattle.pc_turn.specs.Turns.{IsKept, IsLogOut, TurnEnds, is_due, rest_text}
 use Rattle.pc_turn.specs.declared.turn.TurnEnd.{TurnEnd}
 use Rattle.pc_turn.specs.declared.turn.TurnEnd.TheVariants as end
+use Rattle.pc_serving.specs.OpenSessions.{open_after, open_now}
+use Rattle.pc_serving.proofs.OpenLaws.{open_told}
 use Rattle.pc_serving.specs.Points.{due_in, is_checkpoint, IsShelvedAs, IsTurn}
 use Rattle.pc_serving.specs.Requests.{request_of}
 use Rattle.pc_serving.specs.Serving.{AnswersServed, Serves, awaits, granted_text, is_of_client, is_wait, wrong_phase}
@@ -34,10 +37,12 @@ use Rattle.pc_serving.specs.declared.pace.Turned.{Turned}
 use Rattle.pc_serving.specs.declared.pace.Turned.TheVariants as turned
 use Rattle.pc_serving.specs.declared.request.Request.{Request}
 use Rattle.pc_serving.specs.declared.request.Request.TheVariants as request
-use Rattle.pc_server.specs.Acts.{Act, Lead, AnswersRequest, answers_of}
+use Rattle.pc_server.specs.Acts.{Act, Lead, AnswersRequest, answers_of, commits_in, stats_line, stats_of}
 use Rattle.pc_server.specs.Acts.Act.{Answered, WentOn}
-use Rattle.pc_server.specs.Turns.{Stays}
+use Rattle.pc_server.specs.Turns.{AreCounts, IsNoted, Stays, paced}
+use Rattle.pc_server.specs.declared.counts.Counts.{Counts}
 use Rattle.pc_server.specs.declared.server.Server.{Server}
+use Rattle.pc_server.proofs.CountLaws.{Follows, all_counted, counted, line_follows, step_follows}
 
 -- what is due is the checkpointer's
 due_is_checkpoint : (pace : Pace) (phase : Phase) → IfSome (due_in pace phase) (λ event. is_checkpoint event ≡ true)
@@ -70,14 +75,20 @@ no_shorter before after (more, e) = subst (λ l. length (log_of before) ≤ leng
 pub step_extends : (step : Step) (h : History) → Extends h (step ∷ h)
 step_extends step h = (entries_by (effect step) h, refl)
 
-abbrev pub went_on : Server → Store → Pace → Server
-went_on old world pace = record { served = record { world = world; waiting = old.served.waiting }; pace = pace; answers = old.answers; written = old.written; lag = old.lag }
+abbrev pub went_on : Server → Store → Pace → Counts → Server
+went_on old world pace counts = record { served = record { world = world; waiting = old.served.waiting }; pace = pace; answers = old.answers; counts = counts; written = old.written; lag = old.lag }
+
+-- an entry that came was counted
+noted_on : (run : ℕ) (commits : Bool) (before after : History) (world : Store) (was is : Counts) → Stands world after → Follows commits (log_of before) (log_of after) → AreCounts run (log_of before) was → IsNoted commits world.log (length (log_of before)) was is → AreCounts run (log_of after) is
+noted_on run commits before after world was is stands follows counts noted =
+    let here = subst (λ l. IsNoted commits l (length (log_of before)) was is) stands.parts.log noted in
+    counted run commits (log_of before) (log_of after) was is follows counts here.none here.some
 
 -- the checkpointer had its turn
-pub went : (st : Setting) (gone turn : List Act) (at history next : History) (old : Server) (world : Store) (pace : Pace) (result : Result Turned Refusal) → Stays st gone at turn history old
-    → setting_of world ≡ setting_of old.served.world → Stands world next → IsTurn (setting_of old.served.world) old.pace history pace next result
-    → (Stays st gone at turn history (went_on old world pace) × (result ≡ Ok turned.Nothing)) ⊎ ((step : Step) × Stays st gone at (WentOn step ∷ turn) (step ∷ history) (went_on old world pace) × IsShelvedAs step.reply result)
-went st gone turn at history next old world pace result stays kept stands (inl none) =
+pub went : (st : Setting) (gone turn : List Act) (at history next : History) (old : Server) (world : Store) (pace : Pace) (counts : Counts) (result : Result Turned Refusal) → Stays st gone at turn history old
+    → setting_of world ≡ setting_of old.served.world → Stands world next → IsTurn (setting_of old.served.world) old.pace history pace next result → IsNoted false world.log (length old.served.world.log) old.counts counts
+    → (Stays st gone at turn history (went_on old world pace counts) × (result ≡ Ok turned.Nothing)) ⊎ ((step : Step) × Stays st gone at (WentOn step ∷ turn) (step ∷ history) (went_on old world pace counts) × IsShelvedAs step.reply result)
+went st gone turn at history next old world pace counts result stays kept stands (inl none) noted =
     inl (
       record {
         serves = record { stands = subst (Stands world) none.1 stands; setting = kept ∙ stays.serves.setting; awaited = stays.serves.awaited };
@@ -86,10 +97,11 @@ went st gone turn at history next old world pace result stays kept stands (inl n
         waiting = stays.waiting;
         kept = stays.kept;
         within = stays.within;
+        counts = noted_on st.run false history history world old.counts counts (subst (Stands world) none.1 stands) (inl refl) stays.counts (subst (λ l. IsNoted false world.log (length l) old.counts counts) stays.serves.stands.parts.log noted);
       },
       none.3,
     )
-went st gone turn at history next old world pace result stays kept stands (inr (event, reply, due, legal, after, noted, shelved)) =
+went st gone turn at history next old world pace counts result stays kept stands (inr (event, reply, due, legal, after, paces, shelved)) noted =
     let is : is_checkpoint event ≡ true = subst (λ o. IfSome o (λ e. is_checkpoint e ≡ true)) due (due_is_checkpoint old.pace (phase_of history)) in
     let step : Step = record { event = event; reply = reply } in
     inr (
@@ -101,6 +113,7 @@ went st gone turn at history next old world pace result stays kept stands (inr (
         waiting = stays.waiting;
         kept = stays.kept;
         within = omega (arith, stays.within, no_shorter history (step ∷ history) (step_extends step history));
+        counts = noted_on st.run false history (step ∷ history) world old.counts counts (subst (Stands world) after stands) (step_follows step history is) stays.counts (subst (λ l. IsNoted false world.log (length l) old.counts counts) stays.serves.stands.parts.log noted);
       },
       shelved,
     )
@@ -137,20 +150,21 @@ answer_extends st before after request.Run text (t, e) = same_extends before aft
 answer_extends st before after request.Stats text (t, e) = same_extends before after e
 answer_extends st before after request.Quit text (t, e) = same_extends before after e
 
-abbrev pub after_answer : Server → Served → Tally (Vec ℕ) → Server
-after_answer old served answers = record { served = served; pace = old.pace; answers = answers; written = old.written; lag = old.lag }
+abbrev pub after_answer : Server → Served → Tally (Vec ℕ) → Pace → Counts → Server
+after_answer old served answers pace counts = record { served = served; pace = pace; answers = answers; counts = counts; written = old.written; lag = old.lag }
 
 -- a line was answered
-pub answered : (st : Setting) (gone turn : List Act) (at history next : History) (old : Server) (served : Served) (answers : Tally (Vec ℕ)) (line text : List ℕ) (asked : Request) → Stays st gone at turn history old
-    → Serves st served.world served.waiting next → AnswersRequest st history asked text next → (inner_of answers).items ≡ (inner_of old.answers).items ++ text → request_of line ≡ asked
-    → Stays st gone at (Answered line text ∷ turn) next (after_answer old served answers)
-answered st gone turn at history next old served answers line text asked stays serves told grown asks = record {
+pub answered : (st : Setting) (gone turn : List Act) (at history next : History) (old : Server) (served : Served) (answers : Tally (Vec ℕ)) (pace : Pace) (counts : Counts) (line text : List ℕ) (asked : Request) → Stays st gone at turn history old
+    → Serves st served.world served.waiting next → AnswersRequest st history asked text next → (inner_of answers).items ≡ (inner_of old.answers).items ++ text → request_of line ≡ asked → AreCounts st.run (log_of next) counts
+    → Stays st gone at (Answered line text ∷ turn) next (after_answer old served answers pace counts)
+answered st gone turn at history next old served answers pace counts line text asked stays serves told grown asks are = record {
   serves = serves;
   gone_by = stays.gone_by;
   turn_by = (history, stays.turn_by, subst (λ r. AnswersRequest st history r text next) (sym asks) told);
   waiting = grown ∙ ap (λ t. t ++ text) stays.waiting;
   kept = stays.kept;
   within = omega (arith, stays.within, no_shorter history next (answer_extends st history next asked text told));
+  counts = are;
 }
 
 -- what holds of a success
@@ -168,25 +182,55 @@ items_known bytes = Some bytes.items
 
 -- a request that asks no event was answered
 pub put_told : (st : Setting) (gone turn : List Act) (at history : History) (old : Server) (answers : Tally (Vec ℕ)) (result : Result (Unit {0}) Refusal) (text : List ℕ) (asked : Request) → Stays st gone at turn history old
-    → AnswersRequest st history asked text history → Puts items_known old.answers answers result text → OnOk result (Told st gone at turn history old asked (after_answer old old.served answers))
+    → AnswersRequest st history asked text history → Puts items_known old.answers answers result text → OnOk result (Told st gone at turn history old asked (after_answer old old.served answers old.pace old.counts))
 put_told st gone turn at history old answers (Ok u) text asked stays told puts =
-    (text, history, told, λ line asks. answered st gone turn at history history old old.served answers line text asked stays stays.serves told puts.0 asks)
+    (text, history, told, λ line asks. answered st gone turn at history history old old.served answers old.pace old.counts line text asked stays stays.serves told puts.0 asks stays.counts)
 put_told st gone turn at history old answers (Err e) text asked stays told puts = tt
 
 -- the end was asked for
 pub quit_told : (st : Setting) (gone turn : List Act) (at history : History) (old : Server) (asked : Request) → Stays st gone at turn history old → asked ≡ request.Quit → Told st gone at turn history old asked old
 quit_told st gone turn at history old asked stays is =
     let told : AnswersRequest st history asked [] history = subst (λ r. AnswersRequest st history r [] history) (sym is) (refl, refl) in
-    ([], history, told, λ line asks. answered st gone turn at history history old old.served old.answers line [] asked stays stays.serves told (sym (append-nil (inner_of old.answers).items)) asks)
+    ([], history, told, λ line asks. answered st gone turn at history history old old.served old.answers old.pace old.counts line [] asked stays stays.serves told (sym (append-nil (inner_of old.answers).items)) asks stays.counts)
 
--- the line of a script was answered
-pub line_told : (st : Setting) (gone turn : List Act) (at history : History) (old : Server) (served : Served) (answers : Tally (Vec ℕ)) (result : Result (Unit {0}) Refusal) (l : Line) (asked : Request) → Stays st gone at turn history old → asked ≡ request.Line l
+-- the line of a script was answered, and what it has added to the log was counted
+pub line_told : (st : Setting) (gone turn : List Act) (at history : History) (old new : Server) (served : Served) (answers : Tally (Vec ℕ)) (pace : Pace) (counts : Counts) (result : Result (Unit {0}) Refusal) (l : Line) (u : Unit {0}) → Stays st gone at turn history old → result ≡ Ok u
+    → new ≡ after_answer old served answers pace counts → IsNoted true served.world.log (length old.served.world.log) old.counts counts
     → OnOk result ((next : History) × (text : List ℕ) × Serves st served.world served.waiting next × AnswersServed st history l text next × Puts items_known old.answers answers (Ok tt) text)
-    → OnOk result (Told st gone at turn history old asked (after_answer old served answers))
-line_told st gone turn at history old served answers result l asked stays is =
-    on_ok result (λ (next, text, serves, said, puts).
-    let told : AnswersRequest st history asked text next = subst (λ r. AnswersRequest st history r text next) (sym is) said in
-    (text, next, told, λ line asks. answered st gone turn at history next old served answers line text asked stays serves told puts.0 asks))
+    → Told st gone at turn history old (request.Line l) new
+line_told st gone turn at history old new served answers pace counts result l u stays is same noted told =
+    let (next, text, serves, said, puts) = subst (λ r. OnOk r ((next : History) × (text : List ℕ) × Serves st served.world served.waiting next × AnswersServed st history l text next × Puts items_known old.answers answers (Ok tt) text)) is told in
+    let before = subst (λ log. IsNoted true served.world.log (length log) old.counts counts) stays.serves.stands.parts.log noted in
+    let are = noted_on st.run true history next served.world old.counts counts serves.stands (line_follows st history next (request.Line l) text said) stays.counts before in
+    (text, next, said, λ line asks. subst (Stays st gone at (Answered line text ∷ turn) next) (sym same) (answered st gone turn at history next old served answers pace counts line text (request.Line l) stays serves said puts.0 asks are))
+
+-- the numbers that are told
+pub stats_told : (st : Setting) (gone turn : List Act) (at history : History) (old : Server) → Stays st gone at turn history old
+    → stats_line (length old.served.world.log) old.counts.commits (length old.served.world.shelf) (open_now old.served.world) old.counts.bytes ≡ stats_of st history
+stats_told st gone turn at history old stays =
+    let entries : length old.served.world.log ≡ length (log_of history) = ap length stays.serves.stands.parts.log in
+    let commits : old.counts.commits ≡ commits_in (log_of history) = all_counted st history old.counts (subst (λ s. IsLegalHistory s history) stays.serves.setting stays.serves.stands.legal) stays.counts in
+    let points : length old.served.world.shelf ≡ length (shelf st.run history) = ap length (stays.serves.stands.parts.cycle.shelved ∙ ap (λ (s : Setting). shelf s.run history) stays.serves.setting) in
+    let opened : open_now old.served.world ≡ open_after st history = open_told st old.served.world old.served.waiting history stays.serves in
+    ap (λ n. stats_line n old.counts.commits (length old.served.world.shelf) (open_now old.served.world) old.counts.bytes) entries
+    ∙ (ap (λ n. stats_line (length (log_of history)) n (length old.served.world.shelf) (open_now old.served.world) old.counts.bytes) commits
+    ∙ (ap (λ n. stats_line (length (log_of history)) (commits_in (log_of history)) n (open_now old.served.world) old.counts.bytes) points
+    ∙ (ap (λ n. stats_line (length (log_of history)) (commits_in (log_of history)) (length (shelf st.run history)) n old.counts.bytes) opened ∙ ap (stats_line (length (log_of history)) (commits_in (log_of history)) (length (shelf st.run history)) (open_after st history)) stays.counts.1)))
+
+-- where the log has no more than before, no commit counts
+pub same_pace : (pace : Pace) (n : ℕ) → pace ≡ paced pace n n
+same_pace pace n = by (nat_lt n n) refl
+  where
+    by : (b : Bool) → nat_lt n n ≡ b → pace ≡ cond b (record pace { commits = min (pace.commits + 1) (2 ^ 64 - 1) }) pace
+    by true e = absurd (let less : n < n = grind (arith, nat_tests, e) in omega (arith, less))
+    by false e = refl
+
+pub stats_pace : (old new : Server) (answers : Tally (Vec ℕ)) → new ≡ after_answer old old.served answers old.pace old.counts → new.pace ≡ paced old.pace (length old.served.world.log) (length new.served.world.log)
+stats_pace old new answers same = ap (λ (s : Server). s.pace) same ∙ (same_pace old.pace (length old.served.world.log) ∙ ap (λ (s : Server). paced old.pace (length old.served.world.log) (length s.served.world.log)) (sym same))
+
+pub always_ok : {X E P : Type 0} (r : Result X E) → P → OnOk r P
+always_ok (Ok x) p = p
+always_ok (Err e) p = tt
 
 -- acts behind others
 pub lead_on : (st : Setting) (start at history : History) (gone turn : List Act) → Lead st start gone at → Lead st at turn history → Lead st start (turn ++ gone) history
@@ -209,18 +253,26 @@ kept_enough written kept log lag before after old new out = by (is_due lag befor
     by true e (kept, all) = omega (arith, all)
     by false e (same, none) = grind (arith, nat_tests, e, none)
 
+-- behind a whole turn no more entries aren't kept than the lag
+pub turn_keeps : {T U : Type 0} (written kept : T → Option (List ℕ)) (contents : U → Option (List ℕ)) (log : List Entry) (answers : List ℕ) (before after : ℕ) (log_old log_new : T) (out_old out_new : Tally U) (result : TurnEnd) (lag : ℕ)
+    → TurnEnds written kept contents log lag answers before after log_old log_new out_old out_new result → result ≡ end.Whole → length log ≤ after + lag
+turn_keeps written kept contents log answers before after log_old log_new out_old out_new result lag ends whole =
+    kept_enough written kept log lag before after log_old log_new (subst (TurnEnds written kept contents log lag answers before after log_old log_new out_old out_new) whole ends).0
+
 -- a whole turn ended
-pub turn_ended : {T U : Type 0} (written kept : T → Option (List ℕ)) (contents : U → Option (List ℕ)) (st : Setting) (gone turn : List Act) (at history : History) (old : Server) (answers : Tally (Vec ℕ)) (after : ℕ) (log_old log_new : T) (out_old out_new : Tally U) (result : TurnEnd) → Stays st gone at turn history old
-    → TurnEnds written kept contents (log_of history) old.lag (answers_of turn) old.written after log_old log_new out_old out_new result → (inner_of answers).items ≡ [] → after ≤ length (log_of history)
-    → result ≡ end.Whole → Stays st (turn ++ gone) history [] history (record { served = old.served; pace = old.pace; answers = answers; written = after; lag = old.lag })
-turn_ended written kept contents st gone turn at history old answers after log_old log_new out_old out_new result stays ends none within whole =
+pub turn_ended : {T U : Type 0} (written kept : T → Option (List ℕ)) (contents : U → Option (List ℕ)) (st : Setting) (gone turn : List Act) (at history : History) (old : Server) (answers : Tally (Vec ℕ)) (after : ℕ) (log_old log_new : T) (out_old out_new : Tally U) (result : TurnEnd) (lag : ℕ) → lag ≤ old.lag → Stays st gone at turn history old
+    → TurnEnds written kept contents (log_of history) lag (answers_of turn) old.written after log_old log_new out_old out_new result → (inner_of answers).items ≡ [] → after ≤ length (log_of history)
+    → result ≡ end.Whole → Stays st (turn ++ gone) history [] history (record { served = old.served; pace = old.pace; answers = answers; counts = old.counts; written = after; lag = old.lag })
+turn_ended written kept contents st gone turn at history old answers after log_old log_new out_old out_new result lag less stays ends none within whole =
+    let enough : length (log_of history) ≤ after + lag = turn_keeps written kept contents (log_of history) (answers_of turn) old.written after log_old log_new out_old out_new result lag ends whole in
     record {
       serves = stays.serves;
       gone_by = lead_on st [] at history gone turn stays.gone_by stays.turn_by;
       turn_by = refl;
       waiting = none;
-      kept = kept_enough written kept (log_of history) old.lag old.written after log_old log_new (subst (TurnEnds written kept contents (log_of history) old.lag (answers_of turn) old.written after log_old log_new out_old out_new) whole ends).0;
+      kept = omega (arith, enough, less);
       within = within;
+      counts = stays.counts;
     }
 
 -- acts add to the log, or leave it

@@ -1,5 +1,5 @@
 -- What has gone out, act by act.
-use Rattle.std.proofs.Common.{◌≡◌, ℕ, zero, suc, ◌≤◌, ◌⊎◌, inl, inr, Bool, true, false, List, [], ◌∷◌, ◌++◌, length, take, drop, take_all, append-nil, refl, sym, ap, subst, ◌∙◌, arith, append_assoc}
+use Rattle.std.proofs.Common.{◌≡◌, ℕ, zero, suc, ◌+◌, ◌≤◌, ◌⊎◌, inl, inr, Bool, true, false, List, [], ◌∷◌, ◌++◌, length, take, drop, take_all, append-nil, refl, sym, ap, subst, ◌∙◌, arith, append_assoc}
 use Rattle.std.specs.Prelude.{Option, Some, None, Result, Ok, MatchBool}
 use Rattle.std.specs.List.{flat_map}
 use Rattle.std.specs.Io.KnownBytes.{Appends}
@@ -138,11 +138,11 @@ module _ {T U : Type 0} (written keeps : T → Option (List ℕ)) (contents : U 
       )
 
   -- a turn ended
-  pub turn_whole : (gone turn : List Act) (at history : History) (old : Service T U) (server : Server) (device : T) (answers : Tally U) → Holds written keeps contents log out st gone at turn history old
-      → TurnEnds written keeps contents (log_of history) old.server.lag (answers_of turn) old.server.written server.written old.log device old.out answers end.Whole → Stays st (turn ++ gone) history [] history server
+  pub turn_whole : (gone turn : List Act) (at history : History) (old : Service T U) (server : Server) (device : T) (answers : Tally U) (lag : ℕ) → Holds written keeps contents log out st gone at turn history old
+      → TurnEnds written keeps contents (log_of history) lag (answers_of turn) old.server.written server.written old.log device old.out answers end.Whole → Stays st (turn ++ gone) history [] history server
       → Holds written keeps contents log out st (turn ++ gone) history [] history (record { server = server; log = device; out = answers })
-  turn_whole gone turn at history old server device answers holds (is_out, (sent, failures)) stays =
-      let logged = log_is_out (log_of history) old.server.lag old.server.written server.written old.log device holds.logged holds.kept is_out in
+  turn_whole gone turn at history old server device answers lag holds (is_out, (sent, failures)) stays =
+      let logged = log_is_out (log_of history) lag old.server.written server.written old.log device holds.logged holds.kept is_out in
       record {
         stays = stays;
         sent = subst (Appends out (contents (inner_of answers))) (sym (answers_on gone turn)) (appends_then out (contents (inner_of old.out)) (contents (inner_of answers)) (answers_of gone) (answers_of turn) holds.sent sent);
@@ -170,10 +170,10 @@ module _ {T U : Type 0} (written keeps : T → Option (List ℕ)) (contents : U 
       }
 
   -- the log's device failed
-  pub log_cut : (gone turn : List Act) (at history : History) (old : Service T U) (after : ℕ) (device : T) (answers : Tally U) → Holds written keeps contents log out st gone at turn history old
-      → TurnEnds written keeps contents (log_of history) old.server.lag (answers_of turn) old.server.written after old.log device old.out answers end.LogCut
+  pub log_cut : (gone turn : List Act) (at history : History) (old : Service T U) (after : ℕ) (device : T) (answers : Tally U) (lag : ℕ) → Holds written keeps contents log out st gone at turn history old
+      → TurnEnds written keeps contents (log_of history) lag (answers_of turn) old.server.written after old.log device old.out answers end.LogCut
       → IsCutOff written keeps contents log out st old.server.lag gone at turn history device (inner_of answers)
-  log_cut gone turn at history old after device answers holds ((due, (appended, grown), e), same) =
+  log_cut gone turn at history old after device answers lag holds ((due, (appended, grown), e), same) =
       let begun = first_begin old.server.written at history (lead_extends st at history turn holds.stays.turn_by) in
       let before = less_grown log (keeps old.log) (first_text old.server.written (log_of at)) begun.0 (subst (GrowsFrom log (keeps old.log)) begun.1 holds.kept) in
       record {
@@ -187,18 +187,19 @@ module _ {T U : Type 0} (written keeps : T → Option (List ℕ)) (contents : U 
       }
 
   -- the answers' device failed
-  pub answers_cut : (gone turn : List Act) (at history : History) (old : Service T U) (after : ℕ) (device : T) (answers : Tally U) → Holds written keeps contents log out st gone at turn history old
-      → TurnEnds written keeps contents (log_of history) old.server.lag (answers_of turn) old.server.written after old.log device old.out answers end.AnswersCut
+  pub answers_cut : (gone turn : List Act) (at history : History) (old : Service T U) (after : ℕ) (device : T) (answers : Tally U) (lag : ℕ) → lag ≤ old.server.lag → Holds written keeps contents log out st gone at turn history old
+      → TurnEnds written keeps contents (log_of history) lag (answers_of turn) old.server.written after old.log device old.out answers end.AnswersCut
       → IsCutOff written keeps contents log out st old.server.lag (turn ++ gone) history [] history device (inner_of answers)
-  answers_cut gone turn at history old after device answers holds (is_out, (e, risen, sent)) =
-      let logged = log_is_out (log_of history) old.server.lag old.server.written after old.log device holds.logged holds.kept is_out in
+  answers_cut gone turn at history old after device answers lag less holds (is_out, (e, risen, sent)) =
+      let logged = log_is_out (log_of history) lag old.server.written after old.log device holds.logged holds.kept is_out in
+      let enough : length (log_of history) ≤ after + lag = kept_enough written keeps (log_of history) lag old.server.written after old.log device is_out in
       record {
         stands = (old.server.served.world, holds.stays.serves.stands, holds.stays.serves.setting);
         gone_by = lead_on st [] at history gone turn holds.stays.gone_by holds.stays.turn_by;
         turn_by = refl;
         sent = subst (AppendsBeginning out (contents (inner_of answers))) (sym (answers_on gone turn)) (begins_after out (contents (inner_of old.out)) (contents (inner_of answers)) (answers_of gone) (answers_of turn) holds.sent sent);
         logged = begun_log after (log_of history) device logged.0;
-        kept = (after, kept_enough written keeps (log_of history) old.server.lag old.server.written after old.log device is_out, logged.1);
+        kept = (after, omega (arith, enough, less), logged.1);
       }
 
 -- of the input nothing was read

@@ -7,10 +7,7 @@ use Rattle.pc_types.specs.declared.refusal.Refusal.{Refusal}
 use Rattle.pc_model.specs.Files.{File, shelf}
 use Rattle.pc_model.specs.History.{History}
 use Rattle.pc_model.specs.Replies.{Setting, IsLegal, IsLegalHistory}
-use Rattle.bstr.specs.Text.{without_terminator}
-use Rattle.bstr.proofs.lemmas.LineLemmas.{lines-nil}
-use Rattle.pc_lines.specs.Lines.{lines_in}
-use Rattle.pc_serving.specs.Inputs.{IsNextLine}
+use Rattle.pc_serving.specs.Inputs.{IsNextLine, whole_lines}
 use Rattle.pc_serving.specs.Points.{IsShelvedAs}
 use Rattle.pc_serving.specs.Requests.{request_of}
 use Rattle.pc_serving.specs.declared.pace.Turned.{Turned}
@@ -18,9 +15,11 @@ use Rattle.pc_serving.specs.declared.pace.Turned.TheVariants as turned
 use Rattle.pc_server.specs.Acts.{Act, AnswersRequest, is_quit, lines_of}
 use Rattle.pc_server.specs.Acts.Act.{Answered, WentOn}
 use Rattle.pc_server.specs.Files.{AreOfPoints, HasAllFiles, HasOnlyFiles, WithFiles, WithSomeFiles}
-use Rattle.pc_server.specs.Inputs.{AreAllLines, AreFirstLines, EndsServed, EndsWithin, HasSent, HasServed, HasServedAll, IsEnd, IsRead, ServesLine, ServesOn, Serving}
+use Rattle.pc_server.specs.Inputs.{AreAllLines, AreFirstLines, EndsServed, EndsWithin, HasSent, HasServed, HasStopped, IsEnd, IsRead, ServesLine, ServesOn, Serving, StopsAt}
 use Rattle.pc_server.specs.Services.{Holds, IsCutOff}
 use Rattle.pc_server.specs.declared.serve.ServeFault.{ServeFault}
+use Rattle.pc_server.specs.declared.serve.Stopped.{Stopped}
+use Rattle.pc_server.specs.declared.serve.Stopped.TheVariants as stopped
 use Rattle.pc_server.specs.declared.service.CutOff.{CutOff}
 use Rattle.pc_server.specs.declared.service.Service.{Service}
 use Rattle.pc_server.proofs.FileLaws.{LeavesShelf, files_of_points, line_leaves, turn_leaves}
@@ -30,7 +29,7 @@ use Rattle.pc_server.proofs.ServiceLaws.{held_cut}
 pub first_lines : (input left : Option (List ℕ)) (lines : List (List ℕ)) → IsRead input left lines → AreFirstLines input lines
 first_lines None left lines read = tt
 first_lines (Some text) None lines read = absurd read
-first_lines (Some text) (Some rest) lines read = (lines_in rest, read)
+first_lines (Some text) (Some rest) lines read = (whole_lines rest, read)
 
 -- and so are all
 all_first : (input : Option (List ℕ)) (lines : List (List ℕ)) → AreAllLines input lines → AreFirstLines input lines
@@ -43,17 +42,14 @@ lines_on gone [] = sym (append-nil (lines_of gone))
 lines_on gone (Answered line text ∷ turn) = ap (λ l. l ++ line ∷ []) (lines_on gone turn) ∙ append_assoc (lines_of gone) (lines_of turn) (line ∷ [])
 lines_on gone (WentOn step ∷ turn) = lines_on gone turn
 
-no_lines : lines_in [] ≡ []
-no_lines = ap (map without_terminator) lines-nil
-
 -- a line was read, or none was left
 pub next_read : (input before left : Option (List ℕ)) (line : List ℕ) (lines : List (List ℕ)) (some : Bool) → IsRead input before lines → IfSome before (λ rest. IsNextLine rest some line left) → MatchBool some (IsRead input left (lines ++ line ∷ [])) (AreAllLines input lines)
 next_read None before left line lines true read next = tt
 next_read None before left line lines false read next = tt
 next_read (Some text) None left line lines some read next = absurd read
 next_read (Some text) (Some rest) left line lines true read (behind, is, e) =
-    subst (λ o. IsRead (Some text) o (lines ++ line ∷ [])) (sym is) (read ∙ ap (λ l. lines ++ l) e ∙ sym (append_assoc lines (line ∷ []) (lines_in behind)))
-next_read (Some text) (Some rest) left line lines false read e = read ∙ ap (λ r. lines ++ lines_in r) e ∙ ap (λ l. lines ++ l) no_lines ∙ append-nil lines
+    subst (λ o. IsRead (Some text) o (lines ++ line ∷ [])) (sym is) (read ∙ ap (λ l. lines ++ l) e ∙ sym (append_assoc lines (line ∷ []) (whole_lines behind)))
+next_read (Some text) (Some rest) left line lines false read e = read ∙ ap (λ l. lines ++ l) e ∙ append-nil lines
 
 -- what asks for the end
 asks_end : (quits goes_on : Bool) → goes_on ≡ not quits → goes_on ≡ false → quits ≡ true
@@ -197,20 +193,43 @@ module _ {T U : Type 0} (written keeps : T → Option (List ℕ)) (contents : U 
       pub line_err : (new : Service T U) (result : Result Bool ServeFault) (why : ServeFault) → result ≡ Err why → LineOutcome new result → WithSomeFiles first now (λ files. EndsServed written keeps contents log out input st lag files new.log (inner_of new.out))
       line_err new result why is outcome = subst (LineOutcome new) is outcome
 
-    module _ (input : Option (List ℕ)) where
+    module _ (input left : Option (List ℕ)) where
       -- how the lines of an input may have ended
-      abbrev pub LinesOutcome : Service T U → Result (Unit {0}) ServeFault → Type 0
-      LinesOutcome new result = MatchResult result (λ _. WithFiles first now (λ files. HasServed written keeps contents log out input st lag files new)) (λ _. WithSomeFiles first now (λ files. EndsServed written keeps contents log out input st lag files new.log (inner_of new.out)))
+      abbrev pub LinesOutcome : Service T U → Result Stopped ServeFault → Type 0
+      LinesOutcome new result = MatchResult result (λ s. WithFiles first now (λ files. StopsAt written keeps contents log out input st lag left files new s)) (λ _. WithSomeFiles first now (λ files. EndsServed written keeps contents log out input st lag files new.log (inner_of new.out)))
 
-      pub lines_ok : (new : Service T U) (result : Result (Unit {0}) ServeFault) (u : Unit {0}) → result ≡ Ok u → LinesOutcome new result → WithFiles first now (λ files. HasServed written keeps contents log out input st lag files new)
-      lines_ok new result u is outcome = subst (LinesOutcome new) is outcome
+      -- what is served where no more lines are answered, and what is left once all answers are sent
+      abbrev pub Closes : Service T U → Stopped → Type 0
+      Closes new s = (files : List File) × (lines : List (List ℕ)) × AreFirstLines input lines × Serving written keeps contents log out st lag lines files new × HasAllFiles now files × HasOnlyFiles first now files
+          × ((later : Service T U) → HasSent written keeps contents log out st lag lines files later → HasStopped written keeps contents log out input st lag left files later s)
 
-      -- the last turn was sent, or cut off
-      pub all_sent : (lines : List (List ℕ)) (files : List File) (new : Service T U) (result : Result (Unit {0}) ServeFault) → IsEnd input lines → HasAllFiles now files → HasOnlyFiles first now files
+      closes : (new : Service T U) (s : Stopped) → WithFiles first now (λ files. StopsAt written keeps contents log out input st lag left files new s) → Closes new s
+      closes new stopped.Ended (files, (lines, ended, serving), all, only) = (files, lines, ended.0, serving, all, only, λ later sent. (lines, ended, sent))
+      closes new stopped.Filled (files, (lines, read, serving), all, only) = (files, lines, first_lines input left lines read, serving, all, only, λ later sent. (lines, read, sent))
+
+      pub lines_ok : (new : Service T U) (result : Result Stopped ServeFault) (s : Stopped) → result ≡ Ok s → LinesOutcome new result → Closes new s
+      lines_ok new result s is outcome = closes new s (subst (LinesOutcome new) is outcome)
+
+      -- the last turn was sent
+      pub all_sent : (lines : List (List ℕ)) (files : List File) (new : Service T U) (result : Result (Unit {0}) ServeFault) (s : Stopped) (u : Unit {0}) → result ≡ Ok u → HasAllFiles now files → HasOnlyFiles first now files
+          → ((later : Service T U) → HasSent written keeps contents log out st lag lines files later → HasStopped written keeps contents log out input st lag left files later s)
           → MatchResult result (λ _. HasSent written keeps contents log out st lag lines files new) (λ _. EndsWithin written keeps contents log out st lag lines files new.log (inner_of new.out))
-          → MatchResult result (λ _. WithFiles first now (λ files. HasServedAll written keeps contents log out input st lag files new)) (λ _. WithSomeFiles first now (λ files. EndsServed written keeps contents log out input st lag files new.log (inner_of new.out)))
-      all_sent lines files new (Ok u) ended all only sent = (files, (lines, ended, sent), all, only)
-      all_sent lines files new (Err why) ended all only ends = (files, (lines, ended.0, ends), only)
+          → WithFiles first now (λ files. HasStopped written keeps contents log out input st lag left files new s)
+      all_sent lines files new result s u is all only stops sent =
+          (files, stops new (subst (λ r. MatchResult r (λ _. HasSent written keeps contents log out st lag lines files new) (λ _. EndsWithin written keeps contents log out st lag lines files new.log (inner_of new.out))) is sent), all, only)
+
+      -- or cut off
+      pub last_cut : (lines : List (List ℕ)) (files : List File) (new : Service T U) (result : Result (Unit {0}) ServeFault) (why : ServeFault) → result ≡ Err why → AreFirstLines input lines → HasOnlyFiles first now files
+          → MatchResult result (λ _. HasSent written keeps contents log out st lag lines files new) (λ _. EndsWithin written keeps contents log out st lag lines files new.log (inner_of new.out))
+          → WithSomeFiles first now (λ files. EndsServed written keeps contents log out input st lag files new.log (inner_of new.out))
+      last_cut lines files new result why is firsts only sent =
+          (files, (lines, firsts, subst (λ r. MatchResult r (λ _. HasSent written keeps contents log out st lag lines files new) (λ _. EndsWithin written keeps contents log out st lag lines files new.log (inner_of new.out))) is sent), only)
+
+-- the lines to which all answers were sent are some first ones of the input
+pub stopped_sent : {T U : Type 0} (written keeps : T → Option (List ℕ)) (contents : U → Option (List ℕ)) (log out input left : Option (List ℕ)) (st : Setting) (lag : ℕ) (files : List File) (service : Service T U) (s : Stopped)
+    → HasStopped written keeps contents log out input st lag left files service s → (lines : List (List ℕ)) × AreFirstLines input lines × HasSent written keeps contents log out st lag lines files service
+stopped_sent written keeps contents log out input left st lag files service stopped.Ended (lines, ended, sent) = (lines, ended.0, sent)
+stopped_sent written keeps contents log out input left st lag files service stopped.Filled (lines, read, sent) = (lines, first_lines input left lines read, sent)
 
 -- one line more was read
 pub read_more : (input before left : Option (List ℕ)) (line : List ℕ) (lines : List (List ℕ)) (result : Result Bool ServeFault) → result ≡ Ok true

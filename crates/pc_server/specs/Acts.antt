@@ -1,8 +1,13 @@
 -- What a process that serves has done, and what it has answered.
-use Rattle.std.specs.Prelude.{◌≡◌, ℕ, Bool, true, false, List, [], ◌∷◌, ◌++◌, codes, decimal, length}
+use Rattle.std.specs.Prelude.{◌≡◌, ◌+◌, ◌-◌, ◌^◌, min, ℕ, Bool, true, false, List, [], ◌∷◌, ◌++◌, codes, decimal, length}
+use Rattle.pc_types.specs.declared.Entry.{Entry}
+use Rattle.pc_types.specs.declared.Entry.TheVariants.{Commit, Token}
 use Rattle.pc_types.specs.declared.Step.{Step}
+use Rattle.pc_model.specs.Files.{shelf}
 use Rattle.pc_model.specs.History.{History, log_of}
 use Rattle.pc_model.specs.Replies.{Setting, IsLegal}
+use Rattle.pc_log.specs.Texts.{log_text}
+use Rattle.pc_serving.specs.OpenSessions.{open_after}
 use Rattle.pc_serving.specs.Points.{is_checkpoint}
 use Rattle.pc_serving.specs.Requests.{request_of}
 use Rattle.pc_serving.specs.Serving.{AnswersServed}
@@ -23,15 +28,35 @@ is_quit other = false
 abbrev pub run_line : ℕ → List ℕ
 run_line run = codes "run " ++ (decimal run ++ codes "\n")
 
--- the line that tells how many entries the log has
-abbrev pub stats_line : ℕ → List ℕ
-stats_line entries = codes "entries=" ++ (decimal entries ++ codes "\n")
+-- it is the entry of a commit
+abbrev pub is_commit : Entry → Bool
+is_commit (Commit session writes) = true
+is_commit (Token phase point) = false
+
+-- how many of the entries are commits
+abbrev pub commits_in : List Entry → ℕ
+commits_in [] = 0
+commits_in (Commit session writes ∷ log) = commits_in log + 1
+commits_in (Token phase point ∷ log) = commits_in log
+
+-- how many bytes the log's text has, or the greatest number of 64 bits, where it has more
+abbrev pub log_size : ℕ → List Entry → ℕ
+log_size run log = min (length (log_text run log)) (2 ^ 64 - 1)
+
+-- the line of these numbers of entries, commits, files of points, sessions with an open transaction, and bytes
+abbrev pub stats_line : ℕ → ℕ → ℕ → ℕ → ℕ → List ℕ
+stats_line entries commits points open_sessions bytes =
+    codes "entries=" ++ (decimal entries ++ (codes " commits=" ++ (decimal commits ++ (codes " points=" ++ (decimal points ++ (codes " open=" ++ (decimal open_sessions ++ (codes " bytes=" ++ (decimal bytes ++ codes "\n")))))))))
+
+-- the line that tells what was done so far, in numbers
+abbrev pub stats_of : Setting → History → List ℕ
+stats_of st history = stats_line (length (log_of history)) (commits_in (log_of history)) (length (shelf st.run history)) (open_after st history) (log_size st.run (log_of history))
 
 -- what a request may be answered, and the history then; the end is answered by nothing
 abbrev pub AnswersRequest : Setting → History → Request → List ℕ → History → Type 0
 AnswersRequest st before (request.Line line) text after = AnswersServed st before line text after
 AnswersRequest st before request.Run text after = (text ≡ run_line st.run) × (after ≡ before)
-AnswersRequest st before request.Stats text after = (text ≡ stats_line (length (log_of before))) × (after ≡ before)
+AnswersRequest st before request.Stats text after = (text ≡ stats_of st before) × (after ≡ before)
 AnswersRequest st before request.Quit text after = (text ≡ []) × (after ≡ before)
 
 -- the acts, of which the last stands first, lead from the one history to the other

@@ -3,12 +3,14 @@ use Rattle.std.specs.Prelude.{◌≡◌, ◌⊎◌, ⊤, ℕ, Bool, true, false,
 use Rattle.pc_model.specs.Files.{File, shelf}
 use Rattle.pc_model.specs.History.{History}
 use Rattle.pc_model.specs.Replies.{Setting}
-use Rattle.pc_lines.specs.Lines.{lines_in}
+use Rattle.pc_serving.specs.Inputs.{whole_lines}
 use Rattle.pc_serving.specs.Requests.{request_of}
 use Rattle.pc_serving.specs.declared.pace.Turned.{Turned}
 use Rattle.pc_serving.specs.declared.pace.Turned.TheVariants as turned
 use Rattle.pc_server.specs.Acts.{Act, is_quit, lines_of}
 use Rattle.pc_server.specs.Services.{Holds, IsCutOff}
+use Rattle.pc_server.specs.declared.serve.Stopped.{Stopped}
+use Rattle.pc_server.specs.declared.serve.Stopped.TheVariants as stopped
 use Rattle.pc_server.specs.declared.service.Service.{Service}
 
 -- the number of the file that the checkpointer's turn has put on the shelf
@@ -16,21 +18,21 @@ abbrev pub shelved : Turned → Option ℕ
 shelved (turned.Shelved number) = Some number
 shelved other = None
 
--- of the input these lines were read, and this is left; nothing is said of an input whose bytes aren't known
+-- of the input these whole lines were read, and this is left; nothing is said of an input whose bytes aren't known
 abbrev pub IsRead : Option (List ℕ) → Option (List ℕ) → List (List ℕ) → Type 0
 IsRead None left lines = ⊤
 IsRead (Some text) None lines = ⊥
-IsRead (Some text) (Some rest) lines = lines_in text ≡ lines ++ lines_in rest
+IsRead (Some text) (Some rest) lines = whole_lines text ≡ lines ++ whole_lines rest
 
--- these are some first lines of the input
+-- these are some first whole lines of the input
 abbrev pub AreFirstLines : Option (List ℕ) → List (List ℕ) → Type 0
 AreFirstLines None lines = ⊤
-AreFirstLines (Some text) lines = (rest : List (List ℕ)) × (lines_in text ≡ lines ++ rest)
+AreFirstLines (Some text) lines = (rest : List (List ℕ)) × (whole_lines text ≡ lines ++ rest)
 
--- these are all lines of the input
+-- these are all whole lines of the input
 abbrev pub AreAllLines : Option (List ℕ) → List (List ℕ) → Type 0
 AreAllLines None lines = ⊤
-AreAllLines (Some text) lines = lines_in text ≡ lines
+AreAllLines (Some text) lines = whole_lines text ≡ lines
 
 -- the last of the lines asks for the end
 abbrev pub AskForEnd : List (List ℕ) → Type 0
@@ -69,11 +71,17 @@ ServesOn written keeps contents log out input st lag left files service = (lines
 abbrev pub HasServed : {T U : Type 0} → (T → Option (List ℕ)) → (T → Option (List ℕ)) → (U → Option (List ℕ)) → Option (List ℕ) → Option (List ℕ) → Option (List ℕ) → Setting → ℕ → List File → Service T U → Type 0
 HasServed written keeps contents log out input st lag files service = (lines : List (List ℕ)) × IsEnd input lines × Serving written keeps contents log out st lag lines files service
 
--- And all answers were sent.
-abbrev pub HasServedAll : {T U : Type 0} → (T → Option (List ℕ)) → (T → Option (List ℕ)) → (U → Option (List ℕ)) → Option (List ℕ) → Option (List ℕ) → Option (List ℕ) → Setting → ℕ → List File → Service T U → Type 0
-HasServedAll written keeps contents log out input st lag files service = (lines : List (List ℕ)) × IsEnd input lines × HasSent written keeps contents log out st lag lines files service
-
 -- what a line leaves, by whether more are to be answered
 abbrev pub ServesLine : {T U : Type 0} → (T → Option (List ℕ)) → (T → Option (List ℕ)) → (U → Option (List ℕ)) → Option (List ℕ) → Option (List ℕ) → Option (List ℕ) → Setting → ℕ → Option (List ℕ) → List File → Service T U → Bool → Type 0
 ServesLine written keeps contents log out input st lag left files service true = ServesOn written keeps contents log out input st lag left files service
 ServesLine written keeps contents log out input st lag left files service false = HasServed written keeps contents log out input st lag files service
+
+-- what is left where no more lines are answered
+abbrev pub StopsAt : {T U : Type 0} → (T → Option (List ℕ)) → (T → Option (List ℕ)) → (U → Option (List ℕ)) → Option (List ℕ) → Option (List ℕ) → Option (List ℕ) → Setting → ℕ → Option (List ℕ) → List File → Service T U → Stopped → Type 0
+StopsAt written keeps contents log out input st lag left files service stopped.Ended = HasServed written keeps contents log out input st lag files service
+StopsAt written keeps contents log out input st lag left files service stopped.Filled = ServesOn written keeps contents log out input st lag left files service
+
+-- And all answers were sent: to all lines, or to those that were read before the generation was full.
+abbrev pub HasStopped : {T U : Type 0} → (T → Option (List ℕ)) → (T → Option (List ℕ)) → (U → Option (List ℕ)) → Option (List ℕ) → Option (List ℕ) → Option (List ℕ) → Setting → ℕ → Option (List ℕ) → List File → Service T U → Stopped → Type 0
+HasStopped written keeps contents log out input st lag left files service stopped.Ended = (lines : List (List ℕ)) × IsEnd input lines × HasSent written keeps contents log out st lag lines files service
+HasStopped written keeps contents log out input st lag left files service stopped.Filled = (lines : List (List ℕ)) × IsRead input left lines × HasSent written keeps contents log out st lag lines files service

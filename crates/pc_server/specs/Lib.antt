@@ -4,3 +4,4 @@ pub mod Services
 pub mod Files
 pub mod Inputs
 pub mod Answered
+pub mod Generations

@@ -1,16 +1,28 @@
 -- How far a process that serves has come.
-use Rattle.std.specs.Prelude.{◌≡◌, ◌≤◌, ◌+◌, ◌-◌, ◌^◌, ℕ, List, [], length, min, nat_lt, if◌then◌else◌}
+use Rattle.std.specs.Prelude.{◌≡◌, ◌≤◌, ◌+◌, ◌-◌, ◌^◌, ℕ, List, [], length, min, nat_lt, slice_get, Bool, Some, if◌then◌else◌}
 use Rattle.pc_types.specs.Tallies.{inner_of}
+use Rattle.pc_types.specs.declared.Entry.{Entry}
 use Rattle.pc_model.specs.History.{History, log_of}
 use Rattle.pc_model.specs.Replies.{Setting}
+use Rattle.pc_log.specs.Texts.{entry_text}
 use Rattle.pc_serving.specs.Serving.{Serves}
 use Rattle.pc_serving.specs.declared.pace.Pace.{Pace}
-use Rattle.pc_server.specs.Acts.{Act, Lead, answers_of}
+use Rattle.pc_server.specs.Acts.{Act, Lead, answers_of, commits_in, log_size}
+use Rattle.pc_server.specs.declared.counts.Counts.{Counts}
 use Rattle.pc_server.specs.declared.server.Server.{Server}
 
 -- the pace behind a line, which has made a commit where the log has more entries than before
 abbrev pub paced : Pace → ℕ → ℕ → Pace
 paced pace before after = if nat_lt before after then record pace { commits = min (pace.commits + 1) (2 ^ 64 - 1) } else pace
+
+-- the counts of a log
+abbrev pub AreCounts : ℕ → List Entry → Counts → Type 0
+AreCounts run log counts = (counts.commits ≡ min (commits_in log) (2 ^ 64 - 1)) × (counts.bytes ≡ log_size run log)
+
+-- the entry that the log has behind its first so many was counted, if there is one: a commit, or else a token
+pub record IsNoted (commits : Bool) (log : List Entry) (before : ℕ) (old new : Counts) : Type 0 where
+  pub none : length log ≤ before → new ≡ old
+  pub some : (entry : Entry) → slice_get log before ≡ Some entry → new ≡ record { commits = if commits then min (old.commits + 1) (2 ^ 64 - 1) else old.commits; bytes = min (old.bytes + length (entry_text entry)) (2 ^ 64 - 1) }
 
 -- It did the acts `gone`, whose answers were sent, and then those of the turn, whose answers wait. Of the log as it was when the last
 -- answers were sent no more entries aren't kept than the lag.
@@ -21,3 +33,4 @@ pub record Stays (st : Setting) (gone : List Act) (at : History) (turn : List Ac
   pub waiting : (inner_of server.answers).items ≡ answers_of turn
   pub kept : length (log_of at) ≤ server.written + server.lag
   pub within : server.written ≤ length (log_of history)
+  pub counts : AreCounts st.run (log_of history) server.counts

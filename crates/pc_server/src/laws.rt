@@ -7,7 +7,8 @@ ghost use Rattle.pc_log.specs.Texts.{header_text};
 ghost use Rattle.pc_recover.specs.Runs.{IsForeign};
 ghost use Rattle.pc_server.specs.Answered.{LosesNoAnswer};
 ghost use Rattle.pc_server.specs.Files.{HasOnlyFiles};
-ghost use Rattle.pc_server.specs.Inputs.{EndsServed, HasServedAll};
+ghost use Rattle.pc_server.specs.Inputs.{EndsServed, HasStopped};
+ghost use Rattle.pc_server.specs.declared.serve.Stopped.{Stopped};
 
 use crate::serve::PointFiles;
 use crate::service::Service;
@@ -24,8 +25,8 @@ pub fn serving_loses_no_answer<L: LogDevice + Drop, W: Write + Drop, P: PointFil
     service: &Service<L, W>,
     points: &P,
 )
-    ensures { (input : Option (List ℕ)) (st : Setting) (lag : ℕ) (before sent : List ℕ) (files : List File) (first : P) → W.contents (inner_of service.now.out) ≡ Some (before ++ sent)
-        → HasServedAll L.written L.kept W.contents (Some (header_text st.run)) (Some before) input st lag files service.now ⊎ EndsServed L.written L.kept W.contents (Some (header_text st.run)) (Some before) input st lag files service.now.log (inner_of service.now.out)
+    ensures { (input left : Option (List ℕ)) (stopped : Stopped) (st : Setting) (lag : ℕ) (before sent : List ℕ) (files : List File) (first : P) → W.contents (inner_of service.now.out) ≡ Some (before ++ sent)
+        → HasStopped L.written L.kept W.contents (Some (header_text st.run)) (Some before) input st lag left files service.now stopped ⊎ EndsServed L.written L.kept W.contents (Some (header_text st.run)) (Some before) input st lag files service.now.log (inner_of service.now.out)
         → HasOnlyFiles (P.holds first) (P.holds points.now) files → ((point : ℕ) (text : List ℕ) → P.holds first point text → IsForeign st.run text)
         → LosesNoAnswer (P.holds points.now) (L.written service.now.log) (L.kept service.now.log) sent input st lag }
 {

@@ -2,12 +2,13 @@
 //! before the answers go out.
 #![tactic(auto)]
 
+mod counts;
 mod laws;
 mod serve;
 mod server;
 mod service;
 
 pub use laws::serving_loses_no_answer;
-pub use serve::{PointFiles, ServeFault, serve_input};
+pub use serve::{PointFiles, ServeFault, Stopped, serve_input};
 pub use server::Server;
 pub use service::{CutOff, Service};

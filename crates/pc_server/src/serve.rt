@@ -1,5 +1,5 @@
 //! The lines of an input are answered until it ends.
-ghost use Rattle.std.specs.Prelude.{◌≡◌, ◌++◌, ◌∷◌, [], not, ℕ, List, Option, Some, MatchResult, MatchBool, IfOk, OnOk};
+ghost use Rattle.std.specs.Prelude.{◌≡◌, ◌≤◌, ◌++◌, ◌∷◌, [], not, true, length, ℕ, List, Option, Some, MatchResult, MatchBool, IfOk, OnOk};
 ghost use Rattle.std.specs.Io.Buffered.{reader_remaining};
 ghost use Rattle.pc_types.specs.Tallies.{inner_of};
 ghost use Rattle.pc_model.specs.Files.{File, file_at};
@@ -7,7 +7,8 @@ ghost use Rattle.pc_model.specs.Replies.{Setting};
 ghost use Rattle.pc_serving.specs.Requests.{request_of};
 ghost use Rattle.pc_server.specs.Acts.{is_quit};
 ghost use Rattle.pc_server.specs.Files.{AreOfPoints, HasAllFiles, HasFile, HasNoMore, HasOnlyFiles, KeepsOthers, Shelves, WithFiles, WithSomeFiles};
-ghost use Rattle.pc_server.specs.Inputs.{shelved, IsRead, AreAllLines, Serving, HasSent, EndsWithin, EndsServed, ServesOn, ServesLine, HasServed, HasServedAll};
+ghost use Rattle.pc_server.specs.Generations.{is_filled};
+ghost use Rattle.pc_server.specs.Inputs.{shelved, IsRead, AreAllLines, Serving, HasSent, EndsWithin, EndsServed, ServesOn, ServesLine, StopsAt, HasServed, HasStopped};
 
 use crate::service::{CutOff, Service};
 use pc_part::Part;
@@ -27,6 +28,15 @@ pub enum ServeFault {
     Refused(Refusal),
     /// A device failed at the end of a turn.
     CutOff(CutOff),
+}
+
+/// Why no more lines are answered.
+#[derive(Clone, Copy, Debug, PartialEq, Eq)]
+pub enum Stopped {
+    /// The input has ended, or a line has asked for the end.
+    Ended,
+    /// The generation is full: the next one can begin, and answer the rest of the input.
+    Filled,
 }
 
 /// Where the files of points go. Contracts see the texts that it has under the points' numbers; of one of which that isn't known each
@@ -67,6 +77,23 @@ fn send<L: LogDevice + Drop, W: Write + Drop>(
         → MatchResult result (λ _. HasSent L.written L.kept W.contents log out st lag lines files service.new) (λ _. EndsWithin L.written L.kept W.contents log out st lag lines files service.new.log (inner_of service.new.out)) }
 {
     match service.end_turn(alloc) {
+        Ok(()) => Ok(()),
+        Err(why) => Err(ServeFault::CutOff(why)),
+    }
+}
+
+// The last turn ends, and all of the log is kept.
+fn send_all<L: LogDevice + Drop, W: Write + Drop>(
+    alloc: Global,
+    service: &mut Service<L, W>,
+) -> Result<(), ServeFault>
+    requires { (log out : Option (List ℕ)) × (st : Setting) × (lag : ℕ) × (lines : List (List ℕ)) × (files : List File) × Serving L.written L.kept W.contents log out st lag lines files service.old }
+    ensures sent { (log out : Option (List ℕ)) (st : Setting) (lag : ℕ) (lines : List (List ℕ)) (files : List File) → Serving L.written L.kept W.contents log out st lag lines files service.old
+        → MatchResult result (λ _. HasSent L.written L.kept W.contents log out st lag lines files service.new) (λ _. EndsWithin L.written L.kept W.contents log out st lag lines files service.new.log (inner_of service.new.out)) }
+    ensures all { OnOk result (length service.new.server.served.world.log ≤ service.new.server.written) }
+    ensures same { service.new.server.served ≡ service.old.server.served }
+{
+    match service.close(alloc) {
         Ok(()) => Ok(()),
         Err(why) => Err(ServeFault::CutOff(why)),
     }
@@ -226,33 +253,40 @@ fn serve_line<R: Read + Drop, L: LogDevice + Drop, W: Write + Drop, P: PointFile
     }
 }
 
-// Answers line after line, until the input ends or a line asks for the end.
+// Answers line after line, until the generation is full, the input ends, or a line asks for the end.
 fn serve_lines<R: Read + Drop, L: LogDevice + Drop, W: Write + Drop, P: PointFiles>(
     alloc: Global,
     service: &mut Service<L, W>,
     input: &mut BufReader<R>,
     points: &mut P,
-) -> Result<(), ServeFault>
+    roll: usize,
+) -> Result<Stopped, ServeFault>
     requires { (log out text : Option (List ℕ)) × (st : Setting) × (lag : ℕ) × (first : P) × WithFiles (P.holds first) (P.holds points.old) (λ files. ServesOn L.written L.kept W.contents log out text st lag (reader_remaining R.remaining input.old) files service.old) }
-    ensures { (log out text : Option (List ℕ)) (st : Setting) (lag : ℕ) (first : P) → WithFiles (P.holds first) (P.holds points.old) (λ files. ServesOn L.written L.kept W.contents log out text st lag (reader_remaining R.remaining input.old) files service.old)
+    ensures served { (log out text : Option (List ℕ)) (st : Setting) (lag : ℕ) (first : P) → WithFiles (P.holds first) (P.holds points.old) (λ files. ServesOn L.written L.kept W.contents log out text st lag (reader_remaining R.remaining input.old) files service.old)
         → MatchResult result
-        (λ _. WithFiles (P.holds first) (P.holds points.new) (λ files. HasServed L.written L.kept W.contents log out text st lag files service.new))
+        (λ stopped. WithFiles (P.holds first) (P.holds points.new) (λ files. StopsAt L.written L.kept W.contents log out text st lag (reader_remaining R.remaining input.new) files service.new stopped))
         (λ _. WithSomeFiles (P.holds first) (P.holds points.new) (λ files. EndsServed L.written L.kept W.contents log out text st lag files service.new.log (inner_of service.new.out))) }
+    ensures filled { IfOk result (λ stopped. stopped ≡ Stopped.Filled → is_filled roll service.new.server.served.world ≡ true) }
 {
     let mut line = Vec::new(alloc);
     for _ in 0..u64::MAX {
+        if service.is_filled(roll) {
+            return Ok(Stopped::Filled);
+        }
         match serve_line(alloc, service, input, &mut line, points) {
             Ok(true) => {}
-            Ok(false) => return Ok(()),
+            Ok(false) => return Ok(Stopped::Ended),
             Err(why) => return Err(why),
         }
     }
     Err(ServeFault::Refused(Refusal::Full))
 }
 
-/// Answers the lines of the input, one after the other, until it ends or a line asks for the end (`quit`). A turn ends where no whole
+/// Answers the lines of the input, one after the other, until it ends, a line asks for the end (`quit`), or the generation is full: its log
+/// has at least `roll` entries, or 60,000 points were taken, and no session has a transaction open. A turn ends where no whole
 /// line is left of what was read, so it has at most as many bytes of lines as the reader's buffer; the points that are due are taken
-/// between the lines. Where nothing fails all lines were answered, or all up to that one, and all answers are sent. At every other end,
+/// between the lines. Where nothing fails all lines were answered, or all up to that one, or all that were read before the generation was
+/// full, whose rest the input still has; all answers are sent, and all of the log is kept, whatever the lag. At every other end,
 /// and so whatever device fails at whatever call: some first lines of the input were answered, of their answers a beginning was sent, and
 /// nothing else, and of the log as it was then no more entries aren't kept than the lag. Each file of a point was given to `points`,
 /// which has its text, and nothing else of that run; where the service ends because one can't be kept, `points` may lack that one.
@@ -261,15 +295,21 @@ pub fn serve_input<R: Read + Drop, L: LogDevice + Drop, W: Write + Drop, P: Poin
     service: &mut Service<L, W>,
     input: &mut BufReader<R>,
     points: &mut P,
-) -> Result<(), ServeFault>
+    roll: usize,
+) -> Result<Stopped, ServeFault>
     requires { (log out text : Option (List ℕ)) × (st : Setting) × (lag : ℕ) × (first : P) × WithFiles (P.holds first) (P.holds points.old) (λ files. ServesOn L.written L.kept W.contents log out text st lag (reader_remaining R.remaining input.old) files service.old) }
-    ensures { (log out text : Option (List ℕ)) (st : Setting) (lag : ℕ) (first : P) → WithFiles (P.holds first) (P.holds points.old) (λ files. ServesOn L.written L.kept W.contents log out text st lag (reader_remaining R.remaining input.old) files service.old)
+    ensures served { (log out text : Option (List ℕ)) (st : Setting) (lag : ℕ) (first : P) → WithFiles (P.holds first) (P.holds points.old) (λ files. ServesOn L.written L.kept W.contents log out text st lag (reader_remaining R.remaining input.old) files service.old)
         → MatchResult result
-        (λ _. WithFiles (P.holds first) (P.holds points.new) (λ files. HasServedAll L.written L.kept W.contents log out text st lag files service.new))
+        (λ stopped. WithFiles (P.holds first) (P.holds points.new) (λ files. HasStopped L.written L.kept W.contents log out text st lag (reader_remaining R.remaining input.new) files service.new stopped))
         (λ _. WithSomeFiles (P.holds first) (P.holds points.new) (λ files. EndsServed L.written L.kept W.contents log out text st lag files service.new.log (inner_of service.new.out))) }
+    ensures filled { IfOk result (λ stopped. stopped ≡ Stopped.Filled → is_filled roll service.new.server.served.world ≡ true) }
+    ensures all { OnOk result (length service.new.server.served.world.log ≤ service.new.server.written) }
 {
-    match serve_lines(alloc, service, input, points) {
-        Ok(()) => send(alloc, service),
+    match serve_lines(alloc, service, input, points, roll) {
+        Ok(stopped) => match send_all(alloc, service) {
+            Ok(()) => Ok(stopped),
+            Err(why) => Err(why),
+        },
         Err(why) => Err(why),
     }
 }

@@ -1,5 +1,5 @@
 //! The store that is served, in turns.
-ghost use Rattle.std.specs.Prelude.{◌≡◌, ◌⊎◌, ◌≤◌, ◌++◌, ◌∷◌, [], not, ℕ, List, length, option_copied, Ok, OnOk, IfOk, IfErr};
+ghost use Rattle.std.specs.Prelude.{◌≡◌, ◌⊎◌, ◌≤◌, ◌+◌, ◌++◌, ◌∷◌, [], not, true, ℕ, List, length, option_copied, Some, Ok, OnOk, IfOk, IfErr};
 ghost use Rattle.pc_types.specs.Tallies.{Puts, inner_of};
 ghost use Rattle.pc_types.specs.declared.Step.{Step};
 ghost use Rattle.pc_model.specs.History.{History, log_of};
@@ -11,12 +11,17 @@ ghost use Rattle.pc_turn.specs.Turns.{TurnEnds};
 ghost use Rattle.pc_serving.specs.Points.{IsShelvedAs};
 ghost use Rattle.pc_serving.specs.Requests.{request_of};
 ghost use Rattle.pc_serving.specs.declared.pace.Turned.TheVariants as turned;
+ghost use Rattle.pc_serving.specs.OpenSessions.{open_now};
 ghost use Rattle.pc_server.specs.Acts.{Act, AnswersRequest, answers_of, is_quit, run_line, stats_line};
 ghost use Rattle.pc_server.specs.Acts.Act.{Answered, WentOn};
-ghost use Rattle.pc_server.specs.Turns.{Stays, paced};
+ghost use Rattle.pc_serving.specs.declared.request.Request.TheVariants as request;
+ghost use Rattle.pc_server.specs.Generations.{has_many, is_filled};
+ghost use Rattle.pc_server.specs.Turns.{IsNoted, Stays, paced};
 
+use crate::counts::Counts;
 use itoa::Buffer;
 use pc_engine::World;
+use pc_lines::Line;
 use pc_part::Part;
 use pc_serving::{Pace, Request, Served, Turned, read_request};
 use pc_turn::{LogDevice, TurnEnd, end_turn};
@@ -25,12 +30,16 @@ use std::alloc::Global;
 use std::io::Write;
 use std::mem;
 
+/// Once this many points were taken a generation is full, whatever its log has: no more than 65,535 can be.
+const MOST_POINTS: usize = 60_000;
+
 /// A store that is served in turns: the answers of a turn wait until what the log has more is kept.
 #[derive(Drop)]
 pub struct Server {
     served: Served,
     pace: Pace,
     answers: Tally<Vec<u8>>,
+    counts: Counts,
     // How many entries of the log are kept.
     written: usize,
     lag: usize,
@@ -39,15 +48,20 @@ pub struct Server {
 impl Server {
     /// The store is served from now on; nothing was asked of it. At the end of a turn at most as many entries of the log may not be kept
     /// as the lag says. A point begins after each `every` commits, and none does with 0.
+    #[tactic(auto, using(crate::proofs::CountLaws::none_counted))]
     pub fn new(alloc: Global, world: World, every: u64, lag: usize) -> Server
         ensures stays { Stands world [] → Stays (setting_of world) [] [] [] [] result }
         ensures lag { result.lag ≡ lag }
         ensures written { result.written ≡ 0 }
     {
+        let served = Served::new(world);
+        let answers = Tally::new(Vec::new(alloc));
+        let counts = Counts::new();
         Server {
-            served: Served::new(world),
+            served,
             pace: Pace::new(every),
-            answers: Tally::new(Vec::new(alloc)),
+            answers,
+            counts,
             written: 0,
             lag,
         }
@@ -67,22 +81,9 @@ impl Server {
     {
         let request = read_request(alloc, line)?;
         let goes_on = !matches!(&request, Request::Quit);
-        let before = self.served.world.log().len();
         match self.tell(alloc, request) {
-            Ok(()) => {
-                self.note_since(before);
-                Ok(goes_on)
-            }
+            Ok(()) => Ok(goes_on),
             Err(_) => Err(Refusal::OutOfMemory),
-        }
-    }
-
-    // Counts a commit where the log has more entries than before a line, of which no other one adds any.
-    fn note_since(&mut self, before: usize)
-        ensures { self.new ≡ record self.old { pace = paced self.old.pace before (length self.old.served.world.log) } }
-    {
-        if self.served.world.log().len() > before {
-            self.pace.note_commit();
         }
     }
 
@@ -91,14 +92,62 @@ impl Server {
         ensures told { (st : Setting) (gone turn : List Act) (at history : History) → Stays st gone at turn history self.old
             → OnOk result ((text : List ℕ) × (next : History) × AnswersRequest st history request text next
             × ((line : List ℕ) → request_of line ≡ request → Stays st gone at (Answered line text ∷ turn) next self.new)) }
-        ensures same { (self.new.lag ≡ self.old.lag) × (self.new.written ≡ self.old.written) × (self.new.pace ≡ self.old.pace) }
+        ensures same { (self.new.lag ≡ self.old.lag) × (self.new.written ≡ self.old.written) }
+        ensures paced { OnOk result (self.new.pace ≡ paced self.old.pace (length self.old.served.world.log) (length self.new.served.world.log)) }
     {
         match request {
             Request::Quit => Ok(()),
             Request::Run => put_run(self.served.world.base().run(), &mut self.answers),
-            Request::Stats => put_stats(self.served.world.log().len(), &mut self.answers),
-            Request::Line(line) => self.served.answer(alloc, line, &mut self.answers),
+            Request::Stats => self.put_stats(),
+            Request::Line(line) => self.ask(alloc, line),
         }
+    }
+
+    // Answers the line of a script.
+    fn ask(&mut self, alloc: Global, line: Line) -> Result<(), Refusal>
+        ensures told { (st : Setting) (gone turn : List Act) (at history : History) → Stays st gone at turn history self.old
+            → OnOk result ((text : List ℕ) × (next : History) × AnswersRequest st history (request.Line line) text next
+            × ((bytes : List ℕ) → request_of bytes ≡ request.Line line → Stays st gone at (Answered bytes text ∷ turn) next self.new)) }
+        ensures same { (self.new.lag ≡ self.old.lag) × (self.new.written ≡ self.old.written) }
+        ensures paced { OnOk result (self.new.pace ≡ paced self.old.pace (length self.old.served.world.log) (length self.new.served.world.log)) }
+    {
+        let before = self.served.world.log().len();
+        match self.served.answer(alloc, line, &mut self.answers) {
+            Ok(()) => {
+                self.note_since(before);
+                Ok(())
+            }
+            Err(why) => Err(why),
+        }
+    }
+
+    // Counts what the log has more than before a line: a commit, of which no other one adds any.
+    fn note_since(&mut self, before: usize)
+        ensures changed { self.new ≡ record self.old { pace = paced self.old.pace before (length self.old.served.world.log); counts = self.new.counts } }
+        ensures noted { IsNoted true self.old.served.world.log before self.old.counts self.new.counts }
+    {
+        self.counts.note(self.served.world.log(), before, true);
+        self.note_pace(before);
+    }
+
+    // Counts a commit towards the next point where the log has more entries than before a line.
+    fn note_pace(&mut self, before: usize)
+        ensures { self.new ≡ record self.old { pace = paced self.old.pace before (length self.old.served.world.log) } }
+    {
+        if self.served.world.log().len() > before {
+            self.pace.note_commit();
+        }
+    }
+
+    // Tells what was done so far, in numbers.
+    fn put_stats(&mut self) -> Result<(), Refusal>
+        ensures told { Puts (λ bytes. Some bytes.items) self.old.answers self.new.answers result (stats_line (length self.old.served.world.log) self.old.counts.commits (length self.old.served.world.shelf) (open_now self.old.served.world) self.old.counts.bytes) }
+        ensures others { self.new ≡ record self.old { answers = self.new.answers } }
+    {
+        let entries = self.served.world.log().len();
+        let points = self.served.world.files().len();
+        let opened = self.served.open_sessions();
+        put_stats(entries, &self.counts, points, opened, &mut self.answers)
     }
 
     /// Asks the next event of the point's cycle, where one is due, as `Pace::go_on` does, and tells of a file exactly where its reply
@@ -108,7 +157,10 @@ impl Server {
             → (Stays st gone at turn history self.new × (result ≡ Ok turned.Nothing)) ⊎ ((step : Step) × Stays st gone at (WentOn step ∷ turn) (step ∷ history) self.new × IsShelvedAs step.reply result) }
         ensures same { (self.new.lag ≡ self.old.lag) × (self.new.written ≡ self.old.written) }
     {
-        self.pace.go_on(&mut self.served.world)
+        let before = self.served.world.log().len();
+        let turned = self.pace.go_on(&mut self.served.world);
+        self.counts.note(self.served.world.log(), before, false);
+        turned
     }
 
     /// The shelf's file of this number.
@@ -118,23 +170,57 @@ impl Server {
         self.served.world.file(number)
     }
 
-    /// The turn ends, as `pc_turn` `end_turn` says: what the log has more than was kept goes out, where it is more than the lag, and
-    /// is kept; and then the answers of the turn are sent.
+    /// Whether the generation is full: its log has at least this many entries, or 60,000 points were taken; and no session has a
+    /// transaction open, so that the next one can begin.
+    pub fn is_filled(&self, entries: usize) -> bool
+        ensures { result ≡ is_filled entries self.now.served.world }
+    {
+        self.has_many(entries) && self.served.open_sessions() == 0
+    }
+
+    // Whether the log has at least this many entries, or 60,000 points were taken.
+    fn has_many(&self, entries: usize) -> bool
+        ensures { result ≡ has_many entries self.now.served.world }
+    {
+        self.served.world.log().len() >= entries || self.served.world.files().len() >= MOST_POINTS
+    }
+
+    /// How many entries of the log may not be kept at the end of a turn.
+    pub fn lag(&self) -> usize
+        ensures { result ≡ self.now.lag }
+    {
+        self.lag
+    }
+
+    /// The store, which is served no more.
+    pub fn into_world(self) -> World
+        ensures { result ≡ self.served.world }
+    {
+        let Server { served, .. } = self;
+        let Served { world, .. } = served;
+        world
+    }
+
+    /// The turn ends, as `pc_turn` `end_turn` says: what the log has more than was kept goes out, where it is more than this lag, which
+    /// is at most the server's own, and is kept; and then the answers of the turn are sent.
     pub fn end_turn<L: LogDevice, W: Write>(
         &mut self,
         alloc: Global,
+        lag: usize,
         log: &mut L,
         out: &mut Tally<W>,
     ) -> TurnEnd
         requires within { self.old.written ≤ length self.old.served.world.log }
+        requires lag { lag ≤ self.old.lag }
         ensures ends { (st : Setting) (gone turn : List Act) (at history : History) → Stays st gone at turn history self.old
-            → TurnEnds L.written L.kept W.contents (log_of history) self.old.lag (answers_of turn) self.old.written self.new.written log.old log.new out.old out.new result
+            → TurnEnds L.written L.kept W.contents (log_of history) lag (answers_of turn) self.old.written self.new.written log.old log.new out.old out.new result
             × (result ≡ TurnEnd.Whole → Stays st (turn ++ gone) history [] history self.new) }
-        ensures lag { self.new.lag ≡ self.old.lag }
+        ensures all { result ≡ TurnEnd.Whole → length self.new.served.world.log ≤ self.new.written + lag }
+        ensures same { (self.new.lag ≡ self.old.lag) × (self.new.served ≡ self.old.served) }
     {
         let answers = take_all(alloc, &mut self.answers);
         let kept = self.served.world.log();
-        end_turn(kept, &mut self.written, self.lag, log, &answers, out)
+        end_turn(kept, &mut self.written, lag, log, &answers, out)
     }
 }
 
@@ -153,9 +239,29 @@ fn put_run<W: Write>(run: u64, out: &mut Tally<W>) -> Result<(), Refusal>
     out.put_all(&[b"run ", buffer.format(run).as_bytes(), b"\n"])
 }
 
-fn put_stats<W: Write>(entries: usize, out: &mut Tally<W>) -> Result<(), Refusal>
-    ensures { Puts W.contents out.old out.new result (stats_line entries) }
+fn put_stats<W: Write>(
+    entries: usize,
+    counts: &Counts,
+    points: usize,
+    opened: u8,
+    out: &mut Tally<W>,
+) -> Result<(), Refusal>
+    ensures { Puts W.contents out.old out.new result (stats_line entries counts.now.commits points opened counts.now.bytes) }
 {
-    let mut buffer = Buffer::new();
-    out.put_all(&[b"entries=", buffer.format(entries).as_bytes(), b"\n"])
+    let (mut first, mut second) = (Buffer::new(), Buffer::new());
+    let (mut third, mut fourth) = (Buffer::new(), Buffer::new());
+    let mut last = Buffer::new();
+    out.put_all(&[
+        b"entries=",
+        first.format(entries).as_bytes(),
+        b" commits=",
+        second.format(counts.commits).as_bytes(),
+        b" points=",
+        third.format(points).as_bytes(),
+        b" open=",
+        fourth.format(opened).as_bytes(),
+        b" bytes=",
+        last.format(counts.bytes).as_bytes(),
+        b"\n",
+    ])
 }

@@ -1,5 +1,5 @@
 //! The store that is served, with the devices to which its log and its answers go.
-ghost use Rattle.std.specs.Prelude.{◌≡◌, ◌⊎◌, ◌≤◌, ◌++◌, ◌∷◌, [], not, ℕ, List, length, Option, option_copied, Ok, OnOk, OnErr, IfOk, IfErr, MatchResult};
+ghost use Rattle.std.specs.Prelude.{◌≡◌, ◌⊎◌, ◌≤◌, ◌+◌, ◌++◌, ◌∷◌, [], not, ℕ, List, length, Option, option_copied, Ok, OnOk, OnErr, IfOk, IfErr, MatchResult};
 ghost use Rattle.pc_types.specs.Tallies.{inner_of};
 ghost use Rattle.pc_types.specs.declared.Step.{Step};
 ghost use Rattle.pc_model.specs.History.{History};
@@ -13,6 +13,7 @@ ghost use Rattle.pc_serving.specs.declared.pace.Turned.TheVariants as turned;
 ghost use Rattle.pc_turn.specs.Devices.{Grows};
 ghost use Rattle.pc_server.specs.Acts.{Act, AnswersRequest, is_quit};
 ghost use Rattle.pc_server.specs.Acts.Act.{Answered, WentOn};
+ghost use Rattle.pc_server.specs.Generations.{is_filled};
 ghost use Rattle.pc_server.specs.Inputs.{ServesOn};
 ghost use Rattle.pc_server.specs.Services.{Holds, IsCutOff};
 
@@ -71,6 +72,18 @@ impl<L: LogDevice + Drop, W: Write + Drop> Service<L, W> {
         (log, out)
     }
 
+    /// The store, which is served no more, and the output, as they stand.
+    pub fn into_world(self) -> (World, Tally<W>)
+        ensures { result ≡ (self.server.served.world, self.out) }
+    {
+        let Service {
+            server,
+            log: _,
+            out,
+        } = self;
+        (server.into_world(), out)
+    }
+
     /// Answers a line, as `Server::answer` does; nothing goes out.
     pub fn answer(&mut self, alloc: Global, line: &[u8]) -> Result<bool, Refusal>
         ensures answered { (st : Setting) (log out : Option (List ℕ)) (gone turn : List Act) (at history : History) → Holds L.written L.kept W.contents log out st gone at turn history self.old
@@ -101,6 +114,13 @@ impl<L: LogDevice + Drop, W: Write + Drop> Service<L, W> {
         self.server.file(number)
     }
 
+    /// Whether the generation is full, as `Server::is_filled` says.
+    pub fn is_filled(&self, entries: usize) -> bool
+        ensures { result ≡ is_filled entries self.now.server.served.world }
+    {
+        self.server.is_filled(entries)
+    }
+
     /// The turn ends: what the log has more than was kept is kept, where it is more than the lag, and then the answers of the turn are
     /// sent. Where a device fails, what was sent before, or a beginning of it with the answers of this turn, is all that was, and of the
     /// log as it was then no more entries aren't kept than the lag.
@@ -113,7 +133,40 @@ impl<L: LogDevice + Drop, W: Write + Drop> Service<L, W> {
             ⊎ IsCutOff L.written L.kept W.contents log out st self.old.server.lag (turn ++ gone) history [] history self.new.log (inner_of self.new.out)) }
         ensures lag { self.new.server.lag ≡ self.old.server.lag }
     {
-        match self.server.end_turn(alloc, &mut self.log, &mut self.out) {
+        let lag = self.server.lag();
+        self.end_with(alloc, lag)
+    }
+
+    /// The last turn ends, as `end_turn` does, but all of the log is kept, whatever the lag. The store is as it was.
+    pub fn close(&mut self, alloc: Global) -> Result<(), CutOff>
+        requires within { self.old.server.written ≤ length self.old.server.served.world.log }
+        ensures ended { (st : Setting) (log out : Option (List ℕ)) (gone turn : List Act) (at history : History) → Holds L.written L.kept W.contents log out st gone at turn history self.old
+            → MatchResult result
+            (λ _. Holds L.written L.kept W.contents log out st (turn ++ gone) history [] history self.new)
+            (λ _. IsCutOff L.written L.kept W.contents log out st self.old.server.lag gone at turn history self.new.log (inner_of self.new.out)
+            ⊎ IsCutOff L.written L.kept W.contents log out st self.old.server.lag (turn ++ gone) history [] history self.new.log (inner_of self.new.out)) }
+        ensures all { OnOk result (length self.new.server.served.world.log ≤ self.new.server.written) }
+        ensures same { (self.new.server.lag ≡ self.old.server.lag) × (self.new.server.served ≡ self.old.server.served) }
+    {
+        self.end_with(alloc, 0)
+    }
+
+    // The turn ends with this lag, which is at most the server's own.
+    fn end_with(&mut self, alloc: Global, lag: usize) -> Result<(), CutOff>
+        requires within { self.old.server.written ≤ length self.old.server.served.world.log }
+        requires lag { lag ≤ self.old.server.lag }
+        ensures ended { (st : Setting) (log out : Option (List ℕ)) (gone turn : List Act) (at history : History) → Holds L.written L.kept W.contents log out st gone at turn history self.old
+            → MatchResult result
+            (λ _. Holds L.written L.kept W.contents log out st (turn ++ gone) history [] history self.new)
+            (λ _. IsCutOff L.written L.kept W.contents log out st self.old.server.lag gone at turn history self.new.log (inner_of self.new.out)
+            ⊎ IsCutOff L.written L.kept W.contents log out st self.old.server.lag (turn ++ gone) history [] history self.new.log (inner_of self.new.out)) }
+        ensures all { OnOk result (length self.new.server.served.world.log ≤ self.new.server.written + lag) }
+        ensures same { (self.new.server.lag ≡ self.old.server.lag) × (self.new.server.served ≡ self.old.server.served) }
+    {
+        match self
+            .server
+            .end_turn(alloc, lag, &mut self.log, &mut self.out)
+        {
             TurnEnd::Whole => Ok(()),
             TurnEnd::LogCut => Err(CutOff::Log),
             TurnEnd::AnswersCut => Err(CutOff::Answers),

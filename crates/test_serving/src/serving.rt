@@ -1,9 +1,10 @@
 //! What a served store answers, and what it leaves wherever a device fails.
 use crate::devices::{Files, MemoryLog, Output, Pieces};
 use pc_engine::World;
+use pc_opening::next_base;
 use pc_part::{Base, Part};
 use pc_recover::recover;
-use pc_server::{CutOff, ServeFault, Service, serve_input};
+use pc_server::{CutOff, ServeFault, Service, Stopped, serve_input};
 use pc_types::{Refusal, Tally};
 use std::alloc::Global;
 use std::hash::RandomState;
@@ -15,7 +16,7 @@ const LINES: &[u8] =
     b"run\nbegin 1\nput 1 fig 7\nbegin 2\nadd 1 n 5\ncommit 1\nget 2 fig\nbegin 1\nget 1 pear\nput 2 pear 1\ncommit 1\ncommit 2\r\npoint\nstats\n\nfoo\n\n\n\n\n\n\n\n\n\n\n\nbegin 3\nquit\nbegin 2\n";
 
 const ANSWERS: &[u8] =
-    b"run 9\nbegun 1\nok\nbegun 2\nsum 5\ncommitted 1\n= 7\nbegun 3\nabsent\nwait\ncommitted 2\ngranted 2\ncommitted 3\nrefused WrongPhase\nentries=3\nbad line\nrefused NoSession\n";
+    b"run 9\nbegun 1\nok\nbegun 2\nsum 5\ncommitted 1\n= 7\nbegun 3\nabsent\nwait\ncommitted 2\ngranted 2\ncommitted 3\nrefused WrongPhase\nentries=3 commits=3 points=0 open=0 bytes=71\nbad line\nrefused NoSession\n";
 
 // What stands first in the log of run 9.
 const HEADER: &[u8] = b"PCALCL02\0\0\0\0\0\0\0\x09\0\0\0\0";
@@ -23,7 +24,7 @@ const HEADER: &[u8] = b"PCALCL02\0\0\0\0\0\0\0\x09\0\0\0\0";
 // What a store that was served leaves.
 #[derive(Drop)]
 struct Left {
-    ended: Result<(), ServeFault>,
+    ended: Result<Stopped, ServeFault>,
     log: MemoryLog,
     sent: Vec<u8>,
     files: Vec<Vec<u8>>,
@@ -42,25 +43,29 @@ fn keeper(alloc: Global, room: usize) -> Files {
     Files { alloc, texts, room }
 }
 
-// How a store is served: by which pieces the input comes, with how many calls of the log, bytes of answers and files of points that
-// succeed, and how many commits between two points.
+// How a store is served: which lines, by which pieces the input comes, with how many calls of the log, bytes of answers and files of points that
+// succeed, how many commits between two points, and with how many entries of the log the generation is full.
 #[derive(Clone, Copy)]
 struct Case {
+    lines: &'static [u8],
     step: usize,
     calls: usize,
     room: usize,
     files: usize,
     every: u64,
     lag: usize,
+    roll: usize,
 }
 
 const SOUND: Case = Case {
+    lines: LINES,
     step: 4096,
     calls: 1_000_000,
     room: 1_000_000,
     files: 1_000,
     every: 0,
     lag: 0,
+    roll: 1_000_000,
 };
 
 fn served(rt: &HostRuntime, case: Case) -> Result<Left, Fail> {
@@ -74,12 +79,12 @@ fn served(rt: &HostRuntime, case: Case) -> Result<Left, Fail> {
     let log = device(alloc, case.calls);
     let mut service = Service::new(alloc, world, case.every, case.lag, log, Tally::new(out));
     let input = Pieces {
-        rest: LINES,
+        rest: case.lines,
         step: case.step,
     };
     let mut input = BufReader::new(alloc, input)?;
     let mut files = keeper(alloc, case.files);
-    let ended = serve_input(alloc, &mut service, &mut input, &mut files);
+    let ended = serve_input(alloc, &mut service, &mut input, &mut files, case.roll);
     let (log, out) = service.into_devices();
     Ok(Left {
         ended,
@@ -93,10 +98,96 @@ fn served(rt: &HostRuntime, case: Case) -> Result<Left, Fail> {
 fn answers_are_the_same_in_pieces_of_any_size(rt: HostRuntime) -> Result<(), Fail> {
     for step in [1, 2, 7, 64, 4096] {
         let left = served(&rt, Case { step, ..SOUND })?;
-        assert_eq!(rt; left.ended, Ok(()));
+        assert_eq!(rt; left.ended, Ok(Stopped::Ended));
         assert_eq!(rt; left.sent.as_slice(), ANSWERS);
         assert_eq!(rt; left.log.kept.last(), Some(&left.log.bytes.len()));
+        // `stats` has told how many bytes the log has then.
+        assert_eq!(rt; HEADER.len() + left.log.bytes.len(), 71);
     }
+    Ok(())
+}
+
+// A line that was cut off is none, though what is there of it would be one.
+#[test]
+fn line_without_its_end_is_not_asked(rt: HostRuntime) -> Result<(), Fail> {
+    let lines = b"begin 1\nput 1 fig 7\ncommit 1\nbegin 1\ncommit 1";
+    for step in [1, 4096] {
+        let left = served(
+            &rt,
+            Case {
+                lines,
+                step,
+                ..SOUND
+            },
+        )?;
+        assert_eq!(rt; left.ended, Ok(Stopped::Ended));
+        assert_eq!(rt;
+            left.sent.as_slice(),
+            b"begun 1\nok\ncommitted 1\nbegun 2\n".as_slice()
+        );
+        assert_eq!(rt; left.log.kept.len(), 1);
+    }
+    Ok(())
+}
+
+// The lines behind the third commit are answered by the next generation, whose store starts from what was committed.
+const ANSWERS_OF_NEXT: &[u8] =
+    b"refused WrongPhase\nentries=0 commits=0 points=0 open=0 bytes=20\nbad line\nrefused NoSession\n";
+
+// What a store leaves that was served until its generation has three entries.
+#[derive(Drop)]
+struct LeftGeneration {
+    ended: Result<Stopped, ServeFault>,
+    world: World,
+    out: Tally<Output>,
+}
+
+// Serves a store from this base.
+fn serve_generation(
+    rt: &HostRuntime,
+    base: Base,
+    input: &mut BufReader<Pieces>,
+    out: Tally<Output>,
+) -> Result<LeftGeneration, Fail> {
+    let alloc = rt.alloc();
+    let world = World::new(alloc, base, 2, 100, RandomState::new(rt)?)?;
+    let mut service = Service::new(alloc, world, 0, 0, device(alloc, 100), out);
+    let mut files = keeper(alloc, 0);
+    let ended = serve_input(alloc, &mut service, input, &mut files, 3);
+    let (world, out) = service.into_world();
+    Ok(LeftGeneration { ended, world, out })
+}
+
+// A generation that is full leaves the rest of the input to the next one.
+#[test]
+fn filled_generation_leaves_the_rest(rt: HostRuntime) -> Result<(), Fail> {
+    let alloc = rt.alloc();
+    let input = Pieces {
+        rest: LINES,
+        step: 4096,
+    };
+    let mut input = BufReader::new(alloc, input)?;
+    let out = Output {
+        bytes: Vec::new(alloc),
+        room: 1_000_000,
+    };
+    let base = Base::start(9, Vec::new(alloc));
+    let LeftGeneration { ended, world, out } = serve_generation(
+        &rt,
+        base,
+        &mut input,
+        Tally::new(out),
+    )?;
+    assert_eq!(rt; ended, Ok(Stopped::Filled));
+    let base = next_base(&world)?;
+    assert_eq!(rt; base.run(), 10);
+    assert_eq!(rt; base.pairs().len(), 2);
+    let LeftGeneration { ended, out, .. } = serve_generation(&rt, base, &mut input, out)?;
+    assert_eq!(rt; ended, Ok(Stopped::Ended));
+    let sent = out.into_inner().bytes;
+    let behind = sent.len().saturating_sub(ANSWERS_OF_NEXT.len());
+    assert!(rt; ANSWERS.starts_with(&sent[..behind]));
+    assert_eq!(rt; &sent[behind..], ANSWERS_OF_NEXT);
     Ok(())
 }
 
@@ -131,7 +222,7 @@ fn no_answer_goes_before_its_log(rt: HostRuntime) -> Result<(), Fail> {
         assert_eq!(rt; left.log.kept.len(), calls / 2);
     }
     let left = served(&rt, Case { calls: 6, ..SOUND })?;
-    assert_eq!(rt; left.ended, Ok(()));
+    assert_eq!(rt; left.ended, Ok(Stopped::Ended));
     Ok(())
 }
 
@@ -155,7 +246,7 @@ fn answers_are_cut_off_behind_their_log(rt: HostRuntime) -> Result<(), Fail> {
     Ok(())
 }
 
-// Three entries are as many as may not be kept, or one more.
+// Three entries are as many as may not be kept, or one more. At the end all are to be, so that a log which takes none is told then.
 #[test]
 fn as_many_entries_as_the_lag_are_not_kept(rt: HostRuntime) -> Result<(), Fail> {
     let (step, calls) = (1, 0);
@@ -168,7 +259,7 @@ fn as_many_entries_as_the_lag_are_not_kept(rt: HostRuntime) -> Result<(), Fail> 
             ..SOUND
         },
     )?;
-    assert_eq!(rt; all.ended, Ok(()));
+    assert_eq!(rt; all.ended, Err(ServeFault::CutOff(CutOff::Log)));
     assert_eq!(rt; all.sent.as_slice(), ANSWERS);
     let some = served(
         &rt,
@@ -232,7 +323,7 @@ fn what_was_answered_is_recovered(rt: HostRuntime) -> Result<(), Fail> {
 #[test]
 fn files_of_points_are_kept(rt: HostRuntime) -> Result<(), Fail> {
     let left = served(&rt, Case { every: 1, ..SOUND })?;
-    assert_eq!(rt; left.ended, Ok(()));
+    assert_eq!(rt; left.ended, Ok(Stopped::Ended));
     assert_eq!(rt; left.files.len(), 2);
     for (place, text) in left.files.iter().enumerate() {
         let part = Part::decode(rt.alloc(), text)?;
