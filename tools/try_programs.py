@@ -10,6 +10,8 @@
     crash_cases.py        runs that are killed, and what is recovered of their folders
     kill_cases.py         commands that are killed at each call that changes files, and runs into one folder at the same time
     disk_cases.py         commands on a disk that gets full, and how often files are brought to the disk
+    serve_cases.py        stores that are served over pipes, and killed
+    client_cases.py       the client and the relay of clients/python over served stores: threads, kills, sockets
     refused_growths.py    a run and the tests of test_memory and test_growths, each growth of memory that they ask for refused in turn
     PAGES                 what tools make of the crates stands in docs/ as they make it, and each wrong body is one, those of tools/meetings as they
                           were seen, and none that was refused waits to be tried again since the function that it changes was another one
@@ -31,12 +33,14 @@ import tempfile
 import traceback
 import unittest
 
+import client_cases
 import crash_cases
 import disk_cases
 import kill_cases
 import program_cases
 import refused_growths
 import run_cases
+import serve_cases
 
 ROOT = os.path.join(os.path.dirname(os.path.abspath(__file__)), "..")
 SECONDS = 60
@@ -159,6 +163,20 @@ def disks():
             yield from disk_cases.disks(os.path.abspath(program_of("pcalc")), folder)
 
 
+def serves():
+    """What each store differs in that is served, by its name."""
+    if os.path.exists(program_of("pcalc")):
+        with tempfile.TemporaryDirectory() as folder:
+            yield from serve_cases.serves(os.path.abspath(program_of("pcalc")), folder)
+
+
+def clients():
+    """What each use of the client and of the relay differs in, by its name."""
+    if os.path.exists(program_of("pcalc")):
+        with tempfile.TemporaryDirectory() as folder:
+            yield from client_cases.clients(os.path.abspath(program_of("pcalc")), folder)
+
+
 def pages():
     """What each tool finds in the pages, by its name."""
     for tool, *words in PAGES:
@@ -229,7 +247,7 @@ def counted(parts):
 
 
 def main():
-    passed, failed = counted((stored, cases, crashes, kills, disks, refused_growths.growths, pages, tests))
+    passed, failed = counted((stored, cases, crashes, kills, disks, serves, clients, refused_growths.growths, pages, tests))
     print(f"{passed} passed, {failed} failed")
     return 1 if failed else 0
 

@@ -21,6 +21,8 @@ pub enum Doing {
     Writing,
     Syncing,
     Naming,
+    Removing,
+    Locking,
 }
 
 impl Doing {
@@ -34,6 +36,8 @@ impl Doing {
             Doing::Writing => "writing",
             Doing::Syncing => "writing to the device",
             Doing::Naming => "naming",
+            Doing::Removing => "removing",
+            Doing::Locking => "locking",
         }
     }
 }

@@ -105,6 +105,11 @@ pub fn names_in(dir: ReadFolder<'_>) -> Result<Vec<u8>, Refusal> {
     }
 }
 
+/// Whether recovery reads a file of this name.
+pub fn is_run_file(name: &[u8]) -> bool {
+    name == BASE.as_bytes() || name == LOG.as_bytes() || name.ends_with(PART_END)
+}
+
 // The names of the folder's part files, in their byte order.
 fn list_parts(dir: ReadFolder<'_>) -> Result<Vec<Vec<u8>>, Refusal> {
     let alloc = dir.rt.alloc();

@@ -10,6 +10,9 @@ use std::{fs, io};
 /// What standard output is called where its failure is told.
 pub const OUTPUT: &str = "standard output";
 
+/// What standard input is called.
+pub const INPUT: &str = "standard input";
+
 /// How many standard streams there are; they have the first descriptors.
 const STREAMS: i32 = 3;
 

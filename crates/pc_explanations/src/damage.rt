@@ -1,9 +1,10 @@
 //! Where a file of a collapse or of a folder is damaged.
-use crate::causes::Causes;
 use crate::explaining::{Lines, bytes_of};
-use crate::folder::{BASE, FoundFolder, LOG, PART_END, ReadFolder, names_in, open_folder, path_in};
 use crate::meanings::meaning_of;
 use itoa::Buffer;
+use pc_disk::{
+    BASE, Causes, FoundFolder, LOG, PART_END, ReadFolder, names_in, open_folder, path_in,
+};
 use pc_faults::{TextKind, locate};
 use pc_log::read_log;
 use pc_part::{Base, Part, join};

@@ -1,9 +1,7 @@
 //! What a fault is about, told behind its line: which file, what was done with it, where, and what the system said.
-use crate::causes::{Cause, Causes, Doing};
 use crate::damage::Damage;
-use crate::folder::BASE;
 use crate::meanings::meaning_of;
-use crate::standard::OUTPUT;
+use pc_disk::{BASE, Cause, Causes, Doing, INPUT, OUTPUT};
 use pc_texts::put_name;
 use pc_types::{Refusal, Tally};
 use std::fs::File;
@@ -178,10 +176,11 @@ fn is_of_system(word: &[u8]) -> bool {
 /// Writes the line of a failure of the system's.
 pub fn put_cause(cause: &Cause, lines: &mut Lines) -> Result<(), Refusal> {
     lines.put_all(&[b"  ", cause.doing.word().as_bytes(), b" "])?;
-    if cause.path.as_str() == OUTPUT {
-        lines.put(OUTPUT.as_bytes())?;
+    let path = cause.path.as_str();
+    if path == OUTPUT || path == INPUT {
+        lines.put(path.as_bytes())?;
     } else {
-        put_name(lines, cause.path.as_bytes())?;
+        put_name(lines, path.as_bytes())?;
     }
     lines.put(b": ")?;
     let _ = write!(lines, "{}", cause.error);

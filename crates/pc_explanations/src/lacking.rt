@@ -1,9 +1,9 @@
 //! What a recovered folder lacks, told line by line.
 use crate::damage::Damage;
 use crate::explaining::bytes_of;
-use crate::folder::{LOG, PART_END, ReadFolder, names_in, path_in};
 use crate::meanings::meaning_of;
 use itoa::Buffer;
+use pc_disk::{LOG, PART_END, ReadFolder, names_in, path_in};
 use pc_faults::TextKind;
 use pc_log::read_log;
 use pc_part::Part;

@@ -10,7 +10,7 @@ pub fn meaning_of(word: &[u8]) -> Option<&'static [u8]> {
     None
 }
 
-const MEANINGS: [(&[u8], &[u8]); 21] = [
+const MEANINGS: [(&[u8], &[u8]); 23] = [
     (b"Short", b"the bytes end within a field"),
     (
         b"BadMagic",
@@ -46,6 +46,11 @@ const MEANINGS: [(&[u8], &[u8]); 21] = [
     (
         b"NotEmpty",
         b"it has files of a run, whose names are base.pcb, log.pcl or end in .pcp",
+    ),
+    (b"Busy", b"another process serves it"),
+    (
+        b"NoStore",
+        b"it has no generation that counts: --create begins one",
     ),
     (b"NoFile", b"there is no such file"),
     (b"Device", b"it can't be used"),

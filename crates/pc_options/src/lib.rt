@@ -4,5 +4,6 @@
 mod options;
 
 pub use options::{
-    CollapseOptions, RecoverOptions, RunOptions, StepOptions, Task, task_of, unreadable,
+    CollapseOptions, RecoverOptions, RunOptions, ServeOptions, StepOptions, Task, task_of,
+    unreadable,
 };

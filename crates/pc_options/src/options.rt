@@ -94,6 +94,35 @@ pub struct RunOptions<'a> {
     ghost has_room: { (1 ≤ capacity) × (capacity ≤ MOST_KEYS) },
 }
 
+/// What `pcalc serve` is asked to do.
+#[derive(Drop)]
+pub struct ServeOptions<'a> {
+    /// The folder of the store's generations.
+    pub dir: &'a str,
+    /// Whether the folder and a first generation are made where there are none.
+    pub creates: bool,
+    /// The number of the run of a first generation, 1 to 2,147,483,647.
+    pub run: u32,
+    /// Whether the generation from which it starts may be damaged.
+    pub accepts_damage: bool,
+    /// How many sessions the store has, 1 to 64.
+    pub sessions: u8,
+    /// How many keys it has room for, 1 to 1,048,576.
+    pub capacity: u32,
+    /// A point begins after this many commits; none does with 0.
+    pub every: u32,
+    /// The next generation begins where the log has this many entries and no transaction is open, 1 to 16,777,216.
+    pub roll: u32,
+    /// How many entries of the log may be answered and not written, at most 16,777,216.
+    pub lag: u32,
+    /// Whether the log is to be on its disk before answers go out.
+    pub is_synced: bool,
+    /// Whether faults are explained also where standard error is no terminal.
+    pub is_explained: bool,
+    ghost has_sessions: { (1 ≤ sessions) × (sessions ≤ MOST_SESSIONS) },
+    ghost has_room: { (1 ≤ capacity) × (capacity ≤ MOST_KEYS) },
+}
+
 /// What the program is asked to do.
 #[derive(Drop)]
 pub enum Task<'a> {
@@ -105,6 +134,8 @@ pub enum Task<'a> {
     Collapse(CollapseOptions<'a>),
     /// `pcalc recover`.
     Recover(RecoverOptions<'a>),
+    /// `pcalc serve`.
+    Serve(ServeOptions<'a>),
 }
 
 /// What the command line asks for, or what is to be told: a fault, or the help that was asked for.
@@ -119,8 +150,11 @@ pub fn task_of<'a>(alloc: Global, words: &'a [&'a str]) -> Result<Option<Task<'a
     if let Some(matches) = matches.subcommand_matches("collapse") {
         return Ok(collapse_options_of(alloc, matches)?.map(|options| Task::Collapse(options)));
     }
-    match matches.subcommand_matches("recover") {
-        Some(matches) => Ok(recover_options_of(matches).map(|options| Task::Recover(options))),
+    if let Some(matches) = matches.subcommand_matches("recover") {
+        return Ok(recover_options_of(matches).map(|options| Task::Recover(options)));
+    }
+    match matches.subcommand_matches("serve") {
+        Some(matches) => Ok(serve_options_of(matches).map(|options| Task::Serve(options))),
         None => Ok(None),
     }
 }
@@ -140,7 +174,8 @@ fn command<'a>(alloc: Global) -> Result<Command<'a>, Error> {
             .subcommand(step_command(alloc)?)?
             .subcommand(run_command(alloc)?)?
             .subcommand(collapse_command(alloc)?)?
-            .subcommand(recover_command(alloc)?)?,
+            .subcommand(recover_command(alloc)?)?
+            .subcommand(serve_command(alloc)?)?,
     )
 }
 
@@ -150,7 +185,7 @@ fn step_command<'a>(alloc: Global) -> Result<Command<'a>, Error> {
             .about("Answers the lines of a script")
             .after_help(FAULTS)
             .arg(script_arg(alloc))?
-            .arg(sessions_arg(alloc))?
+            .arg(sessions_arg(alloc, "8"))?
             .arg(capacity_arg(alloc, "1024"))?
             .arg(run_arg(alloc))?
             .arg(explain_arg(alloc))?,
@@ -173,13 +208,13 @@ fn script_arg<'a>(alloc: Global) -> Arg<'a> {
         .action(ArgAction::Set)
 }
 
-fn sessions_arg<'a>(alloc: Global) -> Arg<'a> {
+fn sessions_arg<'a>(alloc: Global, default: &'a str) -> Arg<'a> {
     Arg::new(alloc, "sessions")
         .long("sessions")
         .value_name("N")
         .help("How many sessions the store has, 1 to 64")
         .value_parser(clap::value_parser!(u8).range(1..=i64::from(MOST_SESSIONS)))
-        .default_value("8")
+        .default_value(default)
 }
 
 fn capacity_arg<'a>(alloc: Global, default: &'a str) -> Arg<'a> {
@@ -230,21 +265,28 @@ fn file_args<'a>(alloc: Global, command: Command<'a>) -> Result<Command<'a>, Err
         )
         .value_parser(ValueParser::NonEmptyString)
         .action(ArgAction::Set);
-    let lag = Arg::new(alloc, "lag")
+    let help =
+        "How many entries of the log may wait to be written before the clients wait, 0 to 16777216";
+    let lag = lag_arg(alloc, help, "65536").requires_arg("dir")?;
+    let help = "Counts what was written to a file only once it is on the disk";
+    let sync = sync_arg(alloc, help).requires_arg("dir")?;
+    Ok(command.arg(folder)?.arg(lag)?.arg(sync)?)
+}
+
+fn lag_arg<'a>(alloc: Global, help: &'a str, default: &'a str) -> Arg<'a> {
+    Arg::new(alloc, "lag")
         .long("lag")
         .value_name("N")
-        .help(
-            "How many entries of the log may wait to be written before the clients wait, 0 to 16777216",
-        )
+        .help(help)
         .value_parser(clap::value_parser!(u32).range(0..=16_777_216))
-        .default_value("65536")
-        .requires_arg("dir")?;
-    let sync = Arg::new(alloc, "sync")
+        .default_value(default)
+}
+
+fn sync_arg<'a>(alloc: Global, help: &'a str) -> Arg<'a> {
+    Arg::new(alloc, "sync")
         .long("sync")
-        .help("Counts what was written to a file only once it is on the disk")
+        .help(help)
         .action(ArgAction::SetTrue)
-        .requires_arg("dir")?;
-    Ok(command.arg(folder)?.arg(lag)?.arg(sync)?)
 }
 
 // What is said of what a run shows and tells.
@@ -347,7 +389,7 @@ fn collapsers_arg<'a>(alloc: Global) -> Arg<'a> {
 
 fn recover_command<'a>(alloc: Global) -> Result<Command<'a>, Error> {
     let dir = Arg::new(alloc, "DIR")
-        .help("The folder of base.pcb, the .pcp files and log.pcl")
+        .help("The folder of base.pcb, the .pcp files and log.pcl, or of a served store")
         .value_parser(ValueParser::NonEmptyString)
         .required(true)
         .action(ArgAction::Set);
@@ -359,6 +401,76 @@ fn recover_command<'a>(alloc: Global) -> Result<Command<'a>, Error> {
             .arg(strict_arg(alloc))?
             .arg(explain_arg(alloc))?,
     )
+}
+
+fn serve_command<'a>(alloc: Global) -> Result<Command<'a>, Error> {
+    let dir = Arg::new(alloc, "DIR")
+        .help("The folder of the store")
+        .value_parser(ValueParser::NonEmptyString)
+        .required(true)
+        .action(ArgAction::Set);
+    let lag = "How many entries of the log may be answered and not written, 0 to 16777216";
+    let sync = "Answers commits only once they are on the disk";
+    Ok(
+        Command::new(alloc, "serve")
+            .about("Answers lines over the store of a folder")
+            .after_help(FAULTS)
+            .arg(dir)?
+            .arg(create_arg(alloc))?
+            .arg(first_run_arg(alloc)?)?
+            .arg(sessions_arg(alloc, "64"))?
+            .arg(capacity_arg(alloc, "1048576"))?
+            .arg(every_commits_arg(alloc))?
+            .arg(roll_arg(alloc))?
+            .arg(lag_arg(alloc, lag, "0"))?
+            .arg(sync_arg(alloc, sync))?
+            .arg(stored_damage_arg(alloc))?
+            .arg(explain_arg(alloc))?,
+    )
+}
+
+fn every_commits_arg<'a>(alloc: Global) -> Arg<'a> {
+    Arg::new(alloc, "every")
+        .long("every")
+        .value_name("COMMITS")
+        .help("A point is taken after this many commits; none is with 0")
+        .value_parser(clap::value_parser!(u32))
+        .default_value("0")
+}
+
+fn roll_arg<'a>(alloc: Global) -> Arg<'a> {
+    Arg::new(alloc, "roll")
+        .long("roll")
+        .value_name("ENTRIES")
+        .help("A new generation begins once the log has this many entries, 1 to 16777216")
+        .value_parser(clap::value_parser!(u32).range(1..=16_777_216))
+        .default_value("1000000")
+}
+
+fn create_arg<'a>(alloc: Global) -> Arg<'a> {
+    Arg::new(alloc, "create")
+        .long("create")
+        .help("Makes the folder and a store in it, where there is none")
+        .action(ArgAction::SetTrue)
+}
+
+fn first_run_arg<'a>(alloc: Global) -> Result<Arg<'a>, AllocError> {
+    Arg::new(alloc, "run")
+        .long("run")
+        .value_name("N")
+        .help("The number of the first run of a store that is made, 1 to 2147483647")
+        .value_parser(clap::value_parser!(u32).range(1..=2_147_483_647))
+        .default_value("1")
+        .requires_arg("create")
+}
+
+fn stored_damage_arg<'a>(alloc: Global) -> Arg<'a> {
+    Arg::new(alloc, "damaged")
+        .long("damaged")
+        .help(
+            "Goes on also where the log of the last generation is missing or damaged, or a part of it was skipped",
+        )
+        .action(ArgAction::SetTrue)
 }
 
 fn strict_arg<'a>(alloc: Global) -> Arg<'a> {
@@ -419,6 +531,27 @@ fn recover_options_of<'a>(matches: &ArgMatches<'a>) -> Option<RecoverOptions<'a>
     Some(RecoverOptions {
         dir: matches.get_str("DIR")?,
         is_strict: matches.get_flag("strict"),
+        is_explained: matches.get_flag("explain"),
+    })
+}
+
+fn serve_options_of<'a>(matches: &ArgMatches<'a>) -> Option<ServeOptions<'a>> {
+    let sessions = matches.get_one::<u8>("sessions")?;
+    let capacity = matches.get_one::<u32>("capacity")?;
+    if capacity < 1 || MOST_KEYS < capacity || sessions < 1 || MOST_SESSIONS < sessions {
+        return None;
+    }
+    Some(ServeOptions {
+        dir: matches.get_str("DIR")?,
+        creates: matches.get_flag("create"),
+        run: matches.get_one::<u32>("run")?,
+        accepts_damage: matches.get_flag("damaged"),
+        sessions,
+        capacity,
+        every: matches.get_one::<u32>("every")?,
+        roll: matches.get_one::<u32>("roll")?,
+        lag: matches.get_one::<u32>("lag")?,
+        is_synced: matches.get_flag("sync"),
         is_explained: matches.get_flag("explain"),
     })
 }

@@ -1,10 +1,8 @@
 //! Part files that are joined into one.
-use crate::causes::Causes;
-use crate::explaining::{About, Explained, Explainer, explain_output, is_explained};
-use crate::making::Target;
 use crate::parts::{Inputs, JoinedFile, is_other_file};
-use crate::standard::output_before;
 use pc_collapse_files::run_collapse;
+use pc_disk::{Causes, Target, output_before};
+use pc_explanations::{About, Explained, Explainer, explain_output, is_explained};
 use pc_options::CollapseOptions;
 use pc_texts::{report, report_words};
 use pc_types::{Refusal, Tally};

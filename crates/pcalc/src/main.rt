@@ -1,32 +1,24 @@
-//! Runs a script of transactions or a workload of clients against a store, joins part files, or recovers what a folder's files
-//! are worth.
+//! Runs a script of transactions or a workload of clients against a store, joins part files, recovers what a folder's files are worth,
+//! or serves the store of a folder.
 #![tactic(auto)]
 
-mod causes;
-mod damage;
-mod explaining;
-mod folder;
 mod gate;
 mod joining;
-mod lacking;
-mod late;
-mod making;
-mod meanings;
 mod parts;
 mod recovering;
 mod run_folder;
 mod running;
 mod showing;
-mod standard;
 mod stepping;
 
 use clap::Error;
 use clap::error::ErrorKind;
 use joining::join_parts;
+use pc_disk::fill_places;
 use pc_options::{Task, task_of, unreadable};
+use pc_serve::serve_folder;
 use recovering::recover_folder;
 use running::run_clients;
-use standard::fill_places;
 use std::process::ExitCode;
 use std::sync::Wait;
 use std::thread::Threads;
@@ -88,5 +80,6 @@ fn run_task<H: Threads + Wait + Sync>(rt: &HostRuntime, threads: &H, task: Task)
         Task::Run(options) => run_clients(rt, threads, &options),
         Task::Collapse(options) => join_parts(rt, &options),
         Task::Recover(options) => recover_folder(rt, &options),
+        Task::Serve(options) => serve_folder(rt, &options),
     }
 }

@@ -1,9 +1,6 @@
 //! Files by their paths: the part files that a collapse reads, and the one that it makes.
-use crate::causes::{Causes, Doing, Noted};
-use crate::folder::why_not;
-use crate::late::LateFile;
-use crate::making::Target;
 use pc_collapse_files::Maker;
+use pc_disk::{Causes, Doing, LateFile, Noted, Target, why_not};
 use pc_texts::NamedFile;
 use pc_types::Refusal;
 use std::fs::File;

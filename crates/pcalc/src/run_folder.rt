@@ -1,7 +1,8 @@
 //! The folder in which a run makes its files: it is claimed before anything else is done, and no other process can claim it.
-use crate::causes::{Causes, Doing, Noted};
-use crate::folder::{BASE, LOG, PART_END, ReadFolder, names_in, path_in};
-use crate::making::{Target, sync_folder, why_unmade};
+use pc_disk::{
+    BASE, Causes, Doing, LOG, Noted, ReadFolder, Target, is_run_file, names_in, path_in,
+    sync_folder, why_unmade,
+};
 use pc_runs::{NewFiles, RunFolder, Unusable};
 use pc_texts::{FileName, part_name};
 use pc_types::Refusal;
@@ -115,11 +116,6 @@ fn look(dir: ReadFolder<'_>, has_log: bool) -> Result<(), Unusable> {
         }
     }
     Ok(())
-}
-
-// Whether recovery reads a file of this name.
-fn is_run_file(name: &[u8]) -> bool {
-    name == BASE.as_bytes() || name == LOG.as_bytes() || name.ends_with(PART_END)
 }
 
 /// A folder in which a run makes its files. Where it is dropped, what isn't whole of them goes.

@@ -1,14 +1,13 @@
 //! A run of a workload: its files, what is shown of it, and what is told of it in the end.
-use crate::causes::{Causes, Noted};
-use crate::explaining::{About, Explained, Explainer, explain_output, is_explained};
-use crate::folder::{FoundFolder, ReadFolder, open_folder, tell_unopened};
 use crate::gate::RunGate;
-use crate::late::LateFile;
-use crate::making::{Target, folder_of};
 use crate::parts::open_named;
 use crate::run_folder::Claim;
 use crate::showing::run_shown;
-use crate::standard::output_before;
+use pc_disk::{
+    Causes, FoundFolder, LateFile, Noted, ReadFolder, Target, folder_of, open_folder,
+    output_before, tell_unopened,
+};
+use pc_explanations::{About, Explained, Explainer, explain_output, is_explained};
 use pc_jobs::{WorkloadReading, read_workload};
 use pc_options::RunOptions;
 use pc_progress::{Asked, Behind, Progress};

@@ -1,8 +1,7 @@
 //! A script that is run against a store.
-use crate::causes::{Causes, Noted};
-use crate::explaining::{About, Explained, Explainer, explain_output, is_explained};
 use crate::parts::open_named;
-use crate::standard::output_before;
+use pc_disk::{Causes, Noted, output_before};
+use pc_explanations::{About, Explained, Explainer, explain_output, is_explained};
 use pc_options::StepOptions;
 use pc_reasons::put_script_faults;
 use pc_script::{Setup, run_script};

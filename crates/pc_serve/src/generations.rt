@@ -1,0 +1,119 @@
+//! The generations of a folder on the disk.
+use pc_disk::{Doing, ReadFolder, Target, names_in, path_in, sync_folder, why_not, why_unmade};
+use pc_generations::{BASE_NAME, Generations, generation_name, number_in};
+use pc_types::Refusal;
+use std::alloc::{AllocError, Global};
+use std::io::{ErrorKind, Write};
+use std::string::String;
+use std::{fs, io};
+
+/// A folder of generations. Each is a folder in it, with the files of a run. What is written there is on the disk once the call has
+/// ended.
+#[derive(Clone, Copy)]
+pub struct GenerationFolders<'a> {
+    pub dir: ReadFolder<'a>,
+}
+
+/// The path of the folder of a generation.
+pub fn generation_path(dir: ReadFolder<'_>, number: u32) -> Result<String, AllocError> {
+    let name = generation_name(number);
+    // A name of letters and digits is UTF-8.
+    path_in(
+        dir.rt.alloc(),
+        dir.path,
+        str::from_utf8(&name).unwrap_or(""),
+    )
+}
+
+impl<'a> GenerationFolders<'a> {
+    // The path of a file of a generation.
+    fn path_of(&self, number: u32, name: &[u8]) -> Result<String, Refusal> {
+        let folder = generation_path(self.dir, number)?;
+        match str::from_utf8(name) {
+            Ok(name) => Ok(path_in(self.dir.rt.alloc(), folder.as_str(), name)?),
+            Err(_) => Err(Refusal::Device),
+        }
+    }
+
+    // The folder of a generation is there no more.
+    fn clear(&self, path: &str) -> io::Result<()> {
+        match fs::remove_dir_all(self.dir.rt, path) {
+            Err(e) if e.kind() != ErrorKind::NotFound => Err(e),
+            _ => Ok(()),
+        }
+    }
+
+    // The folder of a generation is made anew.
+    fn make_anew(&self, path: &str) -> io::Result<()> {
+        self.clear(path)?;
+        fs::create_dir(self.dir.rt, path)?;
+        sync_folder(self.dir.rt, self.dir.path)
+    }
+
+    // Why a call failed, which is noted.
+    fn failed(&self, doing: Doing, path: &str, e: io::Error) -> Refusal {
+        self.dir.causes.note(doing, path, e);
+        why_unmade(&e)
+    }
+}
+
+// What is on a disk is known to no contract.
+impl<'a> Generations for GenerationFolders<'a> {
+    ghost use Rattle.std.specs.Prelude.{⊤};
+
+    ghost stands = { λ folders number name content. ⊤ };
+
+    fn numbers(&self, alloc: Global) -> Result<Vec<u32>, Refusal> {
+        let mut numbers = Vec::new(alloc);
+        for name in names_in(self.dir)?.split(|byte| *byte == 0) {
+            if let Some(number) = number_in(name) {
+                numbers.push(number)?;
+            }
+        }
+        Ok(numbers)
+    }
+
+    fn has_base(&self, number: u32) -> Result<bool, Refusal> {
+        let path = self.path_of(number, BASE_NAME)?;
+        match fs::exists(self.dir.rt, path.as_str()) {
+            Ok(is_there) => Ok(is_there),
+            Err(e) => {
+                self.dir.causes.note(Doing::Opening, path.as_str(), e);
+                Err(why_not(&e))
+            }
+        }
+    }
+
+    fn make(&mut self, number: u32) -> Result<(), Refusal> {
+        let path = generation_path(self.dir, number)?;
+        match self.make_anew(path.as_str()) {
+            Ok(()) => Ok(()),
+            Err(e) => Err(self.failed(Doing::Making, path.as_str(), e)),
+        }
+    }
+
+    fn write(&mut self, number: u32, name: &[u8], text: &[u8]) -> Result<(), Refusal> {
+        let path = self.path_of(number, name)?;
+        let mut target = Target::new(self.dir.rt, self.dir.causes, path);
+        let written = write_whole(&mut target, text);
+        target.discard();
+        written
+    }
+
+    fn remove(&mut self, number: u32) -> Result<(), Refusal> {
+        let path = generation_path(self.dir, number)?;
+        match self.clear(path.as_str()) {
+            Ok(()) => Ok(()),
+            Err(e) => Err(self.failed(Doing::Removing, path.as_str(), e)),
+        }
+    }
+}
+
+// The file with this text, which has its name once all of it is on the disk.
+fn write_whole(target: &mut Target<'_>, text: &[u8]) -> Result<(), Refusal> {
+    let mut file = target.make()?;
+    match file.write_all(text) {
+        Ok(()) => target.finish(&file, true),
+        Err(_) => Err(Refusal::Device),
+    }
+}

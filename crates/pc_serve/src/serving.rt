@@ -1,0 +1,260 @@
+//! A store that is served: it goes on as the store of a folder, and answers lines of standard input on standard output.
+ghost use Rattle.std.specs.Prelude.{◌≡◌, [], IfOk};
+ghost use Rattle.pc_engine.specs.Stands.{Stands};
+
+use crate::generation::{Failure, Generation, serve_generations};
+use crate::generations::{GenerationFolders, generation_path};
+use crate::owner::{Unowned, own};
+use itoa::Buffer;
+use pc_disk::{
+    Causes, FoundFolder, INPUT, LOG, LateFile, Noted, ReadFolder, open_folder, output_before,
+    path_in, tell_unopened,
+};
+use pc_engine::World;
+use pc_explanations::{About, Explained, Explainer, explain_output, is_explained};
+use pc_opening::{OpenedStore, StoreSize, open_store};
+use pc_options::ServeOptions;
+use pc_part::Base;
+use pc_restore::{Lost, recover_base, tell_lost};
+use pc_texts::{report, report_words};
+use pc_types::{Refusal, Tally};
+use std::alloc::AllocError;
+use std::hash::RandomState;
+use std::io;
+use std::io::{BufReader, Write};
+use std::string::String;
+
+/// The status of a process that failed before its input ended.
+const FAILED: u8 = 1;
+
+/// How many bytes of lines are read at once at most, so that a turn has no more.
+const ROOM: usize = 65_536;
+
+/// Serves the store of the folder as the options say; the status.
+pub fn serve_folder<'a>(rt: &'a HostRuntime, options: &'a ServeOptions<'a>) -> io::Result<u8> {
+    let causes = Causes::new(rt.alloc())?;
+    // The seed is drawn before anything is opened.
+    let seed = RandomState::new(rt)?;
+    let dir = ReadFolder {
+        rt,
+        path: options.dir,
+        causes: &causes,
+    };
+    let owned = match own(dir, options.creates) {
+        Ok(owned) => owned,
+        Err(why) => {
+            tell_unowned(dir, options, why);
+            return Ok(FAILED);
+        }
+    };
+    let status = serve_owned(dir, options, seed, owned.latest);
+    drop(owned);
+    status
+}
+
+// Tells why the folder isn't this process's own.
+fn tell_unowned(dir: ReadFolder<'_>, options: &ServeOptions<'_>, why: Unowned) {
+    let explainer = Explainer {
+        rt: dir.rt,
+        causes: dir.causes,
+        about: About::Run,
+        is_on: is_explained(dir.rt, options.is_explained),
+    };
+    let stderr = dir.rt.stderr();
+    let mut errors = Tally::new(Explained::new(&explainer, io::writer(&stderr)));
+    let _ = report_words(options.dir.as_bytes(), why.word(), &mut errors);
+}
+
+/// A store that is to be served.
+#[derive(Drop)]
+pub struct Store<'a> {
+    pub dir: ReadFolder<'a>,
+    pub options: &'a ServeOptions<'a>,
+    seed: RandomState,
+    latest: Option<u32>,
+    // The path of the generation that counts; empty where there is none.
+    from: &'a str,
+}
+
+// Serves the store of a folder that is this process's own, and of which this generation counts; the status.
+fn serve_owned<'a>(
+    dir: ReadFolder<'a>,
+    options: &'a ServeOptions<'a>,
+    seed: RandomState,
+    latest: Option<u32>,
+) -> io::Result<u8> {
+    let path = from_path(dir, latest)?;
+    serve_told(store_of(dir, options, seed, latest, path.as_str()))
+}
+
+// Serves the store, and tells its faults; the status.
+fn serve_told<'a>(store: Store<'a>) -> io::Result<u8> {
+    let explainer = Explainer {
+        rt: store.dir.rt,
+        causes: store.dir.causes,
+        about: about(store.options, store.from),
+        is_on: is_explained(store.dir.rt, store.options.is_explained),
+    };
+    let stderr = store.dir.rt.stderr();
+    let mut errors = Tally::new(Explained::new(&explainer, io::writer(&stderr)));
+    let status = serve_from(&store, &mut errors)?;
+    explain_output(&explainer, &mut errors);
+    Ok(status)
+}
+
+// The path of the generation that counts; empty where there is none.
+fn from_path(dir: ReadFolder<'_>, latest: Option<u32>) -> Result<String, AllocError> {
+    match latest {
+        Some(number) => generation_path(dir, number),
+        None => Ok(String::new(dir.rt.alloc())),
+    }
+}
+
+// What its faults are about.
+fn about<'a>(options: &ServeOptions<'_>, from: &'a str) -> About<'a> {
+    if from.is_empty() {
+        About::Run
+    } else {
+        About::Start(from, options.capacity)
+    }
+}
+
+fn store_of<'a>(
+    dir: ReadFolder<'a>,
+    options: &'a ServeOptions<'a>,
+    seed: RandomState,
+    latest: Option<u32>,
+    from: &'a str,
+) -> Store<'a> {
+    Store {
+        dir,
+        options,
+        seed,
+        latest,
+        from,
+    }
+}
+
+// Serves the store; the status.
+fn serve_from<E: Write>(store: &Store<'_>, errors: &mut Tally<E>) -> io::Result<u8> {
+    let base = match base_of(store, errors) {
+        Ok(base) => base,
+        Err(lost) => {
+            tell_lost(store.from.as_bytes(), &lost, errors);
+            return Ok(FAILED);
+        }
+    };
+    match open(store, store.latest, base) {
+        Ok(opened) => serve_opened(store, opened, errors),
+        Err(why) => {
+            let _ = report(store.dir.path.as_bytes(), why, errors);
+            Ok(FAILED)
+        }
+    }
+}
+
+// The base from which the store starts: what the generation that counts is worth, or no pairs.
+fn base_of<'a, E: Write>(
+    store: &Store<'a>,
+    errors: &mut Tally<E>,
+) -> Result<Base, Lost<LateFile<'a>>>
+    ensures { IfOk result (λ base. base.point ≡ 0) }
+{
+    let alloc = store.dir.rt.alloc();
+    if store.latest.is_none() {
+        return Ok(Base::start(u64::from(store.options.run), Vec::new(alloc)));
+    }
+    let dir = ReadFolder {
+        rt: store.dir.rt,
+        path: store.from,
+        causes: store.dir.causes,
+    };
+    let FoundFolder { folder, unopened } = match open_folder(dir) {
+        Ok(found) => found,
+        Err(_) => return Err(Lost::Folder(Refusal::OutOfMemory)),
+    };
+    tell_unopened(&unopened, errors);
+    recover_base(alloc, folder, store.options.accepts_damage, errors)
+}
+
+/// Opens a store over its base, and begins the generation behind the one that counts.
+pub fn open(store: &Store<'_>, latest: Option<u32>, base: Base) -> Result<OpenedStore, Refusal>
+    requires { base.point ≡ 0 }
+    ensures { IfOk result (λ opened. Stands opened.world []) }
+{
+    let options = store.options;
+    let size = StoreSize {
+        sessions: options.sessions,
+        capacity: options.capacity,
+    };
+    let mut folders = GenerationFolders { dir: store.dir };
+    open_store(
+        store.dir.rt.alloc(),
+        &mut folders,
+        latest,
+        base,
+        size,
+        store.seed,
+    )
+}
+
+// Serves the store that was opened; the status.
+fn serve_opened<E: Write>(
+    store: &Store<'_>,
+    opened: OpenedStore,
+    errors: &mut Tally<E>,
+) -> io::Result<u8>
+    requires { Stands opened.world [] }
+{
+    let (rt, causes) = (store.dir.rt, store.dir.causes);
+    let alloc = rt.alloc();
+    let OpenedStore { world, generation } = opened;
+    let mut out = Tally::new(output_before(rt, causes, io::writer(rt))?);
+    if put_ready(&world, &mut out).is_err() {
+        return Ok(FAILED);
+    }
+    let name = String::from_str(alloc, INPUT)?;
+    let mut input = BufReader::with_capacity(alloc, ROOM, Noted::new(rt.stdin(), name, causes))?;
+    let first = Generation {
+        world,
+        number: generation,
+        out,
+    };
+    match serve_generations(store, first, &mut input) {
+        Ok(()) => Ok(0),
+        Err(failure) => tell_failure(store, failure, errors),
+    }
+}
+
+// Prints that the store is served, with the number of its run, and of how many pairs it has.
+fn put_ready<W: Write>(world: &World, out: &mut Tally<W>) -> Result<(), Refusal> {
+    let base = world.base();
+    let (mut run, mut pairs) = (Buffer::new(), Buffer::new());
+    let run = run.format(base.run()).as_bytes();
+    let pairs = pairs.format(base.pairs().len()).as_bytes();
+    out.put_all(&[b"ready run ", run, b" pairs ", pairs, b"\n"])?;
+    match out.flush() {
+        Ok(()) => Ok(()),
+        Err(_) => Err(Refusal::Device),
+    }
+}
+
+// Tells why the process ended before its input did; the status. Of a fault of the output it tells nothing.
+fn tell_failure<E: Write>(
+    store: &Store<'_>,
+    failure: Failure,
+    errors: &mut Tally<E>,
+) -> io::Result<u8> {
+    let dir = store.dir.path.as_bytes();
+    let _ = match failure {
+        Failure::Input => report(INPUT.as_bytes(), Refusal::Device, errors),
+        Failure::Refused(why) => report(dir, why, errors),
+        Failure::Log(number, why) => {
+            let folder = generation_path(store.dir, number)?;
+            let path = path_in(store.dir.rt.alloc(), folder.as_str(), LOG)?;
+            report(path.as_bytes(), why, errors)
+        }
+        Failure::Answers => Ok(()),
+    };
+    Ok(FAILED)
+}
