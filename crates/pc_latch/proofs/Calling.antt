@@ -24,12 +24,12 @@ values_after base c hist seen after is values begins = subst (TakesPointValue ba
     by_case true = values
     by_case false = values_before base begins.0 seen (subst (TakesPointValue base) begins.1 values.1)
 
-pub called : (st : Setting) (hist seen after : History) (event : Event) (reply : Reply) → IsLegalHistory st hist → IsLegal st hist event reply → TakesPointValue st.base (step_of event reply ∷ hist) → HasCallsOf hist 0 seen
-    → after ≡ sight_after (step_of event reply) hist seen → MovesOn st seen (step_of event reply) after → IsCalled st seen event reply after
-called st hist seen after event reply legal is values knew sees moves = record {
-  moves = moves;
+pub called : (st : Setting) (hist seen after : History) (event : Event) (reply : Reply) (step : Step) → step ≡ step_of event reply → IsLegalHistory st hist → IsLegal st hist event reply → TakesPointValue st.base (step_of event reply ∷ hist) → HasCallsOf hist 0 seen
+    → after ≡ sight_after step hist seen → MovesOn st seen step after → IsCalled st seen event reply after
+called st hist seen after event reply step said legal is values knew sees moves = record {
+  moves = subst (λ (c : Step). MovesOn st seen c after) said moves;
   answered = (hist, legal, knew, is);
-  values = values_after st.base (step_of event reply) hist seen after sees values knew.0;
+  values = values_after st.base (step_of event reply) hist seen after (subst (λ (c : Step). after ≡ sight_after c hist seen) said sees) values knew.0;
 }
 
 -- the phase is the one that the checkpointer has seen

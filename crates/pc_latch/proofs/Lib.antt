@@ -1,4 +1,5 @@
 pub mod CycleLaws
+mod Asking
 mod Batching
 mod Calling
 mod Growing

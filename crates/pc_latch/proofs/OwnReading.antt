@@ -1,7 +1,6 @@
 -- That a read is of an own write is told by what the session has seen.
 use Rattle.std.proofs.Common.{◌≡◌, ℕ, Bool, true, false, true≢false, Some, None, refl, ap, sym, ◌∙◌, cond, arith}
 use Rattle.std.proofs.lemmas.Bool.Decides.{nat_tests}
-use Rattle.pc_types.specs.declared.Event.{Event}
 use Rattle.pc_model.specs.History.{History, is_open}
 use Rattle.pc_model.specs.Replies.{Setting, no_session}
 use Rattle.pc_model.specs.Calls.{HasCallsOf}
@@ -12,7 +11,6 @@ use Rattle.pc_engine.specs.Sessions.{writes_in}
 use Rattle.pc_engine.specs.Stands.{Stands}
 use Rattle.pc_tie.specs.declared.sight.Sitting.{Sitting}
 use Rattle.pc_tie.specs.Seats.{IsSession}
-use Rattle.pc_latch.specs.OwnReads.{reads_one_of}
 use Rattle.pc_engine.proofs.WaitingLaws.{one_there}
 
 -- a session's number is one of the store's
@@ -33,6 +31,3 @@ module _ (w : Store) (hist seen : History) (s : ℕ) (stands : Stands w hist) (k
 
   pub writes_known : writes_in (active_of w s) ≡ (own_of s seen).writes
   writes_known = ap writes_in (one_there w s known ∙ stands.parts.sessions s known) ∙ (writes_when (is_open s hist) _ still ∙ (sym (own_writes s hist) ∙ ap (λ (o : Own). o.writes) same))
-
-  pub own_read : (event : Event) → reads_one_of (writes_in (active_of w s)) event ≡ reads_one_of (own_of s seen).writes event
-  own_read event = ap (λ ws. reads_one_of ws event) writes_known

@@ -1,4 +1,4 @@
+pub mod Asked
 pub mod Cycles
 pub mod Tickets
 pub mod Batches
-pub mod OwnReads

@@ -1,20 +1,15 @@
 //! What lies under the latch: the world, and the keeper of its history.
-ghost use Rattle.std.specs.Prelude.{◌≡◌, ◌≤◌, ◌↔◌, ◌∷◌, ◌++◌, [], true, false, Err, Some, None, IfOk, IfErr, OnErr, length, drop};
+ghost use Rattle.std.specs.Prelude.{◌≡◌, ◌≤◌, ◌↔◌, ◌∷◌, ◌++◌, [], true, Err, Some, None, IfOk, IfErr, OnErr, length, drop};
 ghost use mathlib.Core.List.{IsPrefix};
 ghost use Rattle.pc_types.specs.declared.Event.TheVariants.{Take};
 ghost use Rattle.pc_model.specs.Files.{file_at, shelf};
-ghost use Rattle.pc_model.specs.History.{History, is_open, log_of, phase_of};
-ghost use Rattle.pc_model.specs.Receipts.{own_of};
+ghost use Rattle.pc_model.specs.History.{log_of, phase_of};
 ghost use Rattle.pc_model.specs.Replies.{IsLegalHistory};
-ghost use Rattle.pc_model.specs.Calls.{step_of, session_of, counts, IsAnswered, IsBeginning, HasCallsOf};
-ghost use Rattle.pc_model.specs.ReplyKinds.{IsReplyTo};
+ghost use Rattle.pc_model.specs.Calls.{step_of, session_of, IsBeginning, HasCallsOf};
 ghost use Rattle.pc_model.specs.SessionLaws.{IsNoJoin};
-ghost use Rattle.pc_engine.specs.Asking.{AsksOfOpen};
-ghost use Rattle.pc_engine.specs.Sessions.{writes_in};
-ghost use Rattle.pc_engine.specs.Store.{active_of, setting_of};
-ghost use Rattle.pc_engine.specs.Stands.{Stands, Follows};
-ghost use Rattle.pc_tie.specs.Seats.{MovesOn};
-ghost use Rattle.pc_latch.specs.OwnReads.{reads_one_of};
+ghost use Rattle.pc_answers.specs.Replies.{take_reply};
+ghost use Rattle.pc_engine.specs.Store.{setting_of};
+ghost use Rattle.pc_engine.specs.Stands.{Stands};
 ghost use Rattle.pc_latch.specs.Batches.{batch, HasEntries, IsNext};
 ghost use Rattle.pc_engine.specs.Waiting.{waits_after};
 ghost use Rattle.pc_latch.specs.Cycles.{next_event, IsCalled, IsAdvance, IsTakeCalled};
@@ -23,17 +18,18 @@ ghost use Rattle.pc_latch.specs.Tickets.{HasNoFile, IsNoTicket};
 
 use crate::pass::{LogPass, LogTexts, next_of};
 use crate::ticket::PartTicket;
+use pc_answers::TakeAnswer;
 use pc_engine::World;
-use pc_tie::{CheckpointerSeat, Keeper, Milestone, SessionSeat, StoreName, Tie, Witness};
-use pc_types::{Event, FileNo, Phase, Refusal, Reply, SessionNo, Step};
+use pc_tie::{CheckpointerSeat, Keeper, Milestone, NotedStep, StoreName, Tie, Witness};
+use pc_types::{Event, FileNo, Phase, Refusal, Reply, SessionNo};
 use std::alloc::Global;
 use std::marker::Model;
 
 /// The world of a shared store, and the keeper of its history. Contracts see the history, after which the world stands.
 #[derive(Drop)]
 pub struct Latched<N: StoreName> {
-    world: World,
-    keeper: Keeper<N>,
+    pub(crate) world: World,
+    pub(crate) keeper: Keeper<N>,
 }
 
 impl<N: StoreName> Model for Latched<N> {
@@ -50,20 +46,6 @@ impl<N: StoreName> Model for Latched<N> {
     ghost invariant = { λ l. (l.keeper.guests ≡ []) × Stands l.world l.keeper.history × (setting_of l.world ≡ N.name.setting) × HasNoJoins l.keeper.history };
 }
 
-// Asks the world; where whoever asks has no room for the answer, the world refuses.
-fn ask(world: &mut World, event: &Event, has_room: bool) -> Reply
-    requires { has_room ≡ false → AsksOfOpen event.now }
-    ensures follows { (history : History) → Stands world.old history → Follows (setting_of world.old) history event.now result world.new }
-    ensures setting { setting_of world.new ≡ setting_of world.old }
-    ensures room { has_room ≡ false → counts result ≡ false }
-{
-    if has_room {
-        world.step(event)
-    } else {
-        world.refuse(event)
-    }
-}
-
 // The event that ends the phase.
 fn next_event(phase: Phase) -> Event
     ensures { result ≡ next_event phase }
@@ -77,16 +59,6 @@ fn next_event(phase: Phase) -> Event
     }
 }
 
-// Whether the event reads a key that the session's open transaction has written.
-fn reads_own_write(world: &World, session: SessionNo, event: &Event) -> bool
-    ensures { result ≡ reads_one_of (writes_in (active_of world.now session)) event.now }
-{
-    match event {
-        Event::Get(_, key) => world.has_written(session, key),
-        _ => false,
-    }
-}
-
 impl<N: StoreName> Latched<N> {
     /// A world in which nothing has happened, and the keeper of its history.
     pub fn new(world: World, keeper: Keeper<N>) -> Latched<N>
@@ -95,37 +67,6 @@ impl<N: StoreName> Latched<N> {
         ensures { result ≡ [] }
     {
         Latched { world, keeper }
-    }
-
-    /// The session asks the step's event, and the step has its reply then, in place of the one that it had. Where the session
-    /// has no room for the answer, the event is refused: with the cause that stands before, or else with `OutOfMemory`. What the
-    /// session has seen moves on by the step, where that counts. It tells whether the event reads a key that the session's own
-    /// open transaction has written.
-    pub fn call(
-        &mut self,
-        tie: &Tie<N>,
-        session: &mut SessionSeat<N>,
-        step: &mut Step,
-        has_room: bool,
-    ) -> bool
-        requires own { session_of step.old.event ≡ session.old.number }
-        requires asks { has_room ≡ false → AsksOfOpen step.old.event }
-        requires no_join { IsNoJoin step.old.event }
-        ensures event { step.new.event ≡ step.old.event }
-        ensures kind { IsReplyTo step.new.event step.new.reply }
-        ensures history { self.new ≡ step.new ∷ self.old }
-        ensures number { session.new.number ≡ session.old.number }
-        ensures moves { MovesOn N.name.setting session.old.seen step.new session.new.seen }
-        ensures answered { IsAnswered N.name.setting session.old.number session.old.seen step.new.event step.new.reply }
-        ensures room { has_room ≡ false → counts step.new.reply ≡ false }
-        ensures own_write { is_open session.old.number session.old.seen ≡ true → result ≡ reads_one_of (own_of session.old.number session.old.seen).writes step.new.event }
-    {
-        let own_write = reads_own_write(&self.world, session.number(), &step.event);
-        let before = self.world.log().len() as u64;
-        step.reply = ask(&mut self.world, &step.event, has_room);
-        let after = self.world.log().len() as u64;
-        self.keeper.note(tie, session, before, after, step);
-        own_write
     }
 
     /// Whether a request of the session's open transaction waits for a lock; false where it has none open, and where no session
@@ -152,10 +93,9 @@ impl<N: StoreName> Latched<N> {
         let before = self.world.log().len() as u64;
         let reply = self.world.step(&event);
         let after = self.world.log().len() as u64;
-        let step = Step { event, reply };
+        let step = NotedStep::of(&event, &reply);
         self.keeper
             .note_own(tie, checkpointer, before, after, &step);
-        let Step { event, reply } = step;
         drop(event);
         reply
     }
@@ -170,11 +110,21 @@ impl<N: StoreName> Latched<N> {
     }
 
     /// The checkpointer takes one key of the point.
-    pub fn take(&mut self, tie: &Tie<N>, checkpointer: &mut CheckpointerSeat<N>) -> Reply
-        ensures history { self.new ≡ step_of Take result ∷ self.old }
-        ensures called { IsTakeCalled N.name.setting checkpointer.old result checkpointer.new }
+    pub fn take(
+        &mut self,
+        tie: &Tie<N>,
+        checkpointer: &mut CheckpointerSeat<N>,
+    ) -> Result<TakeAnswer, Refusal>
+        ensures history { self.new ≡ step_of Take (take_reply result) ∷ self.old }
+        ensures called { IsTakeCalled N.name.setting checkpointer.old (take_reply result) checkpointer.new }
     {
-        self.call_own(tie, checkpointer, Event::Take)
+        let before = self.world.log().len() as u64;
+        let answer = self.world.take();
+        let after = self.world.log().len() as u64;
+        let step = NotedStep::take(&answer);
+        self.keeper
+            .note_own(tie, checkpointer, before, after, &step);
+        answer
     }
 
     /// The texts of the next entries of the log after those that the pass has handed out, as long as there is room for so many bytes of text,

@@ -2,6 +2,7 @@
 //! it, tickets of parts and the logger's pass.
 #![tactic(auto)]
 
+mod calls;
 mod latched;
 mod pass;
 mod ticket;

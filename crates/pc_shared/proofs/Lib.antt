@@ -3,4 +3,3 @@ mod GoneOutLaws
 mod Keeping
 mod Lending
 mod Settling
-mod Taking

@@ -1,5 +1,5 @@
 -- What a session's calls were answered.
-use Rattle.std.specs.Prelude.{ℕ, ℤ, Bool, true, false, List, Option, Some, None}
+use Rattle.std.specs.Prelude.{ℕ, ℤ, Bool, true, false, List, Option, Some, None, Result, Ok, Err}
 use Rattle.pc_types.specs.declared.Event.{Event}
 use Rattle.pc_types.specs.declared.Event.TheVariants as asked
 use Rattle.pc_types.specs.declared.Refusal.TheVariants as why
@@ -10,6 +10,13 @@ use Rattle.pc_model.specs.Replies.{Setting}
 use Rattle.pc_model.specs.Calls.{step_of, Extends}
 use Rattle.pc_txn.specs.declared.got.Got.{Got}
 use Rattle.pc_txn.specs.declared.got.Got.TheVariants as got
+use Rattle.pc_types.specs.declared.Outcome.{Outcome}
+use Rattle.pc_types.specs.declared.Outcome.TheVariants.{Granted, Queued, Died}
+use Rattle.pc_types.specs.declared.Refusal.{Refusal}
+use Rattle.pc_answers.specs.declared.answers.GetAnswer.{GetAnswer}
+use Rattle.pc_answers.specs.declared.answers.GetAnswer.TheVariants as read
+use Rattle.pc_answers.specs.declared.answers.AddAnswer.{AddAnswer}
+use Rattle.pc_answers.specs.declared.answers.AddAnswer.TheVariants as added
 
 -- the reply says that the session's request waits
 abbrev pub is_wait : Reply → Bool
@@ -37,3 +44,25 @@ IsAdded st before event None after = Extends st before (step_of event told.Died)
 abbrev pub write_event : ℕ → List ℕ → Option (List ℕ) → Event
 write_event s key (Some value) = asked.Put s key value
 write_event s key None = asked.Del s key
+
+-- what a read gave that doesn't wait, with whether it was of an own write
+abbrev pub got_in : Bool → Result GetAnswer Refusal → Result (Got × Bool) Refusal
+got_in own (Ok (read.Found value)) = Ok (got.Found value, own)
+got_in own (Ok read.Absent) = Ok (got.Absent, own)
+got_in own (Ok read.Wait) = Ok (got.Died, own)
+got_in own (Ok read.Died) = Ok (got.Died, own)
+got_in own (Err e) = Err e
+
+-- whether a write was made that doesn't wait
+abbrev pub made_in : Result Outcome Refusal → Result Bool Refusal
+made_in (Ok Granted) = Ok true
+made_in (Ok Queued) = Ok false
+made_in (Ok Died) = Ok false
+made_in (Err e) = Err e
+
+-- the sum of an add that doesn't wait; none where its request died
+abbrev pub sum_in : Result AddAnswer Refusal → Result (Option ℤ) Refusal
+sum_in (Ok (added.Sum sum)) = Ok (Some sum)
+sum_in (Ok added.Wait) = Ok None
+sum_in (Ok added.Died) = Ok None
+sum_in (Err e) = Err e

@@ -1,6 +1,5 @@
 -- Keys of a point that a checkpointer takes, one after the other.
-use Rattle.std.specs.Prelude.{◌≡◌, ◌<◌, ℕ, zero, suc, List, Option, Some, None}
-use Rattle.pc_types.specs.declared.Reply.{Reply}
+use Rattle.std.specs.Prelude.{◌≡◌, ◌<◌, ℕ, zero, suc, List, Option}
 use Rattle.pc_types.specs.declared.Reply.TheVariants as told
 use Rattle.pc_model.specs.History.{History}
 use Rattle.pc_model.specs.Replies.{Setting}
@@ -8,12 +7,6 @@ use Rattle.pc_latch.specs.Cycles.{IsTakeCalled}
 use Rattle.pc_shared.specs.declared.takes.Takes.{Takes}
 use Rattle.pc_shared.specs.declared.takes.TakesEnd.{TakesEnd}
 use Rattle.pc_shared.specs.declared.takes.TakesEnd.TheVariants as ended
-
--- how the reply to a take ends a turn, if it does
-abbrev pub end_by : Reply → Option TakesEnd
-end_by told.NoneLeft = Some ended.NoneLeft
-end_by (told.Refused why) = Some (ended.Refused why)
-end_by other = None
 
 -- the checkpointer has taken this many keys, each by a call of its own
 abbrev pub HasTaken : Setting → ℕ → History → History → Type 0

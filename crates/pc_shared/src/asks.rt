@@ -6,15 +6,19 @@ ghost use Rattle.pc_model.specs.Receipts.{own_of};
 ghost use Rattle.pc_types.specs.declared.Event.TheVariants.{Begin, Get, Put, Del, Add, Commit, Abort};
 ghost use Rattle.pc_types.specs.declared.Reply.TheVariants.{Begun, Committed, Aborted, Refused};
 ghost use Rattle.pc_model.specs.Calls.{step_of, Extends, IsAnswered};
-ghost use Rattle.pc_shared.specs.Asked.{IsGot, IsWriteMade, IsAdded};
+ghost use Rattle.pc_answers.specs.Replies.{begin_reply, get_reply, write_reply, add_reply, commit_reply, abort_reply};
+ghost use Rattle.pc_shared.specs.Asked.{is_wait, IsGot, IsWriteMade, IsAdded, got_in, made_in, sum_in};
 ghost use Rattle.pc_shared.specs.Answers.{answer_of, answer_to, answer_to_add};
 
 use crate::session::CallAnswer;
-use crate::store::Shared;
+use crate::store::{Shared, UnderLatch};
+use pc_answers::{
+    AddAnswer, GetAnswer, abort_reply, add_reply, begin_reply, commit_reply, write_reply,
+};
 use pc_tie::{SessionSeat, StoreName};
 use pc_txn::Got;
-use pc_types::{Event, Key, Lsn, Refusal, Reply, Step, TxnNo, Value};
-use std::sync::Wait;
+use pc_types::{Key, Lsn, Outcome, Refusal, Reply, TxnNo, Value};
+use std::sync::{MutexGuard, Wait};
 
 // How a session is told of what a read was answered.
 pub(crate) fn answer_of(got: &Got) -> CallAnswer
@@ -48,17 +52,157 @@ pub(crate) fn answer_to_add(sum: Option<i64>) -> CallAnswer
     }
 }
 
-// The event, which is still to be answered.
-fn asking(event: Event) -> Step
-    ensures { result.event ≡ event }
+// The kind of reply that a read was told; its value is left out.
+fn told_read(answer: &Result<GetAnswer, Refusal>) -> Reply {
+    match answer {
+        Ok(GetAnswer::Found(_) | GetAnswer::Absent) => Reply::Absent,
+        Ok(GetAnswer::Wait) => Reply::Wait,
+        Ok(GetAnswer::Died) => Reply::Died,
+        Err(why) => Reply::Refused(*why),
+    }
+}
+
+// Whether the answer says that the request waits: it was put into its queue now, or stands there ungranted.
+fn is_read_waiting(answer: &Result<GetAnswer, Refusal>) -> bool
+    ensures { result ≡ is_wait (get_reply answer.now) }
 {
-    Step {
-        event,
-        reply: Reply::Wait,
+    matches!(answer, Ok(GetAnswer::Wait) | Err(Refusal::StillWaiting))
+}
+
+fn is_write_waiting(answer: &Result<Outcome, Refusal>) -> bool
+    ensures { result ≡ is_wait (write_reply answer.now) }
+{
+    matches!(answer, Ok(Outcome::Queued) | Err(Refusal::StillWaiting))
+}
+
+fn is_add_waiting(answer: &Result<AddAnswer, Refusal>) -> bool
+    ensures { result ≡ is_wait (add_reply answer.now) }
+{
+    matches!(answer, Ok(AddAnswer::Wait) | Err(Refusal::StillWaiting))
+}
+
+fn is_begin_waiting(answer: &Result<TxnNo, Refusal>) -> bool
+    ensures { result ≡ is_wait (begin_reply answer.now) }
+{
+    matches!(answer, Err(Refusal::StillWaiting))
+}
+
+fn is_commit_waiting(answer: &Result<Lsn, Refusal>) -> bool
+    ensures { result ≡ is_wait (commit_reply answer.now) }
+{
+    matches!(answer, Err(Refusal::StillWaiting))
+}
+
+fn is_abort_waiting(answer: &Result<(), Refusal>) -> bool
+    ensures { result ≡ is_wait (abort_reply answer.now) }
+{
+    matches!(answer, Err(Refusal::StillWaiting))
+}
+
+// What a read gave that doesn't wait, with whether it was of an own write.
+fn got_in(answer: Result<GetAnswer, Refusal>, own_write: bool) -> Result<(Got, bool), Refusal>
+    ensures { result ≡ got_in own_write answer }
+{
+    match answer {
+        Ok(GetAnswer::Found(value)) => Ok((Got::Found(value), own_write)),
+        Ok(GetAnswer::Absent) => Ok((Got::Absent, own_write)),
+        Ok(GetAnswer::Died | GetAnswer::Wait) => Ok((Got::Died, own_write)),
+        Err(why) => Err(why),
+    }
+}
+
+// Whether a write was made that doesn't wait, or its request died.
+fn made_in(answer: &Result<Outcome, Refusal>) -> Result<bool, Refusal>
+    ensures { result ≡ made_in answer.now }
+{
+    match answer {
+        Ok(Outcome::Granted) => Ok(true),
+        Ok(Outcome::Died | Outcome::Queued) => Ok(false),
+        Err(why) => Err(*why),
+    }
+}
+
+// The sum of an add that doesn't wait; none where its request died.
+fn sum_in(answer: &Result<AddAnswer, Refusal>) -> Result<Option<i64>, Refusal>
+    ensures { result ≡ sum_in answer.now }
+{
+    match answer {
+        Ok(AddAnswer::Sum(sum)) => Ok(Some(*sum)),
+        Ok(AddAnswer::Died | AddAnswer::Wait) => Ok(None),
+        Err(why) => Err(*why),
+    }
+}
+
+// The answer to a begin, and so to a commit and to an abort.
+fn number_in(answer: &Result<TxnNo, Refusal>) -> Result<TxnNo, Refusal>
+    ensures { result ≡ answer.now }
+{
+    match answer {
+        Ok(number) => Ok(*number),
+        Err(why) => Err(*why),
+    }
+}
+
+fn entry_in(answer: &Result<Lsn, Refusal>) -> Result<Lsn, Refusal>
+    ensures { result ≡ answer.now }
+{
+    match answer {
+        Ok(number) => Ok(*number),
+        Err(why) => Err(*why),
+    }
+}
+
+fn end_in(answer: &Result<(), Refusal>) -> Result<(), Refusal>
+    ensures { result ≡ answer.now }
+{
+    match answer {
+        Ok(()) => Ok(()),
+        Err(why) => Err(*why),
     }
 }
 
 impl<N: StoreName> Shared<N> {
+    // Lets the latch go behind a read that is answered so; its value is left out of what is noted.
+    fn end_read(&self, held: MutexGuard<'_, UnderLatch<N>>, answer: &Result<GetAnswer, Refusal>) {
+        let told = told_read(answer);
+        self.let_go(held, &told);
+    }
+
+    // The same behind a begin.
+    fn end_begin(&self, held: MutexGuard<'_, UnderLatch<N>>, answer: &Result<TxnNo, Refusal>) {
+        let answer = *answer;
+        let told = begin_reply(answer);
+        self.let_go(held, &told);
+    }
+
+    // The same behind a put or a del.
+    fn end_write(&self, held: MutexGuard<'_, UnderLatch<N>>, answer: &Result<Outcome, Refusal>) {
+        let answer = *answer;
+        let told = write_reply(answer);
+        self.let_go(held, &told);
+    }
+
+    // The same behind an add.
+    fn end_add(&self, held: MutexGuard<'_, UnderLatch<N>>, answer: &Result<AddAnswer, Refusal>) {
+        let answer = *answer;
+        let told = add_reply(answer);
+        self.let_go(held, &told);
+    }
+
+    // The same behind a commit.
+    fn end_commit(&self, held: MutexGuard<'_, UnderLatch<N>>, answer: &Result<Lsn, Refusal>) {
+        let answer = *answer;
+        let told = commit_reply(answer);
+        self.let_go(held, &told);
+    }
+
+    // The same behind an abort.
+    fn end_abort(&self, held: MutexGuard<'_, UnderLatch<N>>, answer: &Result<(), Refusal>) {
+        let answer = *answer;
+        let told = abort_reply(answer);
+        self.let_go(held, &told);
+    }
+
     // Begins a transaction.
     pub(crate) fn begin_as<R: Wait>(
         &self,
@@ -71,46 +215,47 @@ impl<N: StoreName> Shared<N> {
         ensures no_wait { IfErr result (λ why. why ≢ Refusal.StillWaiting) }
         ensures same { OnErr result (seat.new.seen ≡ seat.old.seen) }
     {
-        let mut step = asking(Event::Begin(seat.number()));
-        self.step_as(rt, seat, &mut step, true);
-        let Step { event: _, reply } = step;
-        match reply {
-            Reply::Begun(t) => Ok(t),
-            Reply::Refused(why) => Err(why),
-            _ => unreachable!(),
+        let mut held = self.get_latch(rt);
+        for _ in rt.forever() {
+            let answer = held.latched.begin(&self.tie, seat);
+            if is_begin_waiting(&answer) {
+                held = self.sleep_for_lock(rt, held, seat.number());
+            } else {
+                self.end_begin(held, &answer);
+                return number_in(&answer);
+            }
         }
+        unreachable!()
     }
 
-    // Reads the key, and gives it back, with whether the session's own transaction has written it.
+    // Reads the key; with whether the session's own transaction has written it.
     pub(crate) fn get_as<R: Wait>(
         &self,
         rt: &R,
         seat: &mut SessionSeat<N>,
-        key: Key,
+        key: &Key,
         has_room: bool,
-    ) -> Result<(Key, Got, bool), Refusal>
+    ) -> Result<(Got, bool), Refusal>
         ensures number { seat.new.number ≡ seat.old.number }
-        ensures key { IfOk result (λ r. r.0 ≡ key) }
-        ensures own_write { is_open seat.old.number seat.old.seen ≡ true → IfOk result (λ r. r.2 ≡ is_some (written (own_of seat.old.number seat.old.seen).writes key)) }
+        ensures own_write { is_open seat.old.number seat.old.seen ≡ true → IfOk result (λ r. r.1 ≡ is_some (written (own_of seat.old.number seat.old.seen).writes key.now)) }
         ensures room { IfOk result (λ _. has_room ≡ true) }
-        ensures call { IfOk result (λ r. IsGot N.name.setting seat.old.seen seat.old.number key r.1 seat.new.seen) }
-        ensures refused { IfErr result (λ why. IsAnswered N.name.setting seat.old.number seat.old.seen (Get seat.old.number key) (Refused why)) }
+        ensures call { IfOk result (λ r. IsGot N.name.setting seat.old.seen seat.old.number key.now r.0 seat.new.seen) }
+        ensures refused { IfErr result (λ why. IsAnswered N.name.setting seat.old.number seat.old.seen (Get seat.old.number key.now) (Refused why)) }
         ensures no_wait { IfErr result (λ why. why ≢ Refusal.StillWaiting) }
         ensures same { OnErr result (seat.new.seen ≡ seat.old.seen) }
     {
-        let mut step = asking(Event::Get(seat.number(), key));
-        let own_write = self.step_as(rt, seat, &mut step, has_room);
-        let Step { event, reply } = step;
-        let Event::Get(_, key) = event else {
-            unreachable!()
-        };
-        match reply {
-            Reply::Found(value) => Ok((key, Got::Found(value), own_write)),
-            Reply::Absent => Ok((key, Got::Absent, own_write)),
-            Reply::Died => Ok((key, Got::Died, own_write)),
-            Reply::Refused(why) => Err(why),
-            _ => unreachable!(),
+        let mut held = self.get_latch(rt);
+        for _ in rt.forever() {
+            let (answer, own_write) = held.latched.get(&self.tie, seat, key, has_room);
+            if is_read_waiting(&answer) {
+                drop(answer);
+                held = self.sleep_for_lock(rt, held, seat.number());
+            } else {
+                self.end_read(held, &answer);
+                return got_in(answer, own_write);
+            }
         }
+        unreachable!()
     }
 
     // Sets the key to the value; false where the request died.
@@ -118,24 +263,26 @@ impl<N: StoreName> Shared<N> {
         &self,
         rt: &R,
         seat: &mut SessionSeat<N>,
-        key: Key,
-        value: Value,
+        key: &Key,
+        value: &Value,
     ) -> Result<bool, Refusal>
         ensures number { seat.new.number ≡ seat.old.number }
-        ensures call { IfOk result (λ made. IsWriteMade N.name.setting seat.old.seen (Put seat.old.number key value) made seat.new.seen) }
-        ensures refused { IfErr result (λ why. IsAnswered N.name.setting seat.old.number seat.old.seen (Put seat.old.number key value) (Refused why)) }
+        ensures call { IfOk result (λ made. IsWriteMade N.name.setting seat.old.seen (Put seat.old.number key.now value.now) made seat.new.seen) }
+        ensures refused { IfErr result (λ why. IsAnswered N.name.setting seat.old.number seat.old.seen (Put seat.old.number key.now value.now) (Refused why)) }
         ensures no_wait { IfErr result (λ why. why ≢ Refusal.StillWaiting) }
         ensures same { OnErr result (seat.new.seen ≡ seat.old.seen) }
     {
-        let mut step = asking(Event::Put(seat.number(), key, value));
-        self.step_as(rt, seat, &mut step, true);
-        let Step { event: _, reply } = step;
-        match reply {
-            Reply::Ok => Ok(true),
-            Reply::Died => Ok(false),
-            Reply::Refused(why) => Err(why),
-            _ => unreachable!(),
+        let mut held = self.get_latch(rt);
+        for _ in rt.forever() {
+            let answer = held.latched.put(&self.tie, seat, key, value);
+            if is_write_waiting(&answer) {
+                held = self.sleep_for_lock(rt, held, seat.number());
+            } else {
+                self.end_write(held, &answer);
+                return made_in(&answer);
+            }
         }
+        unreachable!()
     }
 
     // Removes the key; false where the request died.
@@ -143,23 +290,25 @@ impl<N: StoreName> Shared<N> {
         &self,
         rt: &R,
         seat: &mut SessionSeat<N>,
-        key: Key,
+        key: &Key,
     ) -> Result<bool, Refusal>
         ensures number { seat.new.number ≡ seat.old.number }
-        ensures call { IfOk result (λ made. IsWriteMade N.name.setting seat.old.seen (Del seat.old.number key) made seat.new.seen) }
-        ensures refused { IfErr result (λ why. IsAnswered N.name.setting seat.old.number seat.old.seen (Del seat.old.number key) (Refused why)) }
+        ensures call { IfOk result (λ made. IsWriteMade N.name.setting seat.old.seen (Del seat.old.number key.now) made seat.new.seen) }
+        ensures refused { IfErr result (λ why. IsAnswered N.name.setting seat.old.number seat.old.seen (Del seat.old.number key.now) (Refused why)) }
         ensures no_wait { IfErr result (λ why. why ≢ Refusal.StillWaiting) }
         ensures same { OnErr result (seat.new.seen ≡ seat.old.seen) }
     {
-        let mut step = asking(Event::Del(seat.number(), key));
-        self.step_as(rt, seat, &mut step, true);
-        let Step { event: _, reply } = step;
-        match reply {
-            Reply::Ok => Ok(true),
-            Reply::Died => Ok(false),
-            Reply::Refused(why) => Err(why),
-            _ => unreachable!(),
+        let mut held = self.get_latch(rt);
+        for _ in rt.forever() {
+            let answer = held.latched.del(&self.tie, seat, key);
+            if is_write_waiting(&answer) {
+                held = self.sleep_for_lock(rt, held, seat.number());
+            } else {
+                self.end_write(held, &answer);
+                return made_in(&answer);
+            }
         }
+        unreachable!()
     }
 
     // Adds to the number that the key has, and gives the sum; None where the request died.
@@ -167,24 +316,26 @@ impl<N: StoreName> Shared<N> {
         &self,
         rt: &R,
         seat: &mut SessionSeat<N>,
-        key: Key,
+        key: &Key,
         delta: i64,
     ) -> Result<Option<i64>, Refusal>
         ensures number { seat.new.number ≡ seat.old.number }
-        ensures call { IfOk result (λ sum. IsAdded N.name.setting seat.old.seen (Add seat.old.number key delta) sum seat.new.seen) }
-        ensures refused { IfErr result (λ why. IsAnswered N.name.setting seat.old.number seat.old.seen (Add seat.old.number key delta) (Refused why)) }
+        ensures call { IfOk result (λ sum. IsAdded N.name.setting seat.old.seen (Add seat.old.number key.now delta) sum seat.new.seen) }
+        ensures refused { IfErr result (λ why. IsAnswered N.name.setting seat.old.number seat.old.seen (Add seat.old.number key.now delta) (Refused why)) }
         ensures no_wait { IfErr result (λ why. why ≢ Refusal.StillWaiting) }
         ensures same { OnErr result (seat.new.seen ≡ seat.old.seen) }
     {
-        let mut step = asking(Event::Add(seat.number(), key, delta));
-        self.step_as(rt, seat, &mut step, true);
-        let Step { event: _, reply } = step;
-        match reply {
-            Reply::Sum(sum) => Ok(Some(sum)),
-            Reply::Died => Ok(None),
-            Reply::Refused(why) => Err(why),
-            _ => unreachable!(),
+        let mut held = self.get_latch(rt);
+        for _ in rt.forever() {
+            let answer = held.latched.add(&self.tie, seat, key, delta);
+            if is_add_waiting(&answer) {
+                held = self.sleep_for_lock(rt, held, seat.number());
+            } else {
+                self.end_add(held, &answer);
+                return sum_in(&answer);
+            }
         }
+        unreachable!()
     }
 
     // Commits, and gives the number of the entry.
@@ -201,14 +352,17 @@ impl<N: StoreName> Shared<N> {
         ensures no_wait { IfErr result (λ why. why ≢ Refusal.StillWaiting) }
         ensures same { OnErr result (seat.new.seen ≡ seat.old.seen) }
     {
-        let mut step = asking(Event::Commit(seat.number()));
-        self.step_as(rt, seat, &mut step, has_room);
-        let Step { event: _, reply } = step;
-        match reply {
-            Reply::Committed(n) => Ok(n),
-            Reply::Refused(why) => Err(why),
-            _ => unreachable!(),
+        let mut held = self.get_latch(rt);
+        for _ in rt.forever() {
+            let answer = held.latched.commit(&self.tie, seat, has_room);
+            if is_commit_waiting(&answer) {
+                held = self.sleep_for_lock(rt, held, seat.number());
+            } else {
+                self.end_commit(held, &answer);
+                return entry_in(&answer);
+            }
         }
+        unreachable!()
     }
 
     // Aborts.
@@ -219,13 +373,16 @@ impl<N: StoreName> Shared<N> {
         ensures no_wait { IfErr result (λ why. why ≢ Refusal.StillWaiting) }
         ensures same { OnErr result (seat.new.seen ≡ seat.old.seen) }
     {
-        let mut step = asking(Event::Abort(seat.number()));
-        self.step_as(rt, seat, &mut step, true);
-        let Step { event: _, reply } = step;
-        match reply {
-            Reply::Aborted => Ok(()),
-            Reply::Refused(why) => Err(why),
-            _ => unreachable!(),
+        let mut held = self.get_latch(rt);
+        for _ in rt.forever() {
+            let answer = held.latched.abort(&self.tie, seat);
+            if is_abort_waiting(&answer) {
+                held = self.sleep_for_lock(rt, held, seat.number());
+            } else {
+                self.end_abort(held, &answer);
+                return end_in(&answer);
+            }
         }
+        unreachable!()
     }
 }

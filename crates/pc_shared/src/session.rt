@@ -183,8 +183,8 @@ impl<N: StoreName> Shared<N> {
             return Err(told_idle(&session.seat));
         }
         let has_room = has_room_to_read(&mut session.work.reads);
-        let (key, got, own) = match self.get_as(rt, &mut session.seat, key, has_room) {
-            Ok((key, got, own)) => (key, got, own),
+        let (got, own) = match self.get_as(rt, &mut session.seat, &key, has_room) {
+            Ok((got, own)) => (got, own),
             Err(why) => return Err(why),
         };
         let answer = answer_of(&got);
@@ -213,7 +213,7 @@ impl<N: StoreName> Shared<N> {
         if !session.work.busy {
             return Err(told_idle(&session.seat));
         }
-        let made = match self.put_as(rt, &mut session.seat, key, value) {
+        let made = match self.put_as(rt, &mut session.seat, &key, &value) {
             Ok(made) => made,
             Err(why) => return Err(why),
         };
@@ -239,7 +239,7 @@ impl<N: StoreName> Shared<N> {
         if !session.work.busy {
             return Err(told_idle(&session.seat));
         }
-        let made = match self.del_as(rt, &mut session.seat, key) {
+        let made = match self.del_as(rt, &mut session.seat, &key) {
             Ok(made) => made,
             Err(why) => return Err(why),
         };
@@ -269,7 +269,7 @@ impl<N: StoreName> Shared<N> {
         if !session.work.busy {
             return Err(told_idle(&session.seat));
         }
-        let sum = match self.add_as(rt, &mut session.seat, key, delta) {
+        let sum = match self.add_as(rt, &mut session.seat, &key, delta) {
             Ok(sum) => sum,
             Err(why) => return Err(why),
         };

@@ -6,22 +6,15 @@ ghost use Rattle.pc_model.specs.Files.{file_at, shelf};
 ghost use Rattle.pc_model.specs.Maps.{len};
 ghost use Rattle.pc_model.specs.Replies.{IsLegalHistory};
 ghost use Rattle.pc_engine.specs.Runs.{starting};
-ghost use Rattle.pc_model.specs.Calls.{session_of, counts, IsAnswered, IsBeginning};
-ghost use Rattle.pc_model.specs.ReplyKinds.{IsReplyTo};
-ghost use Rattle.pc_model.specs.SessionLaws.{IsNoJoin};
-ghost use Rattle.pc_engine.specs.Asking.{AsksOfOpen};
+ghost use Rattle.pc_model.specs.Calls.{IsBeginning};
 ghost use Rattle.pc_engine.specs.Stands.{Stands};
 ghost use Rattle.pc_engine.specs.Store.{setting_of};
-ghost use Rattle.pc_tie.specs.Seats.{MovesOn};
 ghost use Rattle.pc_latch.specs.Batches.{batch, HasEntries, IsNext};
 ghost use Rattle.pc_latch.specs.Cycles.{IsAdvance};
-ghost use Rattle.pc_model.specs.History.{History, is_open, log_of};
-ghost use Rattle.pc_model.specs.Receipts.{own_of};
-ghost use Rattle.pc_latch.specs.OwnReads.{reads_one_of};
+ghost use Rattle.pc_model.specs.History.{History, log_of};
 ghost use Rattle.pc_model.specs.Sets as set;
 ghost use Rattle.pc_latch.specs.Tickets.{HasNoFile, IsNoTicket};
 ghost use Rattle.pc_shared.specs.Advances.{EndsWith};
-ghost use Rattle.pc_shared.specs.Asked.{is_wait};
 ghost use Rattle.pc_shared.specs.Granted.{HasGranted};
 ghost use Rattle.pc_shared.specs.Sitters.{new_sitters, IsLeftByStore, AreSittersApart, HasAll, LacksOne};
 ghost use Rattle.pc_shared.specs.Waking.{woken_by, noted};
@@ -29,7 +22,7 @@ ghost use Rattle.pc_shared.specs.Waking.{woken_by, noted};
 use crate::closing::{Closed, close};
 use crate::logged::{LastEntry, LogBatch, Logged};
 use crate::session::Session;
-use crate::waits::{News, Waits, Woken, is_wait};
+use crate::waits::{News, Waits, Woken};
 use crate::written::Written;
 use pc_engine::World;
 use pc_latch::{Latched, LogPass, LogTexts, PartTicket};
@@ -38,7 +31,7 @@ use pc_tie::{
     CheckpointerSeat, Keeper, Milestone, SessionSeat, Start, StoreName, Tie, Untied, Witness,
 };
 use pc_txn::SessionNotes;
-use pc_types::{FileNo, Lsn, MOST_KEYS, MOST_SESSIONS, Refusal, Reply, SessionNo, Step};
+use pc_types::{FileNo, Lsn, MOST_KEYS, MOST_SESSIONS, Refusal, Reply, SessionNo};
 use std::alloc::Global;
 use std::hash::RandomState;
 use std::marker::Model;
@@ -297,41 +290,18 @@ impl<N: StoreName> Shared<N> {
         }
     }
 
-    // Asks the step's event until it is answered; the step has the reply then. While its request waits, which no other session
-    // can answer it, it sleeps, and asks again after an end of a transaction that has granted a request for which a call sleeps.
-    // It tells whether the event reads a key that the session's own transaction has written.
-    pub(crate) fn step_as<R: Wait>(
-        &self,
+    // Lets the latch go and sleeps, for the session's request, until an end of a transaction has granted a request for which a
+    // call sleeps; then it has the latch again.
+    pub(crate) fn sleep_for_lock<'a, R: Wait>(
+        &'a self,
         rt: &R,
-        seat: &mut SessionSeat<N>,
-        step: &mut Step,
-        has_room: bool,
-    ) -> bool
-        requires own { session_of step.old.event ≡ seat.old.number }
-        requires asks { has_room ≡ false → AsksOfOpen step.old.event }
-        requires no_join { IsNoJoin step.old.event }
-        ensures event { step.new.event ≡ step.old.event }
-        ensures kind { IsReplyTo step.new.event step.new.reply }
-        ensures number { seat.new.number ≡ seat.old.number }
-        ensures moves { MovesOn N.name.setting seat.old.seen step.new seat.new.seen }
-        ensures answered { IsAnswered N.name.setting seat.old.number seat.old.seen step.new.event step.new.reply }
-        ensures room { has_room ≡ false → counts step.new.reply ≡ false }
-        ensures no_wait { is_wait step.new.reply ≡ false }
-        ensures own_write { is_open seat.old.number seat.old.seen ≡ true → result ≡ reads_one_of (own_of seat.old.number seat.old.seen).writes step.new.event }
-    {
-        let mut held = self.get_latch(rt);
-        for _ in rt.forever() {
-            let own_write = held.latched.call(&self.tie, seat, step, has_room);
-            if is_wait(&step.reply) {
-                held.waits.for_locks.add(seat.number());
-                held = self.granted.wait(rt, held);
-                held.waits.for_locks.remove(seat.number());
-            } else {
-                self.let_go(held, &step.reply);
-                return own_write;
-            }
-        }
-        unreachable!()
+        mut held: MutexGuard<'a, UnderLatch<N>>,
+        session: SessionNo,
+    ) -> MutexGuard<'a, UnderLatch<N>> {
+        held.waits.for_locks.add(session);
+        let mut held = self.granted.wait(rt, held);
+        held.waits.for_locks.remove(session);
+        held
     }
 
     // Notes what was answered, lets the latch go, and wakes those who can go on, if there are any.

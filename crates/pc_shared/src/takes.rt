@@ -1,9 +1,11 @@
 //! The checkpointer takes keys of the point, many in one turn of the latch.
 ghost use Rattle.std.specs.Prelude.{◌≡◌};
+ghost use Rattle.pc_answers.specs.Replies.{take_reply};
 ghost use Rattle.pc_latch.specs.Cycles.{IsTakeCalled};
-ghost use Rattle.pc_shared.specs.Takes.{end_by, IsTurnOfTakes};
+ghost use Rattle.pc_shared.specs.Takes.{IsTurnOfTakes};
 
 use crate::store::{Shared, UnderLatch};
+use pc_answers::{TakeAnswer, take_reply};
 use pc_tie::{CheckpointerSeat, StoreName, Tie};
 use pc_types::{Refusal, Reply};
 use std::sync::{MutexGuard, Wait};
@@ -26,17 +28,6 @@ pub struct Takes {
     pub end: TakesEnd,
 }
 
-// How the reply to a take ends a turn; none where a key was taken.
-fn end_by(reply: &Reply) -> Option<TakesEnd>
-    ensures { result ≡ end_by reply.now }
-{
-    match reply {
-        Reply::NoneLeft => Some(TakesEnd::NoneLeft),
-        Reply::Refused(why) => Some(TakesEnd::Refused(*why)),
-        _ => None,
-    }
-}
-
 // A reply of the kind that such takes were given last, with no key: whether one was taken.
 fn told_takes(keys: u32) -> Reply {
     if keys == 0 {
@@ -48,7 +39,6 @@ fn told_takes(keys: u32) -> Reply {
 
 impl<N: StoreName> UnderLatch<N> {
     // Keys of the point are taken, one after the other, until they are this many, none is left, or a take is refused.
-    #[tactic(auto, using(crate::proofs::Taking::taken_on))]
     fn take_keys(
         &mut self,
         tie: &Tie<N>,
@@ -58,11 +48,16 @@ impl<N: StoreName> UnderLatch<N> {
         ensures { IsTurnOfTakes N.name.setting most checkpointer.old result checkpointer.new }
     {
         for keys in 0..most {
-            let reply = self.latched.take(tie, checkpointer);
-            let end = end_by(&reply);
-            drop(reply);
-            if let Some(end) = end {
-                return Takes { keys, end };
+            match self.latched.take(tie, checkpointer) {
+                Ok(TakeAnswer::Took(_, _)) => {}
+                Ok(TakeAnswer::NoneLeft) => return Takes {
+                    keys,
+                    end: TakesEnd::NoneLeft,
+                },
+                Err(why) => return Takes {
+                    keys,
+                    end: TakesEnd::Refused(why),
+                },
             }
         }
         Takes {
@@ -79,7 +74,7 @@ impl<N: StoreName> Shared<N> {
         ensures { IsTakeCalled N.name.setting checkpointer.old result checkpointer.new }
     {
         let mut held = self.get_latch_soon(rt);
-        let reply = held.latched.take(&self.tie, checkpointer);
+        let reply = take_reply(held.latched.take(&self.tie, checkpointer));
         self.let_go(held, &reply);
         reply
     }

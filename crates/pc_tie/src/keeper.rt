@@ -11,19 +11,20 @@ ghost use Rattle.pc_tie.specs.Seats.{meeting, sitting_in, seat_of, number_at, se
 
 use crate::milestone::Milestone;
 use crate::name::StoreName;
+use crate::noted::NotedStep;
 use crate::rule::{Append, Compare, Deal, Show, Visit};
 use crate::seats::{CheckpointerSeat, SessionSeat, Witness};
 use crate::sight::Sight;
 use crate::tie::Tie;
 use atomic_table::{Badge, Seat};
-use pc_types::{SessionNo, Step};
+use pc_types::SessionNo;
 use std::marker::{Model, PhantomData};
 use std::mem;
 
 /// The keeper of a store's history. Contracts see the history, how many seats were dealt, and those that it has taken in.
 #[derive(Drop)]
 pub struct Keeper<N: StoreName> {
-    seat: Seat<Step, Sight>,
+    seat: Seat<NotedStep, Sight>,
     name: PhantomData<N>,
 }
 
@@ -61,7 +62,7 @@ impl<N: StoreName> Model for Dealer<N> {
 // The checkpointer's seat at a new word, and who deals the others.
 pub(crate) fn deal_first<N: StoreName>(
     tie: &Tie<N>,
-    seat: Seat<Step, Sight>,
+    seat: Seat<NotedStep, Sight>,
 ) -> (CheckpointerSeat<N>, Dealer<N>)
     requires { (seat.table_id ≡ N.name.table) × (seat.me ≡ (Whole [] 0 [], [])) }
     ensures checkpointer { result.0 ≡ [] }
@@ -171,7 +172,7 @@ impl<N: StoreName> Keeper<N> {
     }
 
     // Adds a step of the one seat that was taken in to the history. `before` and `after` are the numbers of entries of the log.
-    fn append(&mut self, tie: &Tie<N>, before: u64, after: u64, step: &Step)
+    fn append(&mut self, tie: &Tie<N>, before: u64, after: u64, step: &NotedStep)
         requires asked { IsStepOfGuest step.now self.old.guests }
         requires legal { IsLegalHistory N.name.setting (step.now ∷ self.old.history) }
         requires before { before ≡ length (log_of self.old.history) }
@@ -192,7 +193,7 @@ impl<N: StoreName> Keeper<N> {
         badge: &mut Badge<Sight>,
         before: u64,
         after: u64,
-        step: &Step,
+        step: &NotedStep,
     )
         requires alone { self.old.guests ≡ [] }
         requires seat { IsSeatAt N.name.table badge.old }
@@ -221,7 +222,7 @@ impl<N: StoreName> Keeper<N> {
         session: &mut SessionSeat<N>,
         before: u64,
         after: u64,
-        step: &Step,
+        step: &NotedStep,
     )
         requires alone { self.old.guests ≡ [] }
         requires own { session_of step.now.event ≡ session.old.number }
@@ -243,7 +244,7 @@ impl<N: StoreName> Keeper<N> {
         checkpointer: &mut CheckpointerSeat<N>,
         before: u64,
         after: u64,
-        step: &Step,
+        step: &NotedStep,
     )
         requires alone { self.old.guests ≡ [] }
         requires own { session_of step.now.event ≡ 0 }

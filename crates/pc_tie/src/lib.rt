@@ -5,6 +5,7 @@
 mod keeper;
 mod milestone;
 mod name;
+mod noted;
 mod rule;
 mod seats;
 mod sight;
@@ -14,6 +15,7 @@ mod tie;
 pub use keeper::{Dealer, Keeper};
 pub use milestone::Milestone;
 pub use name::StoreName;
+pub use noted::NotedStep;
 pub use seats::{CheckpointerSeat, SessionSeat, Witness};
 pub use sight::{Sight, Sitting};
 pub use start::Start;

@@ -2,10 +2,10 @@
 ghost use Rattle.std.specs.Prelude.{◌≡◌, IfSome};
 
 use crate::name::StoreName;
+use crate::noted::NotedStep;
 use crate::seats::Witness;
 use crate::sight::Sight;
 use atomic_table::{Perch, Seat};
-use pc_types::Step;
 use std::marker::{Model, PhantomData};
 
 // What the word of a milestone says: its witness is out, or it stands there.
@@ -17,7 +17,7 @@ const THERE: u64 = 2;
 /// Contracts see what it has seen, which stays the same.
 #[derive(Drop)]
 pub struct Milestone<N: StoreName> {
-    perch: Perch<Step, Sight>,
+    perch: Perch<NotedStep, Sight>,
     name: PhantomData<N>,
 }
 
@@ -40,7 +40,7 @@ impl<N: StoreName> Milestone<N> {
         ensures { result ≡ witness }
     {
         let Witness { badge, name: _ } = witness;
-        let seat: Seat<Step, Sight> = badge.into_seat();
+        let seat: Seat<NotedStep, Sight> = badge.into_seat();
         let perch = Perch::new(&seat, OUT);
         let _given = perch.give(seat, OUT, THERE);
         Milestone {
@@ -68,7 +68,7 @@ impl<N: StoreName> Milestone<N> {
         requires { witness ≡ self.now }
     {
         let Witness { badge, name: _ } = witness;
-        let seat: Seat<Step, Sight> = badge.into_seat();
+        let seat: Seat<NotedStep, Sight> = badge.into_seat();
         let _given = self.perch.give(seat, OUT, THERE);
     }
 }

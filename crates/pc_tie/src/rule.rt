@@ -1,8 +1,8 @@
 //! The rule that every atomic step on a store's word keeps, and what each step tells.
+use crate::noted::NotedStep;
 use crate::sight::Sight;
 use crate::start::Start;
 use atomic_table::{Join, Play, Split, TableRule};
-use pc_types::Step;
 
 /// The word is read off one legal history, of which each seat knows a beginning. The rule's key is what the store
 /// starts from.
@@ -21,7 +21,7 @@ impl<S> TableRule<S, Sight, Start> for OneHistory {
 /// The keeper adds a step to the history.
 pub struct Append;
 
-impl Play<Step, Sight> for Append {
+impl Play<NotedStep, Sight> for Append {
     ghost use Rattle.pc_tie.specs.Rules.{Applied};
 
     ghost then = { Applied };
@@ -30,7 +30,7 @@ impl Play<Step, Sight> for Append {
 /// The keeper looks at what the seats had seen that it has taken in.
 pub struct Compare;
 
-impl Play<Step, Sight> for Compare {
+impl Play<NotedStep, Sight> for Compare {
     ghost use Rattle.pc_tie.specs.Rules.{Compared};
 
     ghost then = { Compared };
@@ -90,7 +90,7 @@ impl Join<Sight> for Meet {
     ghost spent = { Gone };
 }
 
-impl Play<Step, Sight> for Meet {
+impl Play<NotedStep, Sight> for Meet {
     ghost use Rattle.pc_tie.specs.Rules.{Met};
 
     ghost then = { Met };

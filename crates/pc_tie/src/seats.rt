@@ -4,11 +4,12 @@ ghost use Rattle.pc_tie.specs.Rules.{a_witness, AreOfOne};
 ghost use Rattle.pc_tie.specs.Seats.{IsSeatAt, IsSession, seat_of};
 
 use crate::name::StoreName;
+use crate::noted::NotedStep;
 use crate::rule::Meet;
 use crate::sight::Sight;
 use crate::tie::Tie;
 use atomic_table::{Badge, Seat};
-use pc_types::{SessionNo, Step};
+use pc_types::SessionNo;
 use std::marker::{Model, PhantomData};
 use std::mem;
 
@@ -59,8 +60,8 @@ fn meet_at<N: StoreName>(tie: &Tie<N>, own: &mut Badge<Sight>, other: &mut Badge
     ensures same { (seat_of own.new ≡ seat_of own.old) × (seat_of other.new ≡ seat_of other.old) }
     ensures one { AreOfOne (seat_of own.old).seen (seat_of other.old).seen }
 {
-    let mut seat: Seat<Step, Sight> = mem::replace(own, Badge::blank()).into_seat();
-    let witness: Seat<Step, Sight> = mem::replace(other, Badge::blank()).into_seat();
+    let mut seat: Seat<NotedStep, Sight> = mem::replace(own, Badge::blank()).into_seat();
+    let witness: Seat<NotedStep, Sight> = mem::replace(other, Badge::blank()).into_seat();
     let shared = &tie.table.shared;
     shared.join_seat::<Meet>(&mut seat, witness);
     let _found = shared.load::<Meet>(&mut seat, 0);

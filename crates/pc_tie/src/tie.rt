@@ -3,20 +3,21 @@ ghost use Rattle.std.specs.Prelude.{◌≡◌, [], IfOk, IfErr};
 
 use crate::keeper::{Dealer, deal_first};
 use crate::name::StoreName;
+use crate::noted::NotedStep;
 use crate::rule::OneHistory;
 use crate::seats::CheckpointerSeat;
 use crate::sight::Sight;
 use crate::start::Start;
 use atomic_table::{Seat, Table};
-use pc_types::{Refusal, Step};
+use pc_types::Refusal;
 use std::alloc::Global;
 use std::marker::{Model, PhantomData};
 
 /// A word of no store yet, and its first seat. Contracts see the name that it can be given.
 #[derive(Drop)]
 pub struct Untied {
-    table: Table<Step, Sight, Start, OneHistory, Global>,
-    seat: Seat<Step, Sight>,
+    table: Table<NotedStep, Sight, Start, OneHistory, Global>,
+    seat: Seat<NotedStep, Sight>,
 }
 
 impl Model for Untied {
@@ -64,7 +65,7 @@ impl Untied {
 /// The word of a store, by which each seat at it knows the one history of the store, or a beginning of it.
 #[derive(Drop)]
 pub struct Tie<N: StoreName> {
-    pub(crate) table: Table<Step, Sight, Start, OneHistory, Global>,
+    pub(crate) table: Table<NotedStep, Sight, Start, OneHistory, Global>,
     name: PhantomData<N>,
     pub(crate) ghost named: { table.shared.table_id ≡ N.name.table },
     pub(crate) ghost one: { table.shared.table_id.words ≡ 1 },

@@ -14,6 +14,6 @@ returns-clause-called g c =
     let is = c.self.invariant.2 in
     let follows = c.step-reply.ensures.follows hist stands in
     let noted = c.note_own.ensures in
-    called g.N.StoreName.name.setting hist c.args.checkpointer.now c.note_own.new.checkpointer event reply (subst (λ (t : Setting). IsLegalHistory t hist) is stands.legal)
+    called g.N.StoreName.name.setting hist c.args.checkpointer.now c.note_own.new.checkpointer event reply c.of-step.result c.of-step.ensures (subst (λ (t : Setting). IsLegalHistory t hist) is stands.legal)
     (subst (λ (t : Setting). IsLegal t hist event reply) is follows.legal)
     (subst (λ (t : Setting). TakesPointValue t.base (step_of event reply ∷ hist)) (c.step-reply.ensures.setting ∙ is) follows.stands.values) noted.knew noted.sees noted.moves

@@ -1,4 +1,4 @@
-use Rattle.std.proofs.Common.{◌≡◌, ℕ, List, true, sym, ap, ◌∙◌, subst}
+use Rattle.std.proofs.Common.{◌≡◌, ℕ, List, sym, ap, ◌∙◌, subst}
 use Rattle.std.specs.Prelude.{is_some}
 use Rattle.pc_types.specs.declared.Event.TheVariants as asked
 use Rattle.pc_types.specs.declared.Refusal.{Refusal}
@@ -21,12 +21,12 @@ invariant_of-session-2 g c =
     let f = c.session.inside.seat in
     let after = c.get_as.new.seat.seen in
     let got = c.in-Ok.got in
-    let key = c.in-Ok.key in
+    let key = c.args.key in
     let busy = c.if-not-session.false in
     let mine : c.in-Ok.own ≡ is_some (written (own_of f.number f.seen).writes key) =
-    c.in-Ok.ensures.own_write (c.session.invariant.0.when_open ∙ busy) ∙ ap (λ (k : List ℕ). is_some (written (own_of f.number f.seen).writes k)) (sym c.in-Ok.ensures.key) in
+    c.in-Ok.ensures.own_write (c.session.invariant.0.when_open ∙ busy) in
     let reads : v.reads.items ≡ reads_after got c.in-Ok.own w.reads.items key = c.read.ensures.reads ∙ ap (λ (l : List Read). reads_after got c.in-Ok.own l key) c.has_room_to_read-has_room.ensures.same in
-    let call : IsGot st f.seen f.number key got after = subst (λ (k : List ℕ). IsGot st f.seen f.number k got after) (sym c.in-Ok.ensures.key) c.in-Ok.ensures.call in (
+    let call : IsGot st f.seen f.number key got after = c.in-Ok.ensures.call in (
       subst (λ (m : ℕ). SessionKeeps v.busy v.reads.items v.commits.items m after) (sym c.get_as.ensures.number)
           (read_keeps st f.number f.seen after w.busy v.busy w.reads.items v.reads.items w.commits.items v.commits.items c.session.invariant.0 key got c.in-Ok.own busy mine call c.read.ensures.others.0 reads c.read.ensures.others.1),
       c.read.ensures.latest ∙ sym (got_found st f.number f.seen after key got call),

@@ -1,4 +1,4 @@
-use Rattle.std.proofs.Common.{sym, ap, ◌∙◌}
+use Rattle.std.proofs.Common.{sym, ◌∙◌}
 use Rattle.pc_tie.proofs.Milestones.{is_that_of, seat_is}
 use Rattle.pc_tie.proofs.milestone.Milestone.put_back.Goals as goal
 
