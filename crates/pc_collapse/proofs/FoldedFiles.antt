@@ -79,7 +79,7 @@ len_insert m k v = by (is_some (find key_cmp k m.entries)) (length-put key_cmp k
     by true is = omega (arith, is)
     by false is = omega (arith, is)
 
-len_entries : (m : Triples) (es : List (List ℕ × AtPoint)) → len m ≤ len (joined_entries m es)
+pub len_entries : (m : Triples) (es : List (List ℕ × AtPoint)) → len m ≤ len (joined_entries m es)
 len_entries m [] = omega arith
 len_entries m (e ∷ es) = let one = len_insert (joined_entries m es) e.0 (newer (get m e.0) e.1) in let rest = len_entries m es in omega (arith, one, rest)
 

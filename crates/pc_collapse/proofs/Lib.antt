@@ -1,7 +1,7 @@
 mod BagMoves
 mod DealtFiles
 mod FactLists
-mod FoldedFiles
+pub mod FoldedFiles
 mod Gathered
 mod JoinedFacts
 mod KeyConflicts

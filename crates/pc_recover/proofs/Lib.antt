@@ -1,3 +1,5 @@
+mod ApartFiles
+mod JoinedAtOnce
 mod EntryReplays
 mod Folded
 mod Reaching

@@ -1,7 +1,10 @@
 -- Joining files one after the other, and laying one on a base.
-use Rattle.std.specs.Prelude.{List, [], ◌∷◌, Option, Some, None, Result, Ok}
+use Rattle.std.specs.Prelude.{ℕ, ◌≡◌, IsTrue, List, [], ◌∷◌, Option, Some, None, Result, Ok}
 use Rattle.pc_types.specs.declared.refusal.Refusal.{Refusal}
 use Rattle.pc_types.specs.Fields.{◌>>=◌}
+use Rattle.pc_model.specs.Maps as map_of
+use Rattle.pc_model.specs.Sets as set
+use Rattle.pc_model.specs.Points.{AtPoint}
 use Rattle.pc_model.specs.Files.{File, BaseFile, joined_file}
 use Rattle.pc_model.specs.LaidFiles.{laid_file}
 use Rattle.pc_model.specs.Replies.{join_causes}
@@ -24,3 +27,7 @@ joined_on None (file ∷ files) = joined_on (Some file) files
 joined_on (Some joined) (file ∷ files) = do
   both ← join_due joined file
   joined_on (Some both) files
+
+-- what a key has in the file is of one of its points
+abbrev pub IsOfPoints : File → Type 0
+IsOfPoints file = (key : List ℕ) (there : AtPoint) → map_of.get file.triples key ≡ Some there → IsTrue (set.contains file.points there.point)

@@ -1,5 +1,5 @@
 -- How far files reach: of each point the least greatest point of the files that stand for it.
-use Rattle.std.specs.Prelude.{ℕ, ◌≡◌, ◌≤◌, min, List, Option, Some, None, fold, slice_index_or, if◌then◌else◌}
+use Rattle.std.specs.Prelude.{ℕ, ◌≡◌, ◌≤◌, IsTrue, min, List, Option, Some, None, fold, slice_index_or, if◌then◌else◌}
 use Rattle.pc_types.specs.declared.limits.TheConstants.{MOST_POINTS}
 use Rattle.pc_model.specs.Sets as set
 use Rattle.pc_model.specs.Files.{File}
@@ -27,6 +27,10 @@ top_at tops point = slice_index_or tops point None
 -- the table has of each point the least greatest point of the files that stand for it
 abbrev pub AreTops : List (Option ℕ) → List File → Type 0
 AreTops tops files = (point : ℕ) → point ≤ MOST_POINTS → top_at tops point ≡ least_top files point
+
+-- the file's points have a place in the table, at which nothing is noted
+abbrev pub IsFree : List (Option ℕ) → File → Type 0
+IsFree tops file = (point : ℕ) → IsTrue (set.contains file.points point) → (point ≤ MOST_POINTS) × (top_at tops point ≡ None)
 
 -- how far the files reach from the base: to the recovered point, and the first point that they lack
 pub record IsReach (base : ℕ) (files : List File) (reach : Reach) : Type 0 where

@@ -2,6 +2,7 @@
 #![tactic(auto)]
 
 mod candidates;
+mod joining;
 mod laws;
 mod reach;
 mod recovered;

@@ -1,16 +1,16 @@
 //! How far files reach from a base.
-ghost use Rattle.std.specs.Prelude.{◌≡◌, ℕ, ◌≤◌, length, nat_le, None, ◌&&◌, IfOk, if◌then◌else◌};
+ghost use Rattle.std.specs.Prelude.{◌≡◌, ℕ, ◌≤◌, length, nat_le, None, ◌&&◌, IfOk, IsTrue, if◌then◌else◌};
 ghost use Rattle.pc_model.specs.LaidFiles.{greatest};
 ghost use Rattle.pc_recover.specs.Recovery.{read_files};
-ghost use Rattle.pc_recover.specs.Reach.{AreTops, IsReach, lesser, noted, top_at};
+ghost use Rattle.pc_recover.specs.Reach.{AreTops, IsFree, IsReach, lesser, noted, top_at};
 
 use crate::candidates::Candidate;
 use pc_part::{Part, Range};
 use pc_types::{MOST_POINTS, Point};
 use std::alloc::{AllocError, Global};
 
-// A place for each point, and one for the start.
-const PLACES: usize = MOST_POINTS as usize + 1;
+/// A place for each point, and one for the start.
+pub(crate) const PLACES: usize = MOST_POINTS as usize + 1;
 
 /// How far files reach from a base.
 #[derive(Clone, Copy, Debug, PartialEq, Eq)]
@@ -66,8 +66,8 @@ fn least_tops(alloc: Global, files: &[Candidate]) -> Result<Vec<Option<Point>>, 
     Ok(tops)
 }
 
-// So many places with nothing noted.
-fn no_tops(alloc: Global, places: usize) -> Result<Vec<Option<Point>>, AllocError>
+/// So many places with nothing noted.
+pub(crate) fn no_tops(alloc: Global, places: usize) -> Result<Vec<Option<Point>>, AllocError>
     ensures len { IfOk result (λ tops. length tops.items ≡ places) }
     ensures none { IfOk result (λ tops. (point : ℕ) → top_at tops.items point ≡ None) }
 {
@@ -75,8 +75,8 @@ fn no_tops(alloc: Global, places: usize) -> Result<Vec<Option<Point>>, AllocErro
     Ok(tops)
 }
 
-// Notes the part's greatest point at its points.
-fn note_part(tops: &mut [Option<Point>], part: &Part)
+/// Notes the part's greatest point at its points.
+pub(crate) fn note_part(tops: &mut [Option<Point>], part: &Part)
     requires { length tops.old ≡ PLACES }
     ensures len { length tops.new ≡ PLACES }
     ensures tops { (point : ℕ) → point ≤ MOST_POINTS → top_at tops.new point ≡ noted point (top_at tops.old point) part.now }
@@ -96,6 +96,32 @@ fn note_range(tops: &mut [Option<Point>], range: Range, top: Point)
     for place in usize::from(range.low.0)..usize::from(range.high.0) + 1 {
         tops[place] = lesser(tops[place], top);
     }
+}
+
+/// Whether nothing is noted at any of the part's points.
+pub(crate) fn is_free(tops: &[Option<Point>], part: &Part) -> bool
+    requires { length tops.now ≡ PLACES }
+    ensures { IsTrue result → IsFree tops.now part.now }
+{
+    for range in part.ranges() {
+        if !is_range_free(tops, *range) {
+            return false;
+        }
+    }
+    true
+}
+
+// Whether nothing is noted at any point of the range.
+fn is_range_free(tops: &[Option<Point>], range: Range) -> bool
+    requires { length tops.now ≡ PLACES }
+    ensures { IsTrue result → (point : ℕ) → range.low ≤ point → point ≤ range.high → top_at tops.now point ≡ None }
+{
+    for place in usize::from(range.low.0)..usize::from(range.high.0) + 1 {
+        if tops[place].is_some() {
+            return false;
+        }
+    }
+    true
 }
 
 // The lesser of two points, the first of which may not be there.

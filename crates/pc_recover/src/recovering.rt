@@ -25,8 +25,9 @@ use std::alloc::Global;
 /// where the point is 0, none where the log has no such token. Fewer than the 20 bytes of a log's header count as a log
 /// without entries. Bytes behind the last whole entry are left out, and their fault is told.
 ///
-/// Memory is taken for the pairs and a number of every 32 of them, the parts that were read, one entry of the log at a time,
-/// and for one number of each point. Of several refusals the first counts:
+/// Where no point is in two of the parts that are used, it takes one pass over all of their entries; else one for each of these
+/// parts over the entries of those before it. Memory is taken for the pairs and a number of every 32 of them, the parts that were
+/// read and their join, one entry of the log at a time, and for one number of each point. Of several refusals the first counts:
 ///
 /// - the fault of the base's bytes;
 /// - `Conflict` or `Full`, where the parts that are used can't be joined or laid;

@@ -1,14 +1,15 @@
 //! The state of the recovered point: the used files joined and laid on the base.
-ghost use Rattle.std.specs.Prelude.{◌≡◌, Some, None, ◌∷◌, []};
+ghost use Rattle.std.specs.Prelude.{◌≡◌, ◌++◌, None, ◌∷◌, [], IfOk};
 ghost use Rattle.pc_types.specs.Fields.{Gives};
 ghost use Rattle.pc_recover.specs.Recovery.{files_to, read_files, with_files};
-ghost use Rattle.pc_recover.specs.Folding.{join_due, joined_on, lay_due};
+ghost use Rattle.pc_recover.specs.Folding.{joined_on, lay_due};
 
 use crate::candidates::Candidate;
+use crate::joining::joined;
 use crate::reach::greatest_point;
-use pc_part::{Base, Part, join, lay};
+use pc_part::{Base, Part, lay};
 use pc_types::{Point, Refusal};
-use std::alloc::Global;
+use std::alloc::{AllocError, Global};
 
 /// The base with the join of the used files laid on it: those of them that could be had and have no point above this one.
 /// They are joined from the first to the last. Refuses as `join` and `lay` do, which come in this order.
@@ -30,46 +31,37 @@ pub(crate) fn with_used(
 fn joined_used(alloc: Global, point: Point, files: Vec<Candidate>) -> Result<Option<Part>, Refusal>
     ensures { Gives (λ joined. joined) result (joined_on None (files_to point (read_files files.items))) }
 {
-    let mut joined = None;
-    for file in files {
-        joined = with_file(alloc, point, joined, file)?;
-    }
-    Ok(joined)
+    let parts = used(alloc, point, files)?;
+    joined(alloc, parts)
 }
 
-// What is joined so far, with this file if it is used.
-fn with_file(
-    alloc: Global,
-    point: Point,
-    joined: Option<Part>,
-    file: Candidate,
-) -> Result<Option<Part>, Refusal>
-    ensures { Gives (λ joined. joined) result (joined_on joined (files_to point (read_files (file ∷ [])))) }
+// The files that are used.
+fn used(alloc: Global, point: Point, files: Vec<Candidate>) -> Result<Vec<Part>, AllocError>
+    ensures { IfOk result (λ parts. parts.items ≡ files_to point (read_files files.items)) }
+{
+    let mut parts = Vec::new(alloc);
+    for file in files {
+        parts = with_file(point, parts, file)?;
+    }
+    Ok(parts)
+}
+
+// The files so far, and this one if it is used.
+fn with_file(point: Point, parts: Vec<Part>, file: Candidate) -> Result<Vec<Part>, AllocError>
+    ensures { IfOk result (λ all. all.items ≡ parts.items ++ files_to point (read_files (file ∷ []))) }
 {
     match file {
-        Ok(part) if greatest_point(&part).0 <= point.0 => with_part(alloc, joined, part),
-        _ => Ok(joined),
+        Ok(part) if greatest_point(&part).0 <= point.0 => pushed(parts, part),
+        _ => Ok(parts),
     }
 }
 
-// What is joined so far, with this part.
-fn with_part(alloc: Global, joined: Option<Part>, part: Part) -> Result<Option<Part>, Refusal>
-    ensures { Gives (λ joined. joined) result (joined_on joined (part ∷ [])) }
+// The files so far, and this part.
+fn pushed(mut parts: Vec<Part>, part: Part) -> Result<Vec<Part>, AllocError>
+    ensures { IfOk result (λ all. all.items ≡ parts.items ++ part ∷ []) }
 {
-    match joined {
-        Some(joined) => {
-            let both = join_due(alloc, &joined, &part)?;
-            Ok(Some(both))
-        }
-        None => Ok(Some(part)),
-    }
-}
-
-// The join of two parts.
-fn join_due(alloc: Global, a: &Part, b: &Part) -> Result<Part, Refusal>
-    ensures { Gives (λ part. part) result (join_due a.now b.now) }
-{
-    join(alloc, a, b)
+    parts.push(part)?;
+    Ok(parts)
 }
 
 // The base with the part laid on it.
