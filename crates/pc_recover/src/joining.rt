@@ -11,8 +11,8 @@ use pc_part::{Part, join, joins_associate, joins_make_no_conflict};
 use pc_types::Refusal;
 use std::alloc::{AllocError, Global};
 
-/// The join of the parts from the first to the last, if there are any. Refuses as `join` does. Where no point is in two of them it
-/// takes one pass over the entries of all, else one for each of them over the entries of those before it.
+/// The join of the parts from the first to the last, if there are any. Refuses as `join` does. Of more than two, where no point is in
+/// two of them, it takes one pass over the entries of all, else one for each of them over the entries of those before it.
 pub(crate) fn joined(alloc: Global, parts: Vec<Part>) -> Result<Option<Part>, Refusal>
     ensures { Gives (λ joined. joined) result (joined_on None parts.items) }
 {
@@ -22,15 +22,15 @@ pub(crate) fn joined(alloc: Global, parts: Vec<Part>) -> Result<Option<Part>, Re
     }
 }
 
-// The join of two parts or more by one pass over the entries of all. None where it may be that joining them one after the other
-// is refused.
+// The join of more than two parts by one pass over the entries of all; two are joined quicker by themselves. None where it may be
+// that joining them one after the other is refused.
 fn joined_at_once(alloc: Global, parts: &[Part]) -> Result<Option<Part>, Refusal>
     ensures joined { IfOk result (λ joined. IfSome joined (λ part. joined_on None parts.now ≡ Ok (Some part))) }
     ensures memory { IfErr result (λ e. e ≡ Refusal.OutOfMemory) }
 {
     joins_associate();
     joins_make_no_conflict();
-    if parts.len() < 2 {
+    if parts.len() < 3 {
         return Ok(None);
     }
     if !are_apart(alloc, parts)? {
