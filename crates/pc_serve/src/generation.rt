@@ -64,20 +64,32 @@ fn serve_generation<R: Read + Drop, W: Write + Drop>(
     generation: Generation<W>,
     input: &mut BufReader<R>,
 ) -> Result<Option<Generation<W>>, Failure> {
-    let alloc = store.dir.rt.alloc();
-    let Generation { world, number, out } = generation;
+    let number = generation.number;
     let folder = generation_path(store.dir, number)?;
-    let path = path_in(alloc, folder.as_str(), LOG)?;
+    let path = path_in(store.dir.rt.alloc(), folder.as_str(), LOG)?;
     let log = match LogFile::open(store.dir, path.as_str(), store.options.is_synced) {
         Ok(log) => log,
         Err(why) => return Err(Failure::Log(number, why)),
     };
-    let mut points = DiskPoints {
+    let points = DiskPoints {
         dir: store.dir,
         folder: folder.as_str(),
         is_synced: store.options.is_synced,
     };
-    let options = store.options;
+    answer_lines(store, generation, log, points, input)
+}
+
+// The same, with the log of the generation, and the folder of its points.
+fn answer_lines<R: Read + Drop, W: Write + Drop>(
+    store: &Store<'_>,
+    generation: Generation<W>,
+    log: LogFile<'_>,
+    points: DiskPoints<'_>,
+    input: &mut BufReader<R>,
+) -> Result<Option<Generation<W>>, Failure> {
+    let (alloc, options) = (store.dir.rt.alloc(), store.options);
+    let Generation { world, number, out } = generation;
+    let mut points = points;
     let every = u64::from(options.every);
     let mut service = Service::new(alloc, world, every, options.lag as usize, log, out);
     let roll = options.roll as usize;
