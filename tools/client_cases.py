@@ -75,7 +75,8 @@ def operations(program, room):
             got = [t[key] for key in ODD], t.add(b"n", -5), t.add(b"n", 3), t.get(b"none", b"0")
             del t[b"fig"]
             got += (t.get(b"fig"), t.entry)
-        got += (t.entry, store.run_number, store.pairs, store.check(), store.stats())
+        counts = {name: number for name, number in store.stats().items() if name != "bytes"}
+        got += (t.entry, store.run_number, store.pairs, store.check(), counts)
         yield "a transaction of the client", differing(got, (list(ODD.values()), -5, -2, b"0", None, None, 1, 7, 0, True, {"entries": 1, "commits": 1, "points": 0, "open": 0}))
         yield "one that raises leaves nothing", raises(store)
     with opened(program, room, sync=True, lag=0) as store:
