@@ -1,7 +1,6 @@
 //! What a served store answers, and what it leaves wherever a device fails.
 use crate::devices::{Files, MemoryLog, Output, Pieces};
 use pc_engine::World;
-use pc_opening::next_base;
 use pc_part::{Base, Part};
 use pc_recover::recover;
 use pc_server::{CutOff, ServeFault, Service, Stopped, serve_input};
@@ -130,64 +129,14 @@ fn line_without_its_end_is_not_asked(rt: HostRuntime) -> Result<(), Fail> {
     Ok(())
 }
 
-// The lines behind the third commit are answered by the next generation, whose store starts from what was committed.
-const ANSWERS_OF_NEXT: &[u8] =
-    b"refused WrongPhase\nentries=0 commits=0 points=0 open=0 bytes=20\nbad line\nrefused NoSession\n";
-
-// What a store leaves that was served until its generation has three entries.
-#[derive(Drop)]
-struct LeftGeneration {
-    ended: Result<Stopped, ServeFault>,
-    world: World,
-    out: Tally<Output>,
-}
-
-// Serves a store from this base.
-fn serve_generation(
-    rt: &HostRuntime,
-    base: Base,
-    input: &mut BufReader<Pieces>,
-    out: Tally<Output>,
-) -> Result<LeftGeneration, Fail> {
-    let alloc = rt.alloc();
-    let world = World::new(alloc, base, 2, 100, RandomState::new(rt)?)?;
-    let mut service = Service::new(alloc, world, 0, 0, device(alloc, 100), out);
-    let mut files = keeper(alloc, 0);
-    let ended = serve_input(alloc, &mut service, input, &mut files, 3);
-    let (world, out) = service.into_world();
-    Ok(LeftGeneration { ended, world, out })
-}
-
-// A generation that is full leaves the rest of the input to the next one.
+// A generation that is full leaves the rest of the input: here behind the third commit, where no transaction is open.
 #[test]
 fn filled_generation_leaves_the_rest(rt: HostRuntime) -> Result<(), Fail> {
-    let alloc = rt.alloc();
-    let input = Pieces {
-        rest: LINES,
-        step: 4096,
-    };
-    let mut input = BufReader::new(alloc, input)?;
-    let out = Output {
-        bytes: Vec::new(alloc),
-        room: 1_000_000,
-    };
-    let base = Base::start(9, Vec::new(alloc));
-    let LeftGeneration { ended, world, out } = serve_generation(
-        &rt,
-        base,
-        &mut input,
-        Tally::new(out),
-    )?;
-    assert_eq!(rt; ended, Ok(Stopped::Filled));
-    let base = next_base(&world)?;
-    assert_eq!(rt; base.run(), 10);
-    assert_eq!(rt; base.pairs().len(), 2);
-    let LeftGeneration { ended, out, .. } = serve_generation(&rt, base, &mut input, out)?;
-    assert_eq!(rt; ended, Ok(Stopped::Ended));
-    let sent = out.into_inner().bytes;
-    let behind = sent.len().saturating_sub(ANSWERS_OF_NEXT.len());
-    assert!(rt; ANSWERS.starts_with(&sent[..behind]));
-    assert_eq!(rt; &sent[behind..], ANSWERS_OF_NEXT);
+    let left = served(&rt, Case { roll: 3, ..SOUND })?;
+    assert_eq!(rt; left.ended, Ok(Stopped::Filled));
+    assert!(rt; ANSWERS.starts_with(&left.sent));
+    assert!(rt; left.sent.ends_with(b"committed 3\n"));
+    assert_eq!(rt; left.log.kept.last(), Some(&left.log.bytes.len()));
     Ok(())
 }
 
