@@ -1,2 +1,3 @@
 pub mod DigitLaws
 pub mod SearchLaws
+pub mod RemovalLaws

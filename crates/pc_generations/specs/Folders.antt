@@ -1,6 +1,6 @@
 -- What stands in the folders of generations, which of these counts, and how the next one begins. `stands n name (Some text)` says that
 -- the folder of generation n has this text under the name, and `stands n name None` that it has nothing there.
-use Rattle.std.specs.Prelude.{◌≢◌, ◌+◌, ◌<◌, ⊤, ℕ, List, Option, Some, None}
+use Rattle.std.specs.Prelude.{◌≢◌, ◌+◌, ◌<◌, ◌≤◌, ℕ, List, Option, Some, None}
 use Rattle.pc_generations.specs.Names.{base_name, log_name}
 
 -- a generation counts where its base stands
@@ -51,10 +51,13 @@ IsLogged stands number log = stands number log_name (Some log) × ((name : List 
 abbrev pub Counts : (ℕ → List ℕ → Option (List ℕ) → Type 0) → ℕ → List ℕ → List ℕ → Type 0
 Counts stands number base log = IsWhole stands number base log × IsGreatest stands number
 
--- the files of the generation that counted before are as they were
-abbrev pub KeepsLatest : (ℕ → List ℕ → Option (List ℕ) → Type 0) → (ℕ → List ℕ → Option (List ℕ) → Type 0) → Option ℕ → Type 0
-KeepsLatest old new (Some number) = StaysAt old new number
-KeepsLatest old new None = ⊤
+-- but for those whose numbers are lower by more than `keep` than this one, all generations are as they were
+abbrev pub KeepsLast : ℕ → (ℕ → List ℕ → Option (List ℕ) → Type 0) → (ℕ → List ℕ → Option (List ℕ) → Type 0) → ℕ → Type 0
+KeepsLast keep old new number = (other : ℕ) → number ≤ other + keep → StaysAt old new other
+
+-- and of those nothing is left
+abbrev pub AreGone : ℕ → (ℕ → List ℕ → Option (List ℕ) → Type 0) → ℕ → Type 0
+AreGone keep stands number = (older : ℕ) → older + keep < number → (name : List ℕ) → stands older name None
 
 -- no generation has begun: the one that counted counts, and of it and all before it nothing is gone
 abbrev pub IsUnbegun : (ℕ → List ℕ → Option (List ℕ) → Type 0) → (ℕ → List ℕ → Option (List ℕ) → Type 0) → Option ℕ → Type 0

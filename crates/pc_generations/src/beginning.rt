@@ -1,8 +1,8 @@
 //! Which generation counts, and how the next one begins.
-ghost use Rattle.std.specs.Prelude.{◌≡◌, ◌⊎◌, ◌≤◌, ◌<◌, ℕ, None, IfOk, IfSome, OnOk, OnErr};
+ghost use Rattle.std.specs.Prelude.{◌≡◌, ◌⊎◌, ◌≤◌, ◌<◌, ◌+◌, ℕ, List, None, Err, IsOk, IfOk, IfSome, OnOk, OnErr};
 ghost use Rattle.pc_types.specs.declared.refusal.Refusal.{Refusal};
 ghost use Rattle.pc_generations.specs.Names.{base_name};
-ghost use Rattle.pc_generations.specs.Folders.{Counts, IsLatest, IsLogged, IsUnbegun, IsWhole, KeepsLatest, StayBut, StaysAt, next_of};
+ghost use Rattle.pc_generations.specs.Folders.{AreGone, Counts, HasBase, IsLatest, IsLogged, IsUnbegun, IsWhole, KeepsLast, NothingComes, StayBut, next_of};
 ghost use Rattle.pc_generations.specs.Searches.{IsFound, IsLaterOf};
 
 use crate::folders::Generations;
@@ -45,13 +45,12 @@ fn later_of<G: Generations>(
 }
 
 /// The generation behind the one that counts, if one does, begins with this base and this log, which are the texts of whole files; its
-/// number. From then on it counts, the one that counted before is as it was, and older ones are removed, as far as that succeeds.
+/// number. From then on it counts. All other generations are as they were, whether it begins or not.
 ///
 /// Where it refuses, and so wherever a process is killed in it, either the new generation counts, and has both texts whole; or the one
 /// that counted still does, and of it and of all before it nothing is gone. Refuses with `Full` behind generation 9,999,999, where
 /// nothing has changed, and else as the calls refuse that make the new one.
 pub fn begin_generation<G: Generations>(
-    alloc: Global,
     folders: &mut G,
     latest: Option<u32>,
     base: &[u8],
@@ -59,8 +58,9 @@ pub fn begin_generation<G: Generations>(
 ) -> Result<u32, Refusal>
     ensures begun { IsLatest (G.stands folders.old) latest → OnOk result (Counts (G.stands folders.new) (next_of latest) base.now log.now) }
     ensures number { IfOk result (λ number. number ≡ next_of latest) }
+    ensures has_base { OnOk result (HasBase (G.stands folders.new) (next_of latest)) }
     ensures cut_off { IsLatest (G.stands folders.old) latest → OnErr result (Counts (G.stands folders.new) (next_of latest) base.now log.now ⊎ IsUnbegun (G.stands folders.old) (G.stands folders.new) latest) }
-    ensures kept { KeepsLatest (G.stands folders.old) (G.stands folders.new) latest }
+    ensures others { StayBut (G.stands folders.old) (G.stands folders.new) (next_of latest) }
     ensures full { MOST_GENERATIONS < next_of latest → (result ≡ Err Refusal.Full) × (folders.new ≡ folders.old) }
 {
     let number = match next_number(latest) {
@@ -68,13 +68,9 @@ pub fn begin_generation<G: Generations>(
         None => return Err(Refusal::Full),
     };
     match fill(folders, number, base, log) {
-        Ok(()) => {}
-        Err(why) => return Err(why),
+        Ok(()) => Ok(number),
+        Err(why) => Err(why),
     }
-    if let Some(kept) = latest {
-        remove_before(alloc, folders, kept);
-    }
-    Ok(number)
 }
 
 // The number behind the one that counts, where there is one.
@@ -118,23 +114,53 @@ fn begin_log<G: Generations>(folders: &mut G, number: u32, log: &[u8]) -> Result
     }
 }
 
-// All generations before this one are removed, as far as that succeeds.
-fn remove_before<G: Generations>(alloc: Global, folders: &mut G, kept: u32)
-    ensures { (number : ℕ) → kept ≤ number → StaysAt (G.stands folders.old) (G.stands folders.new) number }
+/// Removes the generations whose numbers are lower by more than `keep` than that of this one, which has a base. All others are as they
+/// were, and nothing comes to any. Each is tried; where one can't be removed, or they can't be listed, it refuses as the first call did
+/// that was refused.
+pub fn remove_older<G: Generations>(
+    alloc: Global,
+    folders: &mut G,
+    number: u32,
+    keep: u32,
+) -> Result<(), Refusal>
+    requires { HasBase (G.stands folders.old) number }
+    ensures kept { KeepsLast keep (G.stands folders.old) (G.stands folders.new) number }
+    ensures gone { OnOk result (AreGone keep (G.stands folders.new) number) }
+    ensures less { (other : ℕ) → NothingComes (G.stands folders.old) (G.stands folders.new) other }
 {
-    let Ok(numbers) = folders.numbers(alloc) else {
-        return;
-    };
-    for number in &numbers {
-        remove_if_before(folders, *number, kept);
+    let numbers = folders.numbers(alloc)?;
+    let mut removal = Ok(());
+    for older in &numbers {
+        let removed = remove_if_older(folders, *older, number, keep);
+        removal = first_refusal(removal, removed);
+    }
+    removal
+}
+
+// The first generation is removed where its number is lower by more than `keep` than the second one.
+fn remove_if_older<G: Generations>(
+    folders: &mut G,
+    older: u32,
+    number: u32,
+    keep: u32,
+) -> Result<(), Refusal>
+    ensures kept { KeepsLast keep (G.stands folders.old) (G.stands folders.new) number }
+    ensures gone { older + keep < number → OnOk result ((name : List ℕ) → G.stands folders.new older name None) }
+    ensures less { (other : ℕ) → NothingComes (G.stands folders.old) (G.stands folders.new) other }
+{
+    if number.saturating_sub(older) > keep {
+        folders.remove(older)
+    } else {
+        Ok(())
     }
 }
 
-// The generation is removed, as far as that succeeds, where it stands before this one.
-fn remove_if_before<G: Generations>(folders: &mut G, number: u32, kept: u32)
-    ensures { (other : ℕ) → kept ≤ other → StaysAt (G.stands folders.old) (G.stands folders.new) other }
+// The first refusal of the two, if there is one.
+fn first_refusal(first: Result<(), Refusal>, second: Result<(), Refusal>) -> Result<(), Refusal>
+    ensures { OnOk result (IsOk first × IsOk second) }
 {
-    if number < kept {
-        let _ = folders.remove(number);
+    match first {
+        Ok(()) => second,
+        Err(why) => Err(why),
     }
 }

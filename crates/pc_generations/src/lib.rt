@@ -5,6 +5,6 @@ mod beginning;
 mod folders;
 mod names;
 
-pub use beginning::{begin_generation, latest_generation};
+pub use beginning::{begin_generation, latest_generation, remove_older};
 pub use folders::Generations;
 pub use names::{BASE_NAME, LOG_NAME, MOST_GENERATIONS, generation_name, number_in};

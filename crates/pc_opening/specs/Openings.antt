@@ -1,9 +1,9 @@
 -- What stands in the folders once a store is opened, or where that is cut off.
-use Rattle.std.specs.Prelude.{◌⊎◌, ℕ, List, Option}
+use Rattle.std.specs.Prelude.{◌⊎◌, ◌≢◌, ◌≤◌, ◌+◌, ℕ, List, Option}
 use Rattle.pc_model.specs.Files.{BaseFile}
 use Rattle.pc_log.specs.Texts.{header_text}
 use Rattle.pc_part.specs.Texts.{base_text}
-use Rattle.pc_generations.specs.Folders.{Counts, IsUnbegun, next_of}
+use Rattle.pc_generations.specs.Folders.{Counts, IsUnbegun, StaysAt, next_of}
 
 -- the generation behind the one that counted counts, with the text of this base and a log of its run without entries
 abbrev pub CountsWith : (ℕ → List ℕ → Option (List ℕ) → Type 0) → Option ℕ → BaseFile → Type 0
@@ -12,3 +12,7 @@ CountsWith stands latest base = Counts stands (next_of latest) (base_text base) 
 -- either that, or no generation has begun
 abbrev pub IsCutOff : (ℕ → List ℕ → Option (List ℕ) → Type 0) → (ℕ → List ℕ → Option (List ℕ) → Type 0) → Option ℕ → BaseFile → Type 0
 IsCutOff old new latest base = CountsWith new latest base ⊎ IsUnbegun old new latest
+
+-- of the generations before this one, the last ones, as many as are kept, are as they were
+abbrev pub KeepsBefore : ℕ → (ℕ → List ℕ → Option (List ℕ) → Type 0) → (ℕ → List ℕ → Option (List ℕ) → Type 0) → ℕ → Type 0
+KeepsBefore keep old new number = (other : ℕ) → number ≤ other + keep → other ≢ number → StaysAt old new other

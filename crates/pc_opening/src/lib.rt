@@ -4,4 +4,4 @@
 
 mod opening;
 
-pub use opening::{OpenedStore, StoreSize, next_base, open_store};
+pub use opening::{OpenedStore, StoreSize, Succession, next_base, open_store};

@@ -10,11 +10,11 @@ ghost use Rattle.pc_part.specs.Texts.{base_text};
 ghost use Rattle.pc_engine.specs.Stands.{Stands};
 ghost use Rattle.pc_engine.specs.Runs.{starting};
 ghost use Rattle.pc_engine.specs.Store.{setting_of};
-ghost use Rattle.pc_generations.specs.Folders.{IsLatest, KeepsLatest, next_of};
-ghost use Rattle.pc_opening.specs.Openings.{CountsWith, IsCutOff};
+ghost use Rattle.pc_generations.specs.Folders.{AreGone, HasBase, IsLatest, StayBut, next_of};
+ghost use Rattle.pc_opening.specs.Openings.{CountsWith, IsCutOff, KeepsBefore};
 
 use pc_engine::World;
-use pc_generations::{Generations, begin_generation};
+use pc_generations::{Generations, begin_generation, remove_older};
 use pc_log::encode_header;
 use pc_part::Base;
 use pc_types::{MOST_FILE_ENTRIES, Refusal, Tally};
@@ -30,15 +30,29 @@ pub struct StoreSize {
     ghost in_range: { (1 ≤ capacity) × (capacity ≤ MOST_KEYS) },
 }
 
-/// A store that was opened, and the number of the generation that has begun with it.
+/// Where the next generation begins among those that are there.
+#[derive(Clone, Copy, Debug)]
+pub struct Succession {
+    /// The generation that counts, if one does.
+    pub latest: Option<u32>,
+    /// How many generations before the next one are kept once that counts, at least 1.
+    pub keep: u32,
+    ghost keeps_one: { 1 ≤ keep },
+}
+
+/// A store that was opened, and the generation that has begun with it.
 #[derive(Drop)]
 pub struct OpenedStore {
     pub world: World,
+    /// The number of the generation.
     pub generation: u32,
+    /// Whether all older generations are removed that aren't kept, or why one isn't.
+    pub removal: Result<(), Refusal>,
 }
 
 /// Opens a store that starts from this base, and begins the generation behind the one that counts, if one does, as
-/// `begin_generation` does, with the text of the base and a log of its run without entries. Nothing was asked of the store.
+/// `begin_generation` does, with the text of the base and a log of its run without entries. Nothing was asked of the store. Once the
+/// generation counts, and never before, older ones are removed as far as that succeeds, but for as many before it as are to be kept.
 ///
 /// Where it refuses, and so wherever a process is killed in it, either the new generation counts, with both texts, or the one that
 /// counted still does, and of it and of all before it nothing is gone. Refuses with `Full` where the base has more pairs than there is
@@ -46,28 +60,36 @@ pub struct OpenedStore {
 pub fn open_store<G: Generations>(
     alloc: Global,
     folders: &mut G,
-    latest: Option<u32>,
+    succession: Succession,
     base: Base,
     size: StoreSize,
     seed: RandomState,
 ) -> Result<OpenedStore, Refusal>
     requires { base.point ≡ 0 }
     ensures store { IfOk result (λ opened. Stands opened.world [] × (setting_of opened.world ≡ starting base size.sessions size.capacity)) }
-    ensures number { IfOk result (λ opened. opened.generation ≡ next_of latest) }
-    ensures begun { IsLatest (G.stands folders.old) latest → OnOk result (CountsWith (G.stands folders.new) latest base) }
-    ensures cut_off { IsLatest (G.stands folders.old) latest → OnErr result (IsCutOff (G.stands folders.old) (G.stands folders.new) latest base) }
-    ensures kept { KeepsLatest (G.stands folders.old) (G.stands folders.new) latest }
+    ensures number { IfOk result (λ opened. opened.generation ≡ next_of succession.latest) }
+    ensures begun { IsLatest (G.stands folders.old) succession.latest → OnOk result (CountsWith (G.stands folders.new) succession.latest base) }
+    ensures cut_off { IsLatest (G.stands folders.old) succession.latest → OnErr result (IsCutOff (G.stands folders.old) (G.stands folders.new) succession.latest base) }
+    ensures kept { KeepsBefore succession.keep (G.stands folders.old) (G.stands folders.new) (next_of succession.latest) }
+    ensures gone { IfOk result (λ opened. OnOk opened.removal (AreGone succession.keep (G.stands folders.new) (next_of succession.latest))) }
     ensures full { size.capacity < len base.pairs → (result ≡ Err Refusal.Full) × (folders.new ≡ folders.old) }
 {
     if base.pairs().len() > size.capacity as usize {
         return Err(Refusal::Full);
     }
-    let generation = match begin_with(alloc, folders, latest, &base) {
-        Ok(generation) => generation,
+    let Begun {
+        generation,
+        removal,
+    } = match begin_with(alloc, folders, succession, &base) {
+        Ok(begun) => begun,
         Err(why) => return Err(why),
     };
     match World::new(alloc, base, size.sessions, size.capacity, seed) {
-        Ok(world) => Ok(OpenedStore { world, generation }),
+        Ok(world) => Ok(OpenedStore {
+            world,
+            generation,
+            removal,
+        }),
         Err(why) => Err(why),
     }
 }
@@ -90,23 +112,53 @@ pub fn next_base(world: &World) -> Result<Base, Refusal>
     }
 }
 
-// Begins the generation behind the one that counts with the text of the base and a log of its run without entries.
+// The number of a generation that has begun, and whether those are removed that aren't kept, or why one isn't.
+#[derive(Clone, Copy)]
+struct Begun {
+    generation: u32,
+    removal: Result<(), Refusal>,
+}
+
+// Begins the generation behind the one that counts, and then removes those that aren't kept.
 fn begin_with<G: Generations>(
+    alloc: Global,
+    folders: &mut G,
+    succession: Succession,
+    base: &Base,
+) -> Result<Begun, Refusal>
+    ensures number { IfOk result (λ begun. begun.generation ≡ next_of succession.latest) }
+    ensures begun { IsLatest (G.stands folders.old) succession.latest → OnOk result (CountsWith (G.stands folders.new) succession.latest base.now) }
+    ensures cut_off { IsLatest (G.stands folders.old) succession.latest → OnErr result (IsCutOff (G.stands folders.old) (G.stands folders.new) succession.latest base.now) }
+    ensures kept { KeepsBefore succession.keep (G.stands folders.old) (G.stands folders.new) (next_of succession.latest) }
+    ensures gone { IfOk result (λ begun. OnOk begun.removal (AreGone succession.keep (G.stands folders.new) (next_of succession.latest))) }
+{
+    match begin_texts(alloc, folders, succession.latest, base) {
+        Ok(generation) => Ok(Begun {
+            generation,
+            removal: remove_older(alloc, folders, generation, succession.keep),
+        }),
+        Err(why) => Err(why),
+    }
+}
+
+// Begins the generation behind the one that counts with the text of the base and a log of its run without entries.
+fn begin_texts<G: Generations>(
     alloc: Global,
     folders: &mut G,
     latest: Option<u32>,
     base: &Base,
 ) -> Result<u32, Refusal>
     ensures number { IfOk result (λ number. number ≡ next_of latest) }
+    ensures has_base { OnOk result (HasBase (G.stands folders.new) (next_of latest)) }
     ensures begun { IsLatest (G.stands folders.old) latest → OnOk result (CountsWith (G.stands folders.new) latest base.now) }
     ensures cut_off { IsLatest (G.stands folders.old) latest → OnErr result (IsCutOff (G.stands folders.old) (G.stands folders.new) latest base.now) }
-    ensures kept { KeepsLatest (G.stands folders.old) (G.stands folders.new) latest }
+    ensures others { StayBut (G.stands folders.old) (G.stands folders.new) (next_of latest) }
 {
     let texts = match texts_of(alloc, base) {
         Ok(texts) => texts,
         Err(why) => return Err(why),
     };
-    begin_generation(alloc, folders, latest, &texts.base, &texts.log)
+    begin_generation(folders, latest, &texts.base, &texts.log)
 }
 
 // The texts of the files with which a generation begins.

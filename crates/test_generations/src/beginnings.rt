@@ -2,7 +2,7 @@
 use crate::folders::{Failure, MemoryFolders, StoredFile};
 use pc_generations::{
     BASE_NAME, LOG_NAME, MOST_GENERATIONS, begin_generation, generation_name, latest_generation,
-    number_in,
+    number_in, remove_older,
 };
 use pc_types::Refusal;
 use std::alloc::Global;
@@ -56,6 +56,14 @@ fn has_text(folders: &MemoryFolders, number: u32, name: &[u8], text: &[u8]) -> b
     }
 }
 
+// The next generation begins, and then older ones go but for one before it; whether it has begun, and whether they are gone.
+fn begin(folders: &mut MemoryFolders, alloc: Global, latest: Option<u32>) -> (bool, bool) {
+    match begin_generation(folders, latest, b"pairs", b"header") {
+        Ok(number) => (true, remove_older(alloc, folders, number, 1).is_ok()),
+        Err(_) => (false, false),
+    }
+}
+
 #[test]
 fn each_cut_leaves_one_generation_whole(rt: HostRuntime) -> Result<(), Fail> {
     for failure in [Failure::Undone, Failure::Done] {
@@ -63,8 +71,9 @@ fn each_cut_leaves_one_generation_whole(rt: HostRuntime) -> Result<(), Fail> {
             let mut folders = given(&rt, calls, failure)?;
             let latest = latest_generation(rt.alloc(), &folders)?;
             assert_eq!(rt; latest, Some(4));
-            let begun = begin_generation(rt.alloc(), &mut folders, latest, b"pairs", b"header");
-            assert_eq!(rt; begun.is_ok(), calls >= 3);
+            let (has_begun, are_gone) = begin(&mut folders, rt.alloc(), latest);
+            assert_eq!(rt; has_begun, calls >= 3);
+            assert_eq!(rt; are_gone, calls == CALLS);
             assert!(rt; is_as_given(&folders, 4));
             let counts = latest_generation(rt.alloc(), &folders)?;
             if counts == Some(5) {
@@ -92,14 +101,49 @@ fn first_generation_begins(rt: HostRuntime) -> Result<(), Fail> {
     };
     assert_eq!(rt; latest_generation(alloc, &folders)?, None);
     assert_eq!(rt;
-        begin_generation(alloc, &mut folders, None, b"pairs", b"header"),
+        begin_generation(&mut folders, None, b"pairs", b"header"),
         Ok(1)
     );
     assert_eq!(rt; latest_generation(alloc, &folders)?, Some(1));
     let last = Some(MOST_GENERATIONS);
-    let begun = begin_generation(alloc, &mut folders, last, b"pairs", b"header");
+    let begun = begin_generation(&mut folders, last, b"pairs", b"header");
     assert_eq!(rt; begun, Err(Refusal::Full));
     assert_eq!(rt; latest_generation(alloc, &folders)?, Some(1));
+    Ok(())
+}
+
+// The numbers of those of the generations 1 to 6 that are left where this many are kept before number 6.
+fn kept(rt: &HostRuntime, keep: u32) -> Result<Vec<u32>, Fail> {
+    let alloc = rt.alloc();
+    let mut files = Vec::new(alloc);
+    for number in 1..7 {
+        add(&mut files, alloc, number, BASE_NAME)?;
+    }
+    let mut folders = MemoryFolders {
+        alloc,
+        files,
+        calls: 6,
+        failure: Failure::Undone,
+    };
+    remove_older(alloc, &mut folders, 6, keep)?;
+    let mut left = Vec::new(alloc);
+    for number in 1..7 {
+        if folders.count(number) == 1 {
+            left.push(number)?;
+        }
+    }
+    Ok(left)
+}
+
+#[test]
+fn as_many_are_kept_as_asked(rt: HostRuntime) -> Result<(), Fail> {
+    assert_eq!(rt; kept(&rt, 1)?.as_slice(), [5, 6].as_slice());
+    assert_eq!(rt; kept(&rt, 3)?.as_slice(), [3, 4, 5, 6].as_slice());
+    assert_eq!(rt; kept(&rt, 6)?.as_slice(), [1, 2, 3, 4, 5, 6].as_slice());
+    assert_eq!(rt;
+        kept(&rt, MOST_GENERATIONS)?.as_slice(),
+        [1, 2, 3, 4, 5, 6].as_slice()
+    );
     Ok(())
 }
 

@@ -122,7 +122,9 @@ impl Generations for MemoryFolders {
     fn numbers(&self, alloc: Global) -> Result<Vec<u32>, Refusal> {
         let mut numbers = Vec::new(alloc);
         for file in &self.files {
-            numbers.push(file.number)?;
+            if !numbers.contains(&file.number) {
+                numbers.push(file.number)?;
+            }
         }
         Ok(numbers)
     }
