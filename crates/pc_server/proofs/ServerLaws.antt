@@ -12,7 +12,9 @@ use Rattle.pc_types.specs.declared.Phase.TheVariants.{Rest, Prepare, Resolve, Ca
 use Rattle.pc_types.specs.declared.Refusal.{Refusal}
 use Rattle.pc_types.specs.declared.Step.{Step}
 use Rattle.pc_types.specs.declared.tally.Tally.{Tally}
-use Rattle.pc_model.specs.History.{History, log_of, effect, entries_by, phase_of}
+use Rattle.pc_model.specs.History.{History, contents, log_of, effect, entries_by, phase_of}
+use Rattle.pc_model.specs.Log.{after}
+use Rattle.pc_model.specs.Maps.{len}
 use Rattle.pc_model.specs.Replies.{Setting, IsLegal, IsLegalHistory}
 use Rattle.pc_model.specs.Files.{shelf}
 use Rattle.pc_engine.specs.Stands.{Stands}
@@ -37,7 +39,7 @@ use Rattle.pc_serving.specs.declared.pace.Turned.{Turned}
 use Rattle.pc_serving.specs.declared.pace.Turned.TheVariants as turned
 use Rattle.pc_serving.specs.declared.request.Request.{Request}
 use Rattle.pc_serving.specs.declared.request.Request.TheVariants as request
-use Rattle.pc_server.specs.Acts.{Act, Lead, AnswersRequest, answers_of, commits_in, stats_line, stats_of}
+use Rattle.pc_server.specs.Acts.{Act, Lead, AnswersRequest, answers_of, commits_in, committed_in, stats_line, stats_of}
 use Rattle.pc_server.specs.Acts.Act.{Answered, WentOn}
 use Rattle.pc_server.specs.Turns.{AreCounts, IsNoted, Stays, paced}
 use Rattle.pc_server.specs.declared.counts.Counts.{Counts}
@@ -204,18 +206,34 @@ line_told st gone turn at history old new served answers pace counts result l u 
     let are = noted_on st.run true history next served.world old.counts counts serves.stands (line_follows st history next (request.Line l) text said) stays.counts before in
     (text, next, said, λ line asks. subst (Stays st gone at (Answered line text ∷ turn) next) (sym same) (answered st gone turn at history next old served answers pace counts line text (request.Line l) stays serves said puts.0 asks are))
 
+-- a write that has succeeded, of a text that is known to be another
+pub puts_ok : (old new : Tally (Vec ℕ)) (result : Result (Unit {0}) Refusal) (text other : List ℕ) → text ≡ other → Puts items_known old new result text → OnOk result (Puts items_known old new (Ok tt) other)
+puts_ok old new (Ok u) text other same puts = subst (λ t. Puts items_known old new (Ok tt) t) same puts
+puts_ok old new (Err e) text other same puts = tt
+
+-- a request that asks no event was answered, where that has succeeded
+pub put_told_ok : (st : Setting) (gone turn : List Act) (at history : History) (old : Server) (answers : Tally (Vec ℕ)) (result : Result (Unit {0}) Refusal) (text : List ℕ) (asked : Request) → Stays st gone at turn history old
+    → AnswersRequest st history asked text history → OnOk result (Puts items_known old.answers answers (Ok tt) text) → OnOk result (Told st gone at turn history old asked (after_answer old old.served answers old.pace old.counts))
+put_told_ok st gone turn at history old answers (Ok u) text asked stays told puts = put_told st gone turn at history old answers (Ok u) text asked stays told puts
+put_told_ok st gone turn at history old answers (Err e) text asked stays told puts = tt
+
+-- the same numbers are told by the same line
+same_stats : {a b c d e f p q r s t u : ℕ} → a ≡ p → b ≡ q → c ≡ r → d ≡ s → e ≡ t → f ≡ u → stats_line a b c d e f ≡ stats_line p q r s t u
+same_stats {a} {b} {c} {d} {e} {f} {p} {q} {r} {s} {t} {u} one two three four five six =
+    ap (λ n. stats_line n b c d e f) one ∙ (ap (λ n. stats_line p n c d e f) two ∙ (ap (λ n. stats_line p q n d e f) three
+    ∙ (ap (λ n. stats_line p q r n e f) four ∙ (ap (λ n. stats_line p q r s n f) five ∙ ap (stats_line p q r s t) six))))
+
 -- the numbers that are told
 pub stats_told : (st : Setting) (gone turn : List Act) (at history : History) (old : Server) → Stays st gone at turn history old
-    → stats_line (length old.served.world.log) old.counts.commits (length old.served.world.shelf) (open_now old.served.world) old.counts.bytes ≡ stats_of st history
+    → stats_line (length old.served.world.log) old.counts.commits (length old.served.world.shelf) (open_now old.served.world) old.counts.bytes (committed_in old.served.world) ≡ stats_of st history
 stats_told st gone turn at history old stays =
     let entries : length old.served.world.log ≡ length (log_of history) = ap length stays.serves.stands.parts.log in
     let commits : old.counts.commits ≡ commits_in (log_of history) = all_counted st history old.counts (subst (λ s. IsLegalHistory s history) stays.serves.setting stays.serves.stands.legal) stays.counts in
     let points : length old.served.world.shelf ≡ length (shelf st.run history) = ap length (stays.serves.stands.parts.cycle.shelved ∙ ap (λ (s : Setting). shelf s.run history) stays.serves.setting) in
     let opened : open_now old.served.world ≡ open_after st history = open_told st old.served.world old.served.waiting history stays.serves in
-    ap (λ n. stats_line n old.counts.commits (length old.served.world.shelf) (open_now old.served.world) old.counts.bytes) entries
-    ∙ (ap (λ n. stats_line (length (log_of history)) n (length old.served.world.shelf) (open_now old.served.world) old.counts.bytes) commits
-    ∙ (ap (λ n. stats_line (length (log_of history)) (commits_in (log_of history)) n (open_now old.served.world) old.counts.bytes) points
-    ∙ (ap (λ n. stats_line (length (log_of history)) (commits_in (log_of history)) (length (shelf st.run history)) n old.counts.bytes) opened ∙ ap (stats_line (length (log_of history)) (commits_in (log_of history)) (length (shelf st.run history)) (open_after st history)) stays.counts.1)))
+    let pairs : committed_in old.served.world ≡ len (contents st.base history) =
+    ap (λ log. len (after old.served.world.base.pairs log)) stays.serves.stands.parts.log ∙ ap (λ (s : Setting). len (after s.base (log_of history))) stays.serves.setting in
+    same_stats entries commits points opened (stays.counts.1) pairs
 
 -- where the log has no more than before, no commit counts
 pub same_pace : (pace : Pace) (n : ℕ) → pace ≡ paced pace n n

@@ -4,8 +4,11 @@ use Rattle.pc_types.specs.declared.Entry.{Entry}
 use Rattle.pc_types.specs.declared.Entry.TheVariants.{Commit, Token}
 use Rattle.pc_types.specs.declared.Step.{Step}
 use Rattle.pc_model.specs.Files.{shelf}
-use Rattle.pc_model.specs.History.{History, log_of}
+use Rattle.pc_model.specs.History.{History, contents, log_of}
+use Rattle.pc_model.specs.Log.{after}
+use Rattle.pc_model.specs.Maps.{len}
 use Rattle.pc_model.specs.Replies.{Setting, IsLegal}
+use Rattle.pc_engine.specs.Store.{Store}
 use Rattle.pc_log.specs.Texts.{log_text}
 use Rattle.pc_serving.specs.OpenSessions.{open_after}
 use Rattle.pc_serving.specs.Points.{is_checkpoint}
@@ -43,14 +46,18 @@ commits_in (Token phase point ∷ log) = commits_in log
 abbrev pub log_size : ℕ → List Entry → ℕ
 log_size run log = min (length (log_text run log)) (2 ^ 64 - 1)
 
--- the line of these numbers of entries, commits, files of points, sessions with an open transaction, and bytes
-abbrev pub stats_line : ℕ → ℕ → ℕ → ℕ → ℕ → List ℕ
-stats_line entries commits points open_sessions bytes =
-    codes "entries=" ++ (decimal entries ++ (codes " commits=" ++ (decimal commits ++ (codes " points=" ++ (decimal points ++ (codes " open=" ++ (decimal open_sessions ++ (codes " bytes=" ++ (decimal bytes ++ codes "\n")))))))))
+-- how many pairs are committed in the store: as many as its log replayed on its base gives
+abbrev pub committed_in : Store → ℕ
+committed_in world = len (after world.base.pairs world.log)
+
+-- the line of these numbers of entries, commits, files of points, sessions with an open transaction, bytes, and pairs
+abbrev pub stats_line : ℕ → ℕ → ℕ → ℕ → ℕ → ℕ → List ℕ
+stats_line entries commits points open_sessions bytes pairs =
+    codes "entries=" ++ (decimal entries ++ (codes " commits=" ++ (decimal commits ++ (codes " points=" ++ (decimal points ++ (codes " open=" ++ (decimal open_sessions ++ (codes " bytes=" ++ (decimal bytes ++ (codes " pairs=" ++ (decimal pairs ++ codes "\n")))))))))))
 
 -- the line that tells what was done so far, in numbers
 abbrev pub stats_of : Setting → History → List ℕ
-stats_of st history = stats_line (length (log_of history)) (commits_in (log_of history)) (length (shelf st.run history)) (open_after st history) (log_size st.run (log_of history))
+stats_of st history = stats_line (length (log_of history)) (commits_in (log_of history)) (length (shelf st.run history)) (open_after st history) (log_size st.run (log_of history)) (len (contents st.base history))
 
 -- what a request may be answered, and the history then; the end is answered by nothing
 abbrev pub AnswersRequest : Setting → History → Request → List ℕ → History → Type 0

@@ -12,7 +12,7 @@ ghost use Rattle.pc_serving.specs.Points.{IsShelvedAs};
 ghost use Rattle.pc_serving.specs.Requests.{request_of};
 ghost use Rattle.pc_serving.specs.declared.pace.Turned.TheVariants as turned;
 ghost use Rattle.pc_serving.specs.OpenSessions.{open_now};
-ghost use Rattle.pc_server.specs.Acts.{Act, AnswersRequest, answers_of, is_quit, run_line, stats_line};
+ghost use Rattle.pc_server.specs.Acts.{Act, AnswersRequest, answers_of, committed_in, is_quit, run_line, stats_line};
 ghost use Rattle.pc_server.specs.Acts.Act.{Answered, WentOn};
 ghost use Rattle.pc_serving.specs.declared.request.Request.TheVariants as request;
 ghost use Rattle.pc_server.specs.Generations.{has_many, is_filled};
@@ -98,7 +98,7 @@ impl Server {
         match request {
             Request::Quit => Ok(()),
             Request::Run => put_run(self.served.world.base().run(), &mut self.answers),
-            Request::Stats => self.put_stats(),
+            Request::Stats => self.tell_stats(),
             Request::Line(line) => self.ask(alloc, line),
         }
     }
@@ -139,15 +139,39 @@ impl Server {
         }
     }
 
-    // Tells what was done so far, in numbers.
-    fn put_stats(&mut self) -> Result<(), Refusal>
-        ensures told { Puts (λ bytes. Some bytes.items) self.old.answers self.new.answers result (stats_line (length self.old.served.world.log) self.old.counts.commits (length self.old.served.world.shelf) (open_now self.old.served.world) self.old.counts.bytes) }
+    // Tells what was done so far, in numbers, and how many pairs are committed.
+    fn tell_stats(&mut self) -> Result<(), Refusal>
+        ensures told { (history : History) → Stands self.old.served.world history
+            → OnOk result (Puts (λ bytes. Some bytes.items) self.old.answers self.new.answers (Ok tt) (stats_line (length self.old.served.world.log) self.old.counts.commits (length self.old.served.world.shelf) (open_now self.old.served.world) self.old.counts.bytes (committed_in self.old.served.world))) }
+        ensures others { self.new ≡ record self.old { answers = self.new.answers } }
+    {
+        let pairs = self.count_pairs()?;
+        self.put_stats(pairs)
+    }
+
+    // How many pairs are committed. It takes time, and memory, in proportion to them.
+    fn count_pairs(&self) -> Result<usize, Refusal>
+        ensures { (history : History) → Stands self.now.served.world history → IfOk result (λ count. count ≡ committed_in self.now.served.world) }
+    {
+        let pairs = self.served.world.committed()?;
+        Ok(pairs.len())
+    }
+
+    // Tells what was done so far, in numbers, and this number of pairs.
+    fn put_stats(&mut self, pairs: usize) -> Result<(), Refusal>
+        ensures told { Puts (λ bytes. Some bytes.items) self.old.answers self.new.answers result (stats_line (length self.old.served.world.log) self.old.counts.commits (length self.old.served.world.shelf) (open_now self.old.served.world) self.old.counts.bytes pairs) }
         ensures others { self.new ≡ record self.old { answers = self.new.answers } }
     {
         let entries = self.served.world.log().len();
         let points = self.served.world.files().len();
         let opened = self.served.open_sessions();
-        put_stats(entries, &self.counts, points, opened, &mut self.answers)
+        let numbers = Numbers {
+            entries,
+            points,
+            opened,
+            pairs,
+        };
+        put_stats(numbers, &self.counts, &mut self.answers)
     }
 
     /// Asks the next event of the point's cycle, where one is due, as `Pace::go_on` does, and tells of a file exactly where its reply
@@ -239,29 +263,34 @@ fn put_run<W: Write>(run: u64, out: &mut Tally<W>) -> Result<(), Refusal>
     out.put_all(&[b"run ", buffer.format(run).as_bytes(), b"\n"])
 }
 
-fn put_stats<W: Write>(
+// What `stats` tells beside the counts of the log.
+#[derive(Clone, Copy)]
+struct Numbers {
     entries: usize,
-    counts: &Counts,
     points: usize,
     opened: u8,
-    out: &mut Tally<W>,
-) -> Result<(), Refusal>
-    ensures { Puts W.contents out.old out.new result (stats_line entries counts.now.commits points opened counts.now.bytes) }
+    pairs: usize,
+}
+
+fn put_stats<W: Write>(numbers: Numbers, counts: &Counts, out: &mut Tally<W>) -> Result<(), Refusal>
+    ensures { Puts W.contents out.old out.new result (stats_line numbers.entries counts.now.commits numbers.points numbers.opened counts.now.bytes numbers.pairs) }
 {
     let (mut first, mut second) = (Buffer::new(), Buffer::new());
     let (mut third, mut fourth) = (Buffer::new(), Buffer::new());
-    let mut last = Buffer::new();
+    let (mut fifth, mut last) = (Buffer::new(), Buffer::new());
     out.put_all(&[
         b"entries=",
-        first.format(entries).as_bytes(),
+        first.format(numbers.entries).as_bytes(),
         b" commits=",
         second.format(counts.commits).as_bytes(),
         b" points=",
-        third.format(points).as_bytes(),
+        third.format(numbers.points).as_bytes(),
         b" open=",
-        fourth.format(opened).as_bytes(),
+        fourth.format(numbers.opened).as_bytes(),
         b" bytes=",
-        last.format(counts.bytes).as_bytes(),
+        fifth.format(counts.bytes).as_bytes(),
+        b" pairs=",
+        last.format(numbers.pairs).as_bytes(),
         b"\n",
     ])
 }

@@ -15,7 +15,7 @@ const LINES: &[u8] =
     b"run\nbegin 1\nput 1 fig 7\nbegin 2\nadd 1 n 5\ncommit 1\nget 2 fig\nbegin 1\nget 1 pear\nput 2 pear 1\ncommit 1\ncommit 2\r\npoint\nstats\n\nfoo\n\n\n\n\n\n\n\n\n\n\n\nbegin 3\nquit\nbegin 2\n";
 
 const ANSWERS: &[u8] =
-    b"run 9\nbegun 1\nok\nbegun 2\nsum 5\ncommitted 1\n= 7\nbegun 3\nabsent\nwait\ncommitted 2\ngranted 2\ncommitted 3\nrefused WrongPhase\nentries=3 commits=3 points=0 open=0 bytes=71\nbad line\nrefused NoSession\n";
+    b"run 9\nbegun 1\nok\nbegun 2\nsum 5\ncommitted 1\n= 7\nbegun 3\nabsent\nwait\ncommitted 2\ngranted 2\ncommitted 3\nrefused WrongPhase\nentries=3 commits=3 points=0 open=0 bytes=71 pairs=2\nbad line\nrefused NoSession\n";
 
 // What stands first in the log of run 9.
 const HEADER: &[u8] = b"PCALCL02\0\0\0\0\0\0\0\x09\0\0\0\0";

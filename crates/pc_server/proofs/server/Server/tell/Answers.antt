@@ -2,8 +2,8 @@ use Rattle.std.proofs.Common.{ap, subst, sym, refl, length, ◌∙◌}
 use Rattle.std.specs.Prelude.{OnOk}
 use Rattle.pc_serving.specs.declared.request.Request.TheVariants as request
 use Rattle.pc_serving.specs.OpenSessions.{open_now}
-use Rattle.pc_server.specs.Acts.{AnswersRequest, run_line, stats_line}
-use Rattle.pc_server.proofs.ServerLaws.{Told, always_ok, put_told, quit_told, same_pace, stats_pace, stats_told}
+use Rattle.pc_server.specs.Acts.{AnswersRequest, committed_in, run_line, stats_line}
+use Rattle.pc_server.proofs.ServerLaws.{Told, always_ok, put_told, put_told_ok, quit_told, same_pace, stats_pace, stats_told}
 use Rattle.pc_server.proofs.server.Server.tell.Goals as goal
 
 pub returns-in-Quit-clause-told : goal.returns-in-Quit-clause-told
@@ -24,13 +24,13 @@ returns-in-Run-clause-paced c = always_ok c.put_run.result (same_pace c.args.sel
 pub returns-in-Stats-clause-told : goal.returns-in-Stats-clause-told
 returns-in-Stats-clause-told c = λ st gone turn at history stays.
     let old = c.args.self.now in
-    let text = stats_line (length old.served.world.log) old.counts.commits (length old.served.world.shelf) (open_now old.served.world) old.counts.bytes in
-    subst (λ s. OnOk c.put_stats.result (Told st gone at turn history old c.args.request s)) (sym c.put_stats.ensures.others)
-    (put_told st gone turn at history old c.put_stats.new.self.answers c.put_stats.result text c.args.request stays
-    (subst (λ r. AnswersRequest st history r text history) (sym c.in-Stats.is) (stats_told st gone turn at history old stays, refl)) c.put_stats.ensures.told)
+    let text = stats_line (length old.served.world.log) old.counts.commits (length old.served.world.shelf) (open_now old.served.world) old.counts.bytes (committed_in old.served.world) in
+    subst (λ s. OnOk c.tell_stats.result (Told st gone at turn history old c.args.request s)) (sym c.tell_stats.ensures.others)
+    (put_told_ok st gone turn at history old c.tell_stats.new.self.answers c.tell_stats.result text c.args.request stays
+    (subst (λ r. AnswersRequest st history r text history) (sym c.in-Stats.is) (stats_told st gone turn at history old stays, refl)) (c.tell_stats.ensures.told history stays.serves.stands))
 
 pub returns-in-Stats-clause-paced : goal.returns-in-Stats-clause-paced
-returns-in-Stats-clause-paced c = always_ok c.put_stats.result (stats_pace c.args.self.now c.put_stats.new.self c.put_stats.new.self.answers c.put_stats.ensures.others)
+returns-in-Stats-clause-paced c = always_ok c.tell_stats.result (stats_pace c.args.self.now c.tell_stats.new.self c.tell_stats.new.self.answers c.tell_stats.ensures.others)
 
 pub returns-in-Line-clause-told : goal.returns-in-Line-clause-told
 returns-in-Line-clause-told c = λ st gone turn at history stays.
