@@ -11,7 +11,7 @@ use std::io::{IsTerminal, Read, Write};
 /// The files that a command is about.
 #[derive(Clone, Copy)]
 pub enum About<'a> {
-    /// A script, by its path.
+    /// A file that is read by itself, as a script or a log, by its path.
     Script(&'a str),
     /// Part files, by their paths.
     Parts(&'a [&'a str]),

@@ -1,8 +1,10 @@
 //! The words of a command line, and what they ask for.
 #![tactic(auto)]
 
+mod looking;
 mod options;
 
+pub use looking::{LogOptions, VerifyOptions};
 pub use options::{
     CollapseOptions, RecoverOptions, RunOptions, ServeOptions, StepOptions, Task, task_of,
     unreadable,

@@ -4,6 +4,9 @@ ghost use Rattle.pc_types.specs.declared.limits.TheConstants.{MOST_KEYS, MOST_SE
 ghost use Rattle.pc_collapse.specs.declared.limits.TheConstants.{MOST_COLLAPSERS};
 ghost use Rattle.pc_jobs.specs.declared.dealing.TheConstants.{MOST_WORKERS};
 
+use crate::looking::{
+    LogOptions, VerifyOptions, log_command, log_options_of, verify_command, verify_options_of,
+};
 use clap::builder::ValueParser;
 use clap::error::ErrorKind;
 use clap::{Arg, ArgAction, ArgMatches, Command, Error};
@@ -13,7 +16,7 @@ use pc_types::{MOST_KEYS, MOST_SESSIONS};
 use std::alloc::{AllocError, Global};
 
 /// Where the help of each command points to.
-const FAULTS: &str = "What each fault means: docs/FORMATS.md";
+pub(crate) const FAULTS: &str = "What each fault means: docs/FORMATS.md";
 
 /// What `pcalc --version` prints behind the program's name.
 const VERSION: &str = "0.1.0";
@@ -101,9 +104,11 @@ pub struct ServeOptions<'a> {
     pub dir: &'a str,
     /// Whether the folder and a first generation are made where there are none.
     pub creates: bool,
-    /// The number of the run of a first generation, 1 to 2,147,483,647.
-    pub run: u32,
-    /// Whether the generation from which it starts may be damaged.
+    /// The number of the run of a first generation, 1 to 2,147,483,647, if that is said.
+    pub run: Option<u32>,
+    /// The folder from whose state a first generation starts, if any.
+    pub import: Option<&'a str>,
+    /// Whether what it starts from may be damaged.
     pub accepts_damage: bool,
     /// How many sessions the store has, 1 to 64.
     pub sessions: u8,
@@ -113,6 +118,8 @@ pub struct ServeOptions<'a> {
     pub every: u32,
     /// The next generation begins where the log has this many entries and no transaction is open, 1 to 16,777,216.
     pub roll: u32,
+    /// How many generations before the one that counts are kept, 1 to 9,999,999.
+    pub keep: u32,
     /// How many entries of the log may be answered and not written, at most 16,777,216.
     pub lag: u32,
     /// Whether the log is to be on its disk before answers go out.
@@ -121,6 +128,7 @@ pub struct ServeOptions<'a> {
     pub is_explained: bool,
     ghost has_sessions: { (1 ≤ sessions) × (sessions ≤ MOST_SESSIONS) },
     ghost has_room: { (1 ≤ capacity) × (capacity ≤ MOST_KEYS) },
+    ghost keeps_one: { 1 ≤ keep },
 }
 
 /// What the program is asked to do.
@@ -134,6 +142,10 @@ pub enum Task<'a> {
     Collapse(CollapseOptions<'a>),
     /// `pcalc recover`.
     Recover(RecoverOptions<'a>),
+    /// `pcalc log`.
+    Log(LogOptions<'a>),
+    /// `pcalc verify`.
+    Verify(VerifyOptions<'a>),
     /// `pcalc serve`.
     Serve(ServeOptions<'a>),
 }
@@ -152,6 +164,12 @@ pub fn task_of<'a>(alloc: Global, words: &'a [&'a str]) -> Result<Option<Task<'a
     }
     if let Some(matches) = matches.subcommand_matches("recover") {
         return Ok(recover_options_of(matches).map(|options| Task::Recover(options)));
+    }
+    if let Some(matches) = matches.subcommand_matches("log") {
+        return Ok(log_options_of(matches).map(|options| Task::Log(options)));
+    }
+    if let Some(matches) = matches.subcommand_matches("verify") {
+        return Ok(Some(Task::Verify(verify_options_of(alloc, matches)?)));
     }
     match matches.subcommand_matches("serve") {
         Some(matches) => Ok(serve_options_of(matches).map(|options| Task::Serve(options))),
@@ -175,6 +193,8 @@ fn command<'a>(alloc: Global) -> Result<Command<'a>, Error> {
             .subcommand(run_command(alloc)?)?
             .subcommand(collapse_command(alloc)?)?
             .subcommand(recover_command(alloc)?)?
+            .subcommand(log_command(alloc)?)?
+            .subcommand(verify_command(alloc)?)?
             .subcommand(serve_command(alloc)?)?,
     )
 }
@@ -192,7 +212,8 @@ fn step_command<'a>(alloc: Global) -> Result<Command<'a>, Error> {
     )
 }
 
-fn explain_arg<'a>(alloc: Global) -> Arg<'a> {
+/// The option that has faults explained.
+pub(crate) fn explain_arg<'a>(alloc: Global) -> Arg<'a> {
     Arg::new(alloc, "explain")
         .long("explain")
         .help(
@@ -418,10 +439,12 @@ fn serve_command<'a>(alloc: Global) -> Result<Command<'a>, Error> {
             .arg(dir)?
             .arg(create_arg(alloc))?
             .arg(first_run_arg(alloc)?)?
+            .arg(import_arg(alloc)?)?
             .arg(sessions_arg(alloc, "64"))?
             .arg(capacity_arg(alloc, "1048576"))?
             .arg(every_commits_arg(alloc))?
             .arg(roll_arg(alloc))?
+            .arg(keep_arg(alloc))?
             .arg(lag_arg(alloc, lag, "0"))?
             .arg(sync_arg(alloc, sync))?
             .arg(stored_damage_arg(alloc))?
@@ -447,6 +470,15 @@ fn roll_arg<'a>(alloc: Global) -> Arg<'a> {
         .default_value("1000000")
 }
 
+fn keep_arg<'a>(alloc: Global) -> Arg<'a> {
+    Arg::new(alloc, "keep")
+        .long("keep")
+        .value_name("N")
+        .help("How many generations before the one that counts are kept, 1 to 9999999")
+        .value_parser(clap::value_parser!(u32).range(1..=9_999_999))
+        .default_value("1")
+}
+
 fn create_arg<'a>(alloc: Global) -> Arg<'a> {
     Arg::new(alloc, "create")
         .long("create")
@@ -458,17 +490,32 @@ fn first_run_arg<'a>(alloc: Global) -> Result<Arg<'a>, AllocError> {
     Arg::new(alloc, "run")
         .long("run")
         .value_name("N")
-        .help("The number of the first run of a store that is made, 1 to 2147483647")
+        .help(
+            "The number of the first run of a store that is made, 1 to 2147483647; else it is drawn at random",
+        )
         .value_parser(clap::value_parser!(u32).range(1..=2_147_483_647))
-        .default_value("1")
+        .action(ArgAction::Set)
         .requires_arg("create")
+}
+
+fn import_arg<'a>(alloc: Global) -> Result<Arg<'a>, AllocError> {
+    Arg::new(alloc, "import")
+        .long("import")
+        .value_name("OLD")
+        .help(
+            "A folder of a run or of a served store: the store that is made starts from its state, as the run of the next number",
+        )
+        .value_parser(ValueParser::NonEmptyString)
+        .action(ArgAction::Set)
+        .requires_arg("create")?
+        .conflicts_with("run")
 }
 
 fn stored_damage_arg<'a>(alloc: Global) -> Arg<'a> {
     Arg::new(alloc, "damaged")
         .long("damaged")
         .help(
-            "Goes on also where the log of the last generation is missing or damaged, or a part of it was skipped",
+            "Goes on also where the log of what it starts from is missing or damaged, or a part of it was skipped",
         )
         .action(ArgAction::SetTrue)
 }
@@ -538,18 +585,26 @@ fn recover_options_of<'a>(matches: &ArgMatches<'a>) -> Option<RecoverOptions<'a>
 fn serve_options_of<'a>(matches: &ArgMatches<'a>) -> Option<ServeOptions<'a>> {
     let sessions = matches.get_one::<u8>("sessions")?;
     let capacity = matches.get_one::<u32>("capacity")?;
-    if capacity < 1 || MOST_KEYS < capacity || sessions < 1 || MOST_SESSIONS < sessions {
+    let keep = matches.get_one::<u32>("keep")?;
+    if capacity < 1
+        || MOST_KEYS < capacity
+        || sessions < 1
+        || MOST_SESSIONS < sessions
+        || keep < 1
+    {
         return None;
     }
     Some(ServeOptions {
         dir: matches.get_str("DIR")?,
         creates: matches.get_flag("create"),
-        run: matches.get_one::<u32>("run")?,
+        run: matches.get_one::<u32>("run"),
+        import: matches.get_str("import"),
         accepts_damage: matches.get_flag("damaged"),
         sessions,
         capacity,
         every: matches.get_one::<u32>("every")?,
         roll: matches.get_one::<u32>("roll")?,
+        keep,
         lag: matches.get_one::<u32>("lag")?,
         is_synced: matches.get_flag("sync"),
         is_explained: matches.get_flag("explain"),

@@ -116,7 +116,13 @@ fn next_generation<W: Write + Drop>(
     };
     drop(world);
     match open(store, Some(number), base) {
-        Ok(OpenedStore { world, generation }) => Ok(Generation {
+        Ok(
+            OpenedStore {
+                world,
+                generation,
+                ..
+            },
+        ) => Ok(Generation {
             world,
             number: generation,
             out,

@@ -1,5 +1,5 @@
 //! The command that serves a store: the folder of its generations on the disk, who owns that, the log's file, and the lines of standard
-//! input.
+//! input, which may be typed; and the folder in it whose files are recovered.
 #![tactic(auto)]
 
 mod generation;
@@ -7,7 +7,9 @@ mod generations;
 mod log_file;
 mod owner;
 mod points;
+mod recovered;
 mod serving;
+mod terminal;
 
-pub use generations::{GenerationFolders, generation_path};
+pub use recovered::RecoveredFolder;
 pub use serving::serve_folder;

@@ -17,7 +17,7 @@ const LOCK: &str = "lock";
 pub enum Unowned {
     /// Another process has it.
     Busy,
-    /// It has the files of a run.
+    /// It has the files of a run, or a store where one is to be made of another folder.
     NotEmpty,
     /// It has no generation that counts.
     NoStore,
@@ -44,8 +44,9 @@ pub struct Owned {
     pub latest: Option<u32>,
 }
 
-/// Takes the folder. Where there is none, or none with a generation that counts, it is made where that is asked for.
-pub fn own(dir: ReadFolder<'_>, creates: bool) -> Result<Owned, Unowned> {
+/// Takes the folder. Where there is none, or none with a generation that counts, it is made where that is asked for. Where a store is
+/// to be made of another folder, it may have no generation that counts.
+pub fn own(dir: ReadFolder<'_>, creates: bool, imports: bool) -> Result<Owned, Unowned> {
     if creates {
         make_folder(dir)?;
     } else if latest_in(dir)?.is_none() {
@@ -53,6 +54,9 @@ pub fn own(dir: ReadFolder<'_>, creates: bool) -> Result<Owned, Unowned> {
     }
     let lock = lock_folder(dir)?;
     let latest = latest_in(dir)?;
+    if imports && latest.is_some() {
+        return Err(Unowned::NotEmpty);
+    }
     Ok(Owned { lock, latest })
 }
 

@@ -1,10 +1,12 @@
 //! A store that is served: it goes on as the store of a folder, and answers lines of standard input on standard output.
-ghost use Rattle.std.specs.Prelude.{◌≡◌, [], IfOk};
+ghost use Rattle.std.specs.Prelude.{◌≡◌, ◌≤◌, [], IfOk};
 ghost use Rattle.pc_engine.specs.Stands.{Stands};
 
 use crate::generation::{Failure, Generation, serve_generations};
 use crate::generations::{GenerationFolders, generation_path};
 use crate::owner::{Unowned, own};
+use crate::recovered::RecoveredFolder;
+use crate::terminal::Typed;
 use itoa::Buffer;
 use pc_disk::{
     Causes, FoundFolder, INPUT, LOG, LateFile, Noted, ReadFolder, open_folder, output_before,
@@ -12,7 +14,7 @@ use pc_disk::{
 };
 use pc_engine::World;
 use pc_explanations::{About, Explained, Explainer, explain_output, is_explained};
-use pc_opening::{OpenedStore, StoreSize, open_store};
+use pc_opening::{OpenedStore, StoreSize, Succession, open_store};
 use pc_options::ServeOptions;
 use pc_part::Base;
 use pc_restore::{Lost, recover_base, tell_lost};
@@ -22,6 +24,7 @@ use std::alloc::AllocError;
 use std::hash::RandomState;
 use std::io;
 use std::io::{BufReader, Write};
+use std::random::RandomSource;
 use std::string::String;
 
 /// The status of a process that failed before its input ended.
@@ -30,26 +33,59 @@ const FAILED: u8 = 1;
 /// How many bytes of lines are read at once at most, so that a turn has no more.
 const ROOM: usize = 65_536;
 
+/// The greatest number of a run that is drawn.
+const MOST_DRAWN: u32 = 2_147_483_647;
+
 /// Serves the store of the folder as the options say; the status.
 pub fn serve_folder<'a>(rt: &'a HostRuntime, options: &'a ServeOptions<'a>) -> io::Result<u8> {
     let causes = Causes::new(rt.alloc())?;
-    // The seed is drawn before anything is opened.
-    let seed = RandomState::new(rt)?;
+    let drawn = draw(rt, options)?;
     let dir = ReadFolder {
         rt,
         path: options.dir,
         causes: &causes,
     };
-    let owned = match own(dir, options.creates) {
+    let owned = match own(dir, options.creates, options.import.is_some()) {
         Ok(owned) => owned,
         Err(why) => {
             tell_unowned(dir, options, why);
             return Ok(FAILED);
         }
     };
-    let status = serve_owned(dir, options, seed, owned.latest);
+    let status = serve_owned(dir, options, drawn, owned.latest);
     drop(owned);
     status
+}
+
+// What is drawn at random before anything is opened.
+#[derive(Clone, Copy)]
+struct Drawn {
+    // The seed of the hashes of its stores.
+    seed: RandomState,
+    // The number of the run of a first generation; it is drawn where none was asked for.
+    run: u32,
+}
+
+fn draw(rt: &HostRuntime, options: &ServeOptions<'_>) -> io::Result<Drawn> {
+    let seed = RandomState::new(rt)?;
+    let run = match options.run {
+        Some(run) => run,
+        None => draw_run(rt)?,
+    };
+    Ok(Drawn { seed, run })
+}
+
+fn draw_run(rt: &HostRuntime) -> io::Result<u32> {
+    let mut bytes = [0; 8];
+    rt.fill_bytes(&mut bytes)?;
+    Ok(run_of(u64::from_le_bytes(bytes)))
+}
+
+// The number of a run, 1 to 2,147,483,647, by a number that was drawn.
+fn run_of(drawn: u64) -> u32
+    ensures { (1 ≤ result) × (result ≤ MOST_DRAWN) }
+{
+    1 + (drawn % u64::from(MOST_DRAWN)) as u32
 }
 
 // Tells why the folder isn't this process's own.
@@ -70,21 +106,21 @@ fn tell_unowned(dir: ReadFolder<'_>, options: &ServeOptions<'_>, why: Unowned) {
 pub struct Store<'a> {
     pub dir: ReadFolder<'a>,
     pub options: &'a ServeOptions<'a>,
-    seed: RandomState,
+    drawn: Drawn,
     latest: Option<u32>,
-    // The path of the generation that counts; empty where there is none.
-    from: &'a str,
+    // The folder from whose state it starts; its path is empty where there is none.
+    from: &'a RecoveredFolder,
 }
 
 // Serves the store of a folder that is this process's own, and of which this generation counts; the status.
 fn serve_owned<'a>(
     dir: ReadFolder<'a>,
     options: &'a ServeOptions<'a>,
-    seed: RandomState,
+    drawn: Drawn,
     latest: Option<u32>,
 ) -> io::Result<u8> {
-    let path = from_path(dir, latest)?;
-    serve_told(store_of(dir, options, seed, latest, path.as_str()))
+    let from = start_of(dir, options, latest)?;
+    serve_told(store_of(dir, options, drawn, latest, &from))
 }
 
 // Serves the store, and tells its faults; the status.
@@ -92,22 +128,39 @@ fn serve_told<'a>(store: Store<'a>) -> io::Result<u8> {
     let explainer = Explainer {
         rt: store.dir.rt,
         causes: store.dir.causes,
-        about: about(store.options, store.from),
+        about: about(store.options, store.from.path.as_str()),
         is_on: is_explained(store.dir.rt, store.options.is_explained),
     };
     let stderr = store.dir.rt.stderr();
     let mut errors = Tally::new(Explained::new(&explainer, io::writer(&stderr)));
+    let _ = store.from.tell(&mut errors);
     let status = serve_from(&store, &mut errors)?;
     explain_output(&explainer, &mut errors);
     Ok(status)
 }
 
-// The path of the generation that counts; empty where there is none.
-fn from_path(dir: ReadFolder<'_>, latest: Option<u32>) -> Result<String, AllocError> {
-    match latest {
-        Some(number) => generation_path(dir, number),
-        None => Ok(String::new(dir.rt.alloc())),
-    }
+// The folder from whose state the store starts: that of the generation that counts, or else the one that is imported; without a path
+// where there is neither.
+fn start_of(
+    dir: ReadFolder<'_>,
+    options: &ServeOptions<'_>,
+    latest: Option<u32>,
+) -> Result<RecoveredFolder, AllocError> {
+    let path = match (latest, options.import) {
+        (Some(number), _) => generation_path(dir, number)?,
+        (None, Some(old)) => {
+            return RecoveredFolder::find(ReadFolder {
+                rt: dir.rt,
+                path: old,
+                causes: dir.causes,
+            });
+        }
+        (None, None) => String::new(dir.rt.alloc()),
+    };
+    Ok(RecoveredFolder {
+        path,
+        generation: None,
+    })
 }
 
 // What its faults are about.
@@ -122,14 +175,14 @@ fn about<'a>(options: &ServeOptions<'_>, from: &'a str) -> About<'a> {
 fn store_of<'a>(
     dir: ReadFolder<'a>,
     options: &'a ServeOptions<'a>,
-    seed: RandomState,
+    drawn: Drawn,
     latest: Option<u32>,
-    from: &'a str,
+    from: &'a RecoveredFolder,
 ) -> Store<'a> {
     Store {
         dir,
         options,
-        seed,
+        drawn,
         latest,
         from,
     }
@@ -140,7 +193,7 @@ fn serve_from<E: Write>(store: &Store<'_>, errors: &mut Tally<E>) -> io::Result<
     let base = match base_of(store, errors) {
         Ok(base) => base,
         Err(lost) => {
-            tell_lost(store.from.as_bytes(), &lost, errors);
+            tell_lost(store.from.path.as_bytes(), &lost, errors);
             return Ok(FAILED);
         }
     };
@@ -153,7 +206,7 @@ fn serve_from<E: Write>(store: &Store<'_>, errors: &mut Tally<E>) -> io::Result<
     }
 }
 
-// The base from which the store starts: what the generation that counts is worth, or no pairs.
+// The base from which the store starts: what the folder is worth from whose state it does, or no pairs.
 fn base_of<'a, E: Write>(
     store: &Store<'a>,
     errors: &mut Tally<E>,
@@ -161,12 +214,13 @@ fn base_of<'a, E: Write>(
     ensures { IfOk result (λ base. base.point ≡ 0) }
 {
     let alloc = store.dir.rt.alloc();
-    if store.latest.is_none() {
-        return Ok(Base::start(u64::from(store.options.run), Vec::new(alloc)));
+    let path = store.from.path.as_str();
+    if path.is_empty() {
+        return Ok(Base::start(u64::from(store.drawn.run), Vec::new(alloc)));
     }
     let dir = ReadFolder {
         rt: store.dir.rt,
-        path: store.from,
+        path,
         causes: store.dir.causes,
     };
     let FoundFolder { folder, unopened } = match open_folder(dir) {
@@ -187,14 +241,18 @@ pub fn open(store: &Store<'_>, latest: Option<u32>, base: Base) -> Result<Opened
         sessions: options.sessions,
         capacity: options.capacity,
     };
+    let succession = Succession {
+        latest,
+        keep: options.keep,
+    };
     let mut folders = GenerationFolders { dir: store.dir };
     open_store(
         store.dir.rt.alloc(),
         &mut folders,
-        latest,
+        succession,
         base,
         size,
-        store.seed,
+        store.drawn.seed,
     )
 }
 
@@ -208,13 +266,18 @@ fn serve_opened<E: Write>(
 {
     let (rt, causes) = (store.dir.rt, store.dir.causes);
     let alloc = rt.alloc();
-    let OpenedStore { world, generation } = opened;
+    let OpenedStore {
+        world,
+        generation,
+        ..
+    } = opened;
     let mut out = Tally::new(output_before(rt, causes, io::writer(rt))?);
     if put_ready(&world, &mut out).is_err() {
         return Ok(FAILED);
     }
     let name = String::from_str(alloc, INPUT)?;
-    let mut input = BufReader::with_capacity(alloc, ROOM, Noted::new(rt.stdin(), name, causes))?;
+    let stdin = Typed::new(Noted::new(rt.stdin(), name, causes), rt);
+    let mut input = BufReader::with_capacity(alloc, ROOM, stdin)?;
     let first = Generation {
         world,
         number: generation,

@@ -11,6 +11,6 @@ pub use file_names::{FileName, part_name};
 pub use files::{NamedFile, Unread, read_opened, report, report_words};
 pub use output::end_output;
 pub use texts::{
-    put_check, put_collapsed, put_joined, put_name, put_pairs, put_reason, put_reply, put_state,
-    put_text,
+    phase_name, put_check, put_collapsed, put_joined, put_key, put_name, put_pairs, put_printed,
+    put_reason, put_reply, put_state, put_text,
 };

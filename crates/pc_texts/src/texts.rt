@@ -90,7 +90,8 @@ fn put_phase<W: Write>(out: &mut Tally<W>, phase: Phase, point: Point) -> Result
     ])
 }
 
-fn phase_name(phase: Phase) -> &'static [u8]
+/// The word of a phase.
+pub fn phase_name(phase: Phase) -> &'static [u8]
     ensures { result.now ≡ phase_name phase }
 {
     match phase {
@@ -260,8 +261,8 @@ pub fn put_reason<W: Write>(out: &mut Tally<W>, why: Refusal) -> Result<(), Refu
     }
 }
 
-// A key: its space, where it is another than 0, and its own bytes.
-fn put_key<W: Write>(out: &mut Tally<W>, key: &Key) -> Result<(), Refusal>
+/// Writes a key as it is printed: its space, where it is another than 0, and its own bytes.
+pub fn put_key<W: Write>(out: &mut Tally<W>, key: &Key) -> Result<(), Refusal>
     ensures { Puts W.contents out.old out.new result (printed_key key.now) }
 {
     put_space(out, key.space())?;
@@ -279,8 +280,8 @@ fn put_space<W: Write>(out: &mut Tally<W>, space: u16) -> Result<(), Refusal>
     out.put_all(&[b"\\s", buffer.format(space).as_bytes(), b":"])
 }
 
-// A key's own bytes, or a value: no bytes as a hyphen, the hyphen alone as an escape.
-fn put_printed<W: Write>(out: &mut Tally<W>, bytes: &[u8]) -> Result<(), Refusal>
+/// Writes a key's own bytes or a value as it is printed: no bytes as a hyphen, the hyphen alone as an escape.
+pub fn put_printed<W: Write>(out: &mut Tally<W>, bytes: &[u8]) -> Result<(), Refusal>
     ensures { Puts W.contents out.old out.new result (printed bytes.now) }
 {
     if bytes.is_empty() {

@@ -1,19 +1,22 @@
 //! Runs a script of transactions or a workload of clients against a store, joins part files, recovers what a folder's files are worth,
-//! or serves the store of a folder.
+//! shows what a log has, tells whether files are whole, or serves the store of a folder.
 #![tactic(auto)]
 
 mod gate;
 mod joining;
+mod logging;
 mod parts;
 mod recovering;
 mod run_folder;
 mod running;
 mod showing;
 mod stepping;
+mod verifying;
 
 use clap::Error;
 use clap::error::ErrorKind;
 use joining::join_parts;
+use logging::show_log;
 use pc_disk::fill_places;
 use pc_options::{Task, task_of, unreadable};
 use pc_serve::serve_folder;
@@ -24,6 +27,7 @@ use std::sync::Wait;
 use std::thread::Threads;
 use std::{env, io};
 use stepping::step_script;
+use verifying::verify_paths;
 
 fn main(rt: HostRuntime) -> ExitCode {
     match run_command(&rt, &rt) {
@@ -80,6 +84,8 @@ fn run_task<H: Threads + Wait + Sync>(rt: &HostRuntime, threads: &H, task: Task)
         Task::Run(options) => run_clients(rt, threads, &options),
         Task::Collapse(options) => join_parts(rt, &options),
         Task::Recover(options) => recover_folder(rt, &options),
+        Task::Log(options) => show_log(rt, &options),
+        Task::Verify(options) => verify_paths(rt, &options),
         Task::Serve(options) => serve_folder(rt, &options),
     }
 }

@@ -13,6 +13,7 @@ use pc_options::RunOptions;
 use pc_progress::{Asked, Behind, Progress};
 use pc_reasons::{put_workload_fault, workload_fault};
 use pc_runs::{Crew, NamedFolder, Origin, Start, run_workload};
+use pc_serve::RecoveredFolder;
 use pc_texts::{NamedFile, read_opened, report, report_words};
 use pc_types::{Refusal, Tally};
 use std::alloc::{AllocError, Global};
@@ -41,6 +42,8 @@ pub struct Setting<'a> {
     causes: &'a Causes,
     /// What is counted and shown of it.
     pub progress: &'a Progress<'a>,
+    // The folder from whose state it starts, if any.
+    from: Option<&'a RecoveredFolder>,
     // Whether faults are explained.
     is_explained: bool,
 }
@@ -54,33 +57,61 @@ pub fn run_clients<H: Threads + Wait + Sync>(
     let causes = Causes::new(rt.alloc())?;
     let is_on = is_explained(rt, options.is_explained);
     let progress = Progress::new(rt, asked(options, is_on))?;
-    let explainer = Explainer {
-        rt,
-        causes: &causes,
-        about: about(options),
-        is_on,
-    };
-    let stderr = rt.stderr();
-    let behind = Behind::new(&progress, threads, io::writer(&stderr));
-    let mut errors = Tally::new(Explained::new(&explainer, behind));
+    let found = found_start(rt, &causes, options)?;
+    let from = found.as_ref();
     let setting = Setting {
         rt,
         causes: &causes,
         progress: &progress,
+        from,
         is_explained: is_on,
     };
+    run_told(&setting, threads, options)
+}
+
+// The folder from whose state it starts, if any.
+fn found_start(
+    rt: &HostRuntime,
+    causes: &Causes,
+    options: &RunOptions<'_>,
+) -> Result<Option<RecoveredFolder>, AllocError> {
+    match options.from {
+        Some(path) => Ok(Some(RecoveredFolder::find(ReadFolder { rt, path, causes })?)),
+        None => Ok(None),
+    }
+}
+
+// Runs the workload, and tells its faults; the status.
+fn run_told<H: Threads + Wait + Sync>(
+    setting: &Setting<'_>,
+    threads: &H,
+    options: &RunOptions<'_>,
+) -> io::Result<u8> {
+    let rt = setting.rt;
+    let explainer = Explainer {
+        rt,
+        causes: setting.causes,
+        about: about(setting, options),
+        is_on: setting.is_explained,
+    };
+    let stderr = rt.stderr();
+    let behind = Behind::new(setting.progress, threads, io::writer(&stderr));
+    let mut errors = Tally::new(Explained::new(&explainer, behind));
+    if let Some(from) = setting.from {
+        let _ = from.tell(&mut errors);
+    }
     let status = match options.times {
-        Some(path) => run_timed(&setting, threads, options, path, &mut errors)?,
-        None => run_shown(&setting, threads, options, &mut errors)?,
+        Some(path) => run_timed(setting, threads, options, path, &mut errors)?,
+        None => run_shown(setting, threads, options, &mut errors)?,
     };
     explain_output(&explainer, &mut errors);
     Ok(status)
 }
 
 // What its faults are about.
-fn about<'a>(options: &RunOptions<'a>) -> About<'a> {
-    match options.from {
-        Some(old) => About::Start(old, options.capacity),
+fn about<'a>(setting: &Setting<'a>, options: &RunOptions<'_>) -> About<'a> {
+    match setting.from {
+        Some(from) => About::Start(from.path.as_str(), options.capacity),
         None => About::Run,
     }
 }
@@ -105,7 +136,7 @@ fn run_timed<H: Threads + Wait + Sync, E: Write>(
     errors: &mut Tally<E>,
 ) -> io::Result<u8> {
     let rt = setting.rt;
-    if let Some(words) = why_not_times(rt, options, path) {
+    if let Some(words) = why_not_times(setting, options, path) {
         let _ = report_words(path.as_bytes(), words, errors);
         return Ok(MISUSED);
     }
@@ -126,7 +157,12 @@ fn run_timed<H: Threads + Wait + Sync, E: Write>(
 }
 
 // Why the times aren't written to this file, if they aren't: it is the workload, or stands among the files of a run.
-fn why_not_times(rt: &HostRuntime, options: &RunOptions<'_>, path: &str) -> Option<&'static [u8]> {
+fn why_not_times(
+    setting: &Setting<'_>,
+    options: &RunOptions<'_>,
+    path: &str,
+) -> Option<&'static [u8]> {
+    let rt = setting.rt;
     if path == options.workload || is_same_file(rt, path, options.workload) {
         return Some(b"the workload has this name");
     }
@@ -136,8 +172,8 @@ fn why_not_times(rt: &HostRuntime, options: &RunOptions<'_>, path: &str) -> Opti
             return Some(b"it would stand in the folder of --dir");
         }
     }
-    if let Some(old) = options.from {
-        if is_same_file(rt, folder, old) {
+    if let Some(from) = setting.from {
+        if is_same_file(rt, folder, from.path.as_str()) {
             return Some(b"it would stand in the folder of --from");
         }
     }
@@ -318,11 +354,12 @@ fn run_in<R: Read + Drop, H: Threads + Wait + Sync, E: Write>(
 // What the store starts from. Of a folder, parts whose names are no UTF-8 are told.
 fn origin_of<'a, E: Write>(
     setting: &Setting<'a>,
-    options: &RunOptions<'a>,
+    options: &RunOptions<'_>,
     errors: &mut Tally<E>,
 ) -> Result<Origin<LateFile<'a>>, AllocError> {
-    let start = match options.from {
-        Some(path) => {
+    let start = match setting.from {
+        Some(from) => {
+            let path = from.path.as_str();
             let dir = ReadFolder {
                 rt: setting.rt,
                 path,

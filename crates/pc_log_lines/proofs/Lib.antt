@@ -1,0 +1,2 @@
+mod LineTurns
+mod Printed

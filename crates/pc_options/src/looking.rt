@@ -1,0 +1,98 @@
+//! The commands that look into files.
+use crate::options::{FAULTS, explain_arg};
+use clap::builder::ValueParser;
+use clap::{Arg, ArgAction, ArgMatches, Command, Error};
+use std::alloc::{AllocError, Global};
+
+/// What `pcalc log` is asked to do.
+#[derive(Drop)]
+pub struct LogOptions<'a> {
+    /// The file of the log.
+    pub file: &'a str,
+    /// The number of the first entry that is printed, 1 to 16,777,216.
+    pub low: u32,
+    /// The number of the last one, 1 to 16,777,216.
+    pub high: u32,
+    /// Whether faults are explained also where standard error is no terminal.
+    pub is_explained: bool,
+}
+
+/// What is said of `pcalc log` in a command line.
+pub(crate) fn log_command<'a>(alloc: Global) -> Result<Command<'a>, Error> {
+    let file = Arg::new(alloc, "FILE")
+        .help("The log's file")
+        .value_parser(ValueParser::NonEmptyString)
+        .required(true)
+        .action(ArgAction::Set);
+    let low = "The number of the first entry that is printed, 1 to 16777216";
+    let high = "The number of the last entry that is printed, 1 to 16777216";
+    Ok(
+        Command::new(alloc, "log")
+            .about("Prints the entries of a log")
+            .after_help(FAULTS)
+            .arg(file)?
+            .arg(entry_arg(alloc, "from", low, "1"))?
+            .arg(entry_arg(alloc, "to", high, "16777216"))?
+            .arg(explain_arg(alloc))?,
+    )
+}
+
+fn entry_arg<'a>(alloc: Global, name: &'a str, help: &'a str, default: &'a str) -> Arg<'a> {
+    Arg::new(alloc, name)
+        .long(name)
+        .value_name("N")
+        .help(help)
+        .value_parser(clap::value_parser!(u32).range(1..=16_777_216))
+        .default_value(default)
+}
+
+/// What the words of `pcalc log` ask for.
+pub(crate) fn log_options_of<'a>(matches: &ArgMatches<'a>) -> Option<LogOptions<'a>> {
+    Some(LogOptions {
+        file: matches.get_str("FILE")?,
+        low: matches.get_one::<u32>("from")?,
+        high: matches.get_one::<u32>("to")?,
+        is_explained: matches.get_flag("explain"),
+    })
+}
+
+/// What `pcalc verify` is asked to do.
+#[derive(Drop)]
+pub struct VerifyOptions<'a> {
+    /// The files and folders, in the order in which they are read.
+    pub paths: Vec<&'a str>,
+    /// Whether faults are explained also where standard error is no terminal.
+    pub is_explained: bool,
+}
+
+/// What is said of `pcalc verify` in a command line.
+pub(crate) fn verify_command<'a>(alloc: Global) -> Result<Command<'a>, Error> {
+    let path = Arg::new(alloc, "PATH")
+        .help("Files of stores, and folders of runs or of served stores")
+        .value_parser(ValueParser::NonEmptyString)
+        .required(true)
+        .num_args(1..)
+        .action(ArgAction::Append);
+    Ok(
+        Command::new(alloc, "verify")
+            .about("Tells of each file whether it is whole")
+            .after_help(FAULTS)
+            .arg(path)?
+            .arg(explain_arg(alloc))?,
+    )
+}
+
+/// What the words of `pcalc verify` ask for.
+pub(crate) fn verify_options_of<'a>(
+    alloc: Global,
+    matches: &ArgMatches<'a>,
+) -> Result<VerifyOptions<'a>, AllocError> {
+    let mut paths = Vec::new(alloc);
+    for path in matches.get_strs("PATH").unwrap_or(&[]) {
+        paths.push(*path)?;
+    }
+    Ok(VerifyOptions {
+        paths,
+        is_explained: matches.get_flag("explain"),
+    })
+}

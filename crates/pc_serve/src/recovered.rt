@@ -1,0 +1,55 @@
+//! The folder whose files are recovered where a folder is named: its own, or one in it.
+use crate::generations::{GenerationFolders, generation_path};
+use itoa::Buffer;
+use pc_disk::{BASE, ReadFolder, path_in};
+use pc_generations::latest_generation;
+use pc_types::{Refusal, Tally};
+use std::alloc::AllocError;
+use std::fs;
+use std::io::Write;
+use std::string::String;
+
+/// A folder whose files are recovered.
+#[derive(Drop)]
+pub struct RecoveredFolder {
+    /// Its path.
+    pub path: String,
+    /// The generation whose folder it is, where the folder of a served store was named.
+    pub generation: Option<u32>,
+}
+
+impl RecoveredFolder {
+    /// The folder of this path; where that is the folder of a served store, and has no base of its own, the folder of the generation that
+    /// counts. It is an error only where memory ran out.
+    pub fn find(dir: ReadFolder<'_>) -> Result<RecoveredFolder, AllocError> {
+        let generation = generation_in(dir)?;
+        let path = match generation {
+            Some(number) => generation_path(dir, number)?,
+            None => String::from_str(dir.rt.alloc(), dir.path)?,
+        };
+        Ok(RecoveredFolder { path, generation })
+    }
+
+    /// Tells by the line `generation N` which generation is recovered, where one is.
+    pub fn tell<E: Write>(&self, errors: &mut Tally<E>) -> Result<(), Refusal> {
+        match self.generation {
+            Some(number) => {
+                let mut buffer = Buffer::new();
+                errors.put_all(&[b"generation ", buffer.format(number).as_bytes(), b"\n"])
+            }
+            None => Ok(()),
+        }
+    }
+}
+
+// The generation that counts, where the folder is that of a served store, and has no base of its own.
+fn generation_in(dir: ReadFolder<'_>) -> Result<Option<u32>, AllocError> {
+    let base = path_in(dir.rt.alloc(), dir.path, BASE)?;
+    if fs::exists(dir.rt, base.as_str()).unwrap_or(true) {
+        return Ok(None);
+    }
+    match latest_generation(dir.rt.alloc(), &GenerationFolders { dir }) {
+        Ok(latest) => Ok(latest),
+        Err(_) => Ok(None),
+    }
+}

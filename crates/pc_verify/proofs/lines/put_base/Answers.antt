@@ -1,0 +1,12 @@
+use Rattle.std.proofs.lemmas.Result.{err_from_is_err_and}
+use Rattle.pc_types.proofs.PutsLaws.{puts_then, puts_stop}
+use Rattle.pc_verify.specs.Lines.{base_words, head_words}
+use Rattle.pc_verify.proofs.lines.put_base.Goals as goal
+
+pub returns-in_err-put_head : goal.returns-in_err-put_head
+returns-in_err-put_head g c =
+    let p = err_from_is_err_and c.from_residual.result c.from_residual.ensures.1 in
+    rw (p.1, p.2) (puts_stop g.W.Write.contents c.args.out.now c.put_head.new.out _ (head_words c.args.head.now) (base_words c.args.point c.args.pairs) c.in_err-put_head.ensures)
+
+pub returns : goal.returns
+returns g c = puts_then g.W.Write.contents c.args.out.now c.put_head.new.out c.put_base_end.new.out c.put_base_end.result (head_words c.args.head.now) (base_words c.args.point c.args.pairs) c.in_ok-put_head.ensures c.put_base_end.ensures

@@ -1,0 +1,13 @@
+use Rattle.std.proofs.lemmas.Result.{err_from_is_err_and}
+use Rattle.pc_texts.specs.Texts.{printed_name}
+use Rattle.pc_types.proofs.PutsLaws.{puts_then, puts_stop}
+use Rattle.pc_verify.specs.Lines.{finding_words}
+use Rattle.pc_verify.proofs.lines.put_finding.Goals as goal
+
+pub returns-in_err-put_name : goal.returns-in_err-put_name
+returns-in_err-put_name g c =
+    let p = err_from_is_err_and c.from_residual.result c.from_residual.ensures.1 in
+    rw (p.1, p.2) (puts_stop g.W.Write.contents c.args.out.now c.put_name.new.out _ (printed_name c.args.name.now) (finding_words c.args.finding.now) c.in_err-put_name.ensures)
+
+pub returns : goal.returns
+returns g c = puts_then g.W.Write.contents c.args.out.now c.put_name.new.out c.put_words.new.out c.put_words.result (printed_name c.args.name.now) (finding_words c.args.finding.now) c.in_ok-put_name.ensures c.put_words.ensures

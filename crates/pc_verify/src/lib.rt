@@ -1,0 +1,9 @@
+//! A file of a store, read by its own reader: what `pcalc verify` tells of it, over any reader and writer.
+#![tactic(auto)]
+
+mod findings;
+mod lines;
+mod verify;
+
+pub use findings::FileKind;
+pub use verify::verify_file;

@@ -1,0 +1,235 @@
+//! Files that are read by their own readers, and what recovery makes of a folder of them.
+use crate::parts::open_named;
+use pc_disk::{Causes, FoundFolder, ReadFolder, open_folder, output_before, tell_unopened};
+use pc_explanations::{About, Explained, Explainer, explain_output, is_explained};
+use pc_options::VerifyOptions;
+use pc_restore::{Folder, run_recover};
+use pc_serve::RecoveredFolder;
+use pc_texts::{NamedFile, end_output, report};
+use pc_types::{Refusal, Tally};
+use pc_verify::{FileKind, verify_file};
+use std::alloc::{AllocError, Global};
+use std::io::{Read, Write};
+use std::{fs, io};
+
+/// The status where a file or a folder isn't whole.
+const LACKING: u8 = 4;
+
+/// Tells of each of the files and folders whether it is whole, as the options say; the status.
+pub fn verify_paths(rt: &HostRuntime, options: &VerifyOptions<'_>) -> io::Result<u8> {
+    let causes = Causes::new(rt.alloc())?;
+    let explainer = Explainer {
+        rt,
+        causes: &causes,
+        about: About::Folder(first_of(options)),
+        is_on: is_explained(rt, options.is_explained),
+    };
+    let stderr = rt.stderr();
+    let mut errors = Tally::new(Explained::new(&explainer, io::writer(&stderr)));
+    let status = verify_all(&explainer, options, &mut errors)?;
+    explain_output(&explainer, &mut errors);
+    Ok(status)
+}
+
+// The first path.
+fn first_of<'a>(options: &VerifyOptions<'a>) -> &'a str {
+    match options.paths.first() {
+        Some(path) => *path,
+        None => "",
+    }
+}
+
+fn verify_all<E: Write>(
+    explainer: &Explainer<'_>,
+    options: &VerifyOptions<'_>,
+    errors: &mut Tally<E>,
+) -> io::Result<u8> {
+    let rt = explainer.rt;
+    let mut out = Tally::new(output_before(rt, explainer.causes, io::writer(rt))?);
+    let put = verify_each(explainer, options, &mut out, errors);
+    match end_output(put, &mut out) {
+        Ok(true) => Ok(0),
+        Ok(false) => Ok(LACKING),
+        Err(_) => Ok(1),
+    }
+}
+
+// Whether all of them are whole. Where memory runs out, the error writer gets the path that it was needed for.
+fn verify_each<W: Write, E: Write>(
+    explainer: &Explainer<'_>,
+    options: &VerifyOptions<'_>,
+    out: &mut Tally<W>,
+    errors: &mut Tally<E>,
+) -> Result<bool, Refusal> {
+    let mut are_whole = true;
+    for path in &options.paths {
+        match verify_path(explainer, path, out, errors) {
+            Ok(is_whole) => are_whole = are_whole && is_whole,
+            Err(why) => {
+                if why == Refusal::OutOfMemory {
+                    let _ = report(path.as_bytes(), why, errors);
+                }
+                return Err(why);
+            }
+        }
+    }
+    Ok(are_whole)
+}
+
+fn verify_path<W: Write, E: Write>(
+    explainer: &Explainer<'_>,
+    path: &str,
+    out: &mut Tally<W>,
+    errors: &mut Tally<E>,
+) -> Result<bool, Refusal> {
+    let (rt, causes) = (explainer.rt, explainer.causes);
+    match fs::metadata(rt, path) {
+        Ok(found) if found.is_dir() => verify_store(ReadFolder { rt, path, causes }, out, errors),
+        _ => {
+            let opened = open_named(rt, causes, path);
+            verify(rt.alloc(), kind_of(path), path, opened, out)
+        }
+    }
+}
+
+// By its name's end a file is a base or a log, and else a part.
+fn kind_of(path: &str) -> FileKind {
+    if path.ends_with(".pcb") {
+        FileKind::Base
+    } else if path.ends_with(".pcl") {
+        FileKind::Log
+    } else {
+        FileKind::Part
+    }
+}
+
+fn verify<R: Read + Drop, W: Write>(
+    alloc: Global,
+    kind: FileKind,
+    name: &str,
+    opened: Result<R, Refusal>,
+    out: &mut Tally<W>,
+) -> Result<bool, Refusal> {
+    let name = Vec::from_slice(alloc, name.as_bytes())?;
+    verify_file(alloc, kind, NamedFile { name, opened }, out)
+}
+
+// The folder itself, or that of the generation that counts.
+fn verify_store<W: Write, E: Write>(
+    named: ReadFolder<'_>,
+    out: &mut Tally<W>,
+    errors: &mut Tally<E>,
+) -> Result<bool, Refusal> {
+    let found = RecoveredFolder::find(named)?;
+    let _ = found.tell(errors);
+    verify_folder(named.rt, named.causes, found.path.as_str(), out, errors)
+}
+
+// The files of the folder of this path, and what recovery makes of them.
+fn verify_folder<'a, W: Write, E: Write>(
+    rt: &'a HostRuntime,
+    causes: &'a Causes,
+    path: &'a str,
+    out: &mut Tally<W>,
+    errors: &mut Tally<E>,
+) -> Result<bool, Refusal> {
+    let dir = ReadFolder { rt, path, causes };
+    let FoundFolder { folder, unopened } = open_folder(dir)?;
+    tell_unopened(&unopened, errors);
+    let are_whole = verify_files(dir, folder, out, errors)?;
+    let lacks_nothing = put_summary(dir, out, errors)?;
+    Ok(unopened.is_empty() && are_whole && lacks_nothing)
+}
+
+// Each file of the folder by itself.
+fn verify_files<R: Read + Drop, W: Write, E: Write>(
+    dir: ReadFolder<'_>,
+    folder: Folder<R>,
+    out: &mut Tally<W>,
+    errors: &mut Tally<E>,
+) -> Result<bool, Refusal> {
+    let alloc = dir.rt.alloc();
+    let Folder { base, parts, log } = folder;
+    let mut are_whole = verify(alloc, FileKind::Base, "base.pcb", base, out)?;
+    match parts {
+        Ok(files) => {
+            for file in files {
+                let is_whole = verify_file(alloc, FileKind::Part, file, out)?;
+                are_whole = are_whole && is_whole;
+            }
+        }
+        Err(why) => {
+            let _ = report(dir.path.as_bytes(), why, errors);
+            are_whole = false;
+        }
+    }
+    let is_whole = verify(alloc, FileKind::Log, "log.pcl", log, out)?;
+    Ok(are_whole && is_whole)
+}
+
+// What recovery makes of the folder, without the pairs; whether it lacks nothing.
+fn put_summary<W: Write, E: Write>(
+    dir: ReadFolder<'_>,
+    out: &mut Tally<W>,
+    errors: &mut Tally<E>,
+) -> Result<bool, Refusal> {
+    let alloc = dir.rt.alloc();
+    let FoundFolder {
+        folder,
+        unopened: _,
+    } = open_folder(dir)?;
+    let mut head = Tally::new(BeforePairs::new(alloc));
+    let ended = run_recover(alloc, dir.path, folder, true, &mut head, errors);
+    let BeforePairs {
+        lines,
+        line_start: _,
+        has_all: _,
+    } = head.into_inner();
+    out.put(&lines)?;
+    Ok(ended.status == 0)
+}
+
+// The lines of a recovery up to that which tells how many pairs there are.
+#[derive(Drop)]
+struct BeforePairs {
+    lines: Vec<u8>,
+    line_start: usize,
+    has_all: bool,
+}
+
+impl BeforePairs {
+    fn new(alloc: Global) -> BeforePairs {
+        BeforePairs {
+            lines: Vec::new(alloc),
+            line_start: 0,
+            has_all: false,
+        }
+    }
+
+    fn push(&mut self, byte: u8) -> Result<(), AllocError> {
+        if self.has_all {
+            return Ok(());
+        }
+        self.lines.push(byte)?;
+        if byte == b'\n' {
+            let line = self.lines.get(self.line_start..).unwrap_or(&[]);
+            let is_last = line.starts_with(b"pairs ");
+            self.has_all = is_last;
+            self.line_start = self.lines.len();
+        }
+        Ok(())
+    }
+}
+
+impl Write for BeforePairs {
+    fn write(&mut self, buf: &[u8]) -> io::Result<usize> {
+        for byte in buf {
+            self.push(*byte)?;
+        }
+        Ok(buf.len())
+    }
+
+    fn flush(&mut self) -> io::Result<()> {
+        Ok(())
+    }
+}
