@@ -1,0 +1,2 @@
+mod OpeningLaws
+mod Results

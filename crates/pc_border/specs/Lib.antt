@@ -1,0 +1,4 @@
+pub mod Sources
+pub mod Openings
+pub mod Stores
+pub mod Handled

@@ -1,0 +1,62 @@
+-- What a store is answered at the border, and what it is then.
+use Rattle.std.specs.Prelude.{◌≡◌, ◌⊎◌, ◌≤◌, ◌<◌, ◌+◌, ℕ, List, length, Option, Some, None, Result, Ok, Err, slice_range}
+use Rattle.std.specs.List.{flat_map}
+use Rattle.pc_types.specs.declared.Event.{Event}
+use Rattle.pc_types.specs.declared.Reply.{Reply}
+use Rattle.pc_types.specs.declared.Reply.TheVariants.{Refused}
+use Rattle.pc_types.specs.declared.refusal.Refusal.{Refusal}
+use Rattle.pc_types.specs.declared.refusal.Refusal.TheVariants.{OutOfMemory, BadKind, NoFile}
+use Rattle.pc_model.specs.History.{History}
+use Rattle.pc_log.specs.Texts.{entry_text, header_text}
+use Rattle.pc_model.specs.Files.{File, file_at}
+use Rattle.pc_part.specs.Texts.{base_text, part_text}
+use Rattle.pc_engine.specs.Store as world
+use Rattle.pc_engine.specs.Stands.{Stands, Follows, IfRefused}
+use Rattle.pc_wire.specs.Answers.{refusal_told, text_told, told_of}
+use Rattle.pc_wire.specs.Calls.{event_asked}
+use Rattle.pc_wire.specs.declared.answers.Answer.{Answer}
+use Rattle.pc_wire.specs.declared.calls.Call.{Call}
+use Rattle.pc_wire.specs.declared.codes.TheConstants.{BASE, PART, LOG, ENTRIES}
+use Rattle.pc_border.specs.declared.open_store.OpenStore.{OpenStore}
+use Rattle.pc_wire.specs.declared.shown.Shown.TheVariants as shown
+
+-- The world answered the event with this reply: after each history that it stood after, the reply is legal, and it stands after the
+-- longer one, with all that a step promises. A refusal changes nothing.
+pub record IsStep (event : Event) (old : world.Store) (reply : Reply) (new : world.Store) : Type 0 where
+  pub follows : (history : History) → Stands old history → Follows (world.setting_of old) history event reply new
+  pub setting : world.setting_of new ≡ world.setting_of old
+  pub refused : IfRefused reply (new ≡ old)
+
+-- The reply to what a call asks: that of its event, or that memory ran out; or why it asks none. Neither of these changes anything.
+abbrev pub IsReplied : Result Event Refusal → world.Store → Reply → world.Store → Type 0
+IsReplied (Ok event) old reply new = IsStep event old reply new ⊎ ((reply ≡ Refused OutOfMemory) × (new ≡ old))
+IsReplied (Err why) old reply new = (reply ≡ Refused why) × (new ≡ old)
+
+-- A call was answered by what its reply is told as, and that reply is shown.
+abbrev pub IsCalled : OpenStore → Call → List ℕ → List ℕ → Answer → OpenStore → Type 0
+IsCalled old call own bytes answer new = (reply : Reply) × IsReplied (event_asked call own bytes) old.world reply new.world × (answer ≡ told_of reply) × (new.shown ≡ shown.Reply reply)
+
+-- a text, which is that of so many entries, is shown, and the world is as it was; or memory ran out, and nothing has changed
+abbrev pub IsShown : List ℕ → ℕ → OpenStore → Answer → OpenStore → Type 0
+IsShown text entries old answer new =
+    ((answer ≡ text_told (length text) entries) × (new ≡ record { world = old.world; shown = shown.Text text }))
+    ⊎ ((answer ≡ refusal_told OutOfMemory) × (new ≡ old))
+
+-- the texts of some entries are shown, from the one behind the first so many on: of one at least where there is one
+abbrev pub AreEntriesShown : ℕ → OpenStore → Answer → OpenStore → Type 0
+AreEntriesShown behind old answer new = (count : ℕ) × IsShown (flat_map entry_text (slice_range old.world.log behind (behind + count))) count old answer new
+    × (behind < length old.world.log → (1 ≤ count) × (behind + count ≤ length old.world.log))
+
+-- the text of a file of the shelf is shown, or there is no such file
+abbrev pub IsFileShown : Option File → OpenStore → Answer → OpenStore → Type 0
+IsFileShown (Some file) old answer new = IsShown (part_text file) 0 old answer new
+IsFileShown None old answer new = (answer ≡ refusal_told NoFile) × (new ≡ old)
+
+-- the text that is called so is shown
+abbrev pub IsText : ℕ → ℕ → OpenStore → Answer → OpenStore → Type 0
+IsText what number old answer new =
+    (what ≡ BASE → IsShown (base_text old.world.base) 0 old answer new)
+    × (what ≡ PART → IsFileShown (file_at old.world.shelf number) old answer new)
+    × (what ≡ LOG → IsShown (header_text old.world.base.run) 0 old answer new)
+    × (what ≡ ENTRIES → AreEntriesShown number old answer new)
+    × ((what ≡ 0) ⊎ (ENTRIES < what) → (answer ≡ refusal_told BadKind) × (new ≡ old))

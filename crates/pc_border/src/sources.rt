@@ -1,0 +1,155 @@
+//! What a store is recovered from, as it is given piece by piece.
+ghost use Rattle.std.specs.Prelude.{◌≡◌, ◌⊎◌, [], true, false, length, map, IfOk, IfErr, IfSome, OnOk, OnErr};
+ghost use Rattle.pc_types.specs.declared.refusal.Refusal.TheVariants.{OutOfMemory, BadKind};
+ghost use Rattle.pc_types.specs.Fields.{Gives};
+ghost use Rattle.pc_model.specs.Database.{KeysRise};
+ghost use Rattle.pc_recover.specs.Recovery.{IsOfRun, recovery, recovery_of};
+ghost use Rattle.pc_border.specs.Sources.{is_given, is_source, given, worth_of, fault_number};
+
+use pc_recover::{Recovered, recover};
+use pc_types::{Items, Refusal};
+use pc_wire::codes::{BASE, LOG, PART};
+use pc_wire::refusal_number;
+use std::alloc::{AllocError, Global};
+
+/// What was recovered, in numbers.
+#[repr(C)]
+#[derive(Clone, Copy)]
+pub struct Worth {
+    /// The number of the run.
+    pub run: u64,
+    /// How many pairs there are.
+    pub pairs: u64,
+    /// How many whole entries the log has.
+    pub entries: u64,
+    /// How many parts were not used.
+    pub skipped: u64,
+    /// The point up to which parts are in it.
+    pub point: u32,
+    /// The fault of the bytes behind the log's whole entries, by the number of its refusal; 0 where there are none.
+    pub fault: u32,
+}
+
+/// The texts that a store is recovered from, as far as they were given: of a base, of parts and of a log.
+#[derive(Drop)]
+pub struct Sources {
+    pub base: Items<u8>,
+    pub parts: Items<Items<u8>>,
+    pub log: Items<u8>,
+}
+
+impl Sources {
+    /// Nothing was given. It takes no memory.
+    pub fn new(alloc: Global) -> Sources
+        ensures { result ≡ record { base = []; parts = []; log = [] } }
+    {
+        Sources {
+            base: Items::new(alloc),
+            parts: Items::new(alloc),
+            log: Items::new(alloc),
+        }
+    }
+
+    /// Whether anything was given.
+    pub fn is_given(&self) -> bool
+        ensures { result ≡ is_given self.now }
+    {
+        !(self.base.as_slice().is_empty()
+            && self.parts.as_slice().is_empty()
+            && self.log.as_slice().is_empty())
+    }
+
+    /// Keeps a copy of a text: the base's or the log's in place of what was given before, or a part's behind those before. Refuses with
+    /// `BadKind` exactly where it is called none of `BASE`, `PART` and `LOG`, and else only with `OutOfMemory`.
+    pub fn give(&mut self, alloc: Global, what: u32, bytes: &[u8]) -> Result<(), Refusal>
+        ensures given { OnOk result ((self.new ≡ given what self.old bytes.now) × (is_source what ≡ true)) }
+        ensures refused { OnErr result (self.new ≡ self.old) }
+        ensures refusals { IfErr result (λ why. ((why ≡ BadKind) × (is_source what ≡ false)) ⊎ ((why ≡ OutOfMemory) × (is_source what ≡ true))) }
+    {
+        if !is_source(what) {
+            return Err(Refusal::BadKind);
+        }
+        match copied(alloc, bytes) {
+            Some(copy) => self.keep(what, copy),
+            None => Err(Refusal::OutOfMemory),
+        }
+    }
+
+    // Keeps a text.
+    fn keep(&mut self, what: u32, text: Items<u8>) -> Result<(), Refusal>
+        ensures given { OnOk result (self.new ≡ given what self.old text) }
+        ensures refused { OnErr result (self.new ≡ self.old) }
+        ensures refusals { IfErr result (λ why. why ≡ OutOfMemory) }
+    {
+        match what {
+            BASE => self.base = text,
+            PART => self.parts.push(text)?,
+            _ => self.log = text,
+        }
+        Ok(())
+    }
+
+    /// What was given is worth after a crash, by the rules of `pc_recover` `recover`, whose refusals it has.
+    pub fn recover(&self, alloc: Global) -> Result<Recovered, Refusal>
+        ensures rules { Gives recovery_of result (recovery self.now.base self.now.parts self.now.log) }
+        ensures rise { IfOk result (λ recovered. KeysRise recovered.pairs.items) }
+        ensures run { IfOk result (λ recovered. IsOfRun self.now.base recovered.run) }
+    {
+        let parts = slices_of(alloc, self.parts.as_slice())?;
+        recover(alloc, self.base.as_slice(), &parts, self.log.as_slice())
+    }
+}
+
+// Whether a store is recovered from texts that are called so.
+fn is_source(what: u32) -> bool
+    ensures { result ≡ is_source what }
+{
+    what == BASE || what == PART || what == LOG
+}
+
+/// The bytes once more; none where memory ran out.
+pub(crate) fn copied(alloc: Global, bytes: &[u8]) -> Option<Items<u8>>
+    ensures { IfSome result (λ copy. copy ≡ bytes.now) }
+{
+    let mut copy = Vec::new(alloc);
+    match copy.extend_from_slice(bytes) {
+        Ok(()) => Some(Items::from_vec(copy)),
+        Err(_) => None,
+    }
+}
+
+/// What was recovered, in numbers.
+pub fn worth_of(found: &Recovered) -> Worth
+    ensures { result ≡ worth_of found.now.run (recovery_of found.now) (length found.now.pairs.items) }
+{
+    let fault = fault_number(&found.fault);
+    Worth {
+        run: found.run,
+        pairs: found.pairs.len() as u64,
+        entries: found.entries as u64,
+        skipped: found.skipped.len() as u64,
+        point: u32::from(found.point.0),
+        fault,
+    }
+}
+
+// The number of the fault of a log's rest; 0 where there is none.
+fn fault_number(fault: &Option<Refusal>) -> u32
+    ensures { result ≡ fault_number fault.now }
+{
+    match fault {
+        Some(why) => refusal_number(why),
+        None => 0,
+    }
+}
+
+// The bytes of the parts, in their order.
+fn slices_of<'a>(alloc: Global, parts: &'a [Items<u8>]) -> Result<Vec<&'a [u8]>, AllocError>
+    ensures { IfOk result (λ slices. map (λ slice. slice.now) slices.items ≡ parts.now) }
+{
+    let mut slices = Vec::new(alloc);
+    for part in parts {
+        slices.push(part.as_slice())?;
+    }
+    Ok(slices)
+}

@@ -1,0 +1,3 @@
+mod HandleLaws
+mod HandleValues
+mod UnboxedValues

@@ -1,0 +1,20 @@
+-- The store behind a handle.
+use Rattle.std.specs.Prelude.{◌≡◌, ◌⊎◌, ℕ, [], Option, None, Some, Ok, Err}
+use Rattle.pc_types.specs.declared.refusal.Refusal.{Refusal}
+use Rattle.pc_types.specs.declared.refusal.Refusal.TheVariants.{OutOfMemory}
+use Rattle.pc_wire.specs.Answers.{refusal_number}
+use Rattle.pc_border.specs.Handled.{IsWorth}
+use Rattle.pc_border.specs.declared.sources.Worth.{Worth}
+use Rattle.pc_border.specs.declared.store.Store.{Store}
+use Rattle.pc_border.specs.declared.store.Store.TheVariants.{Gathering}
+
+-- a handle that has nothing stands for a store that isn't open, and for which nothing was given
+abbrev pub store_of : Option Store → Store
+store_of None = Gathering (record { base = []; parts = []; log = [] })
+store_of (Some store) = store
+
+-- what was recovered is told, by 0; or why it wasn't, by the number of the refusal, and nothing is told
+abbrev pub IsWorthTold : Store → ℕ → Worth → Worth → Type 0
+IsWorthTold store status old new =
+    ((status ≡ 0) × IsWorth store (Ok new))
+    ⊎ ((why : Refusal) × (status ≡ refusal_number why) × (new ≡ old) × (IsWorth store (Err why) ⊎ (why ≡ OutOfMemory)))

@@ -1,0 +1,148 @@
+/* The folders of pcalc's stores: their files are given to a store that will be opened, and made. For C11 and C++17 on POSIX; include this
+ * before the system's headers. Tested; nothing of it is proved. */
+#ifndef PCALC_FOLDER_H
+#define PCALC_FOLDER_H
+
+#ifndef _POSIX_C_SOURCE
+#define _POSIX_C_SOURCE 200809L
+#endif
+
+#include "pcalc.h"
+
+#include <dirent.h>
+#include <errno.h>
+#include <fcntl.h>
+#include <stdio.h>
+#include <stdlib.h>
+#include <string.h>
+#include <sys/stat.h>
+#include <unistd.h>
+
+static inline char *pcalc_path(const char *dir, const char *name)
+{
+    size_t length = strlen(dir) + strlen(name) + 2;
+    char *path = (char *)malloc(length);
+    if (path) {
+        snprintf(path, length, "%s/%s", dir, name);
+    }
+    return path;
+}
+
+static inline int pcalc_write_all(int file, const uint8_t *bytes, size_t length)
+{
+    while (length > 0) {
+        ssize_t count = write(file, bytes, length);
+        if (count < 0 && errno == EINTR) {
+            continue;
+        }
+        if (count <= 0) {
+            return count < 0 ? errno : EIO;
+        }
+        bytes += count;
+        length -= (size_t)count;
+    }
+    return 0;
+}
+
+/* The text that the store shows, in memory of its own; null where there is none for it. */
+static inline uint8_t *pcalc_shown(pcalc *store, const pcalc_answer *answer)
+{
+    uint8_t none = 0;
+    uint8_t *text = (uint8_t *)malloc(answer->value_bytes + 1);
+    if (text) {
+        pcalc_copy(store, 0, &none, 0, text, answer->value_bytes);
+    }
+    return text;
+}
+
+/* Makes a file apart, brings it to the disk, and names it: 0, or an error number, and then what had the name stays. */
+static inline int pcalc_make_file(const char *dir, const char *name, const uint8_t *bytes, size_t length)
+{
+    int failed = ENOMEM;
+    size_t room = strlen(name) + 5;
+    char *fresh = (char *)malloc(room), *from = NULL, *to = pcalc_path(dir, name);
+    if (fresh) {
+        snprintf(fresh, room, "%s.new", name);
+        from = pcalc_path(dir, fresh);
+    }
+    if (from && to) {
+        int file = open(from, O_WRONLY | O_CREAT | O_EXCL, 0666), folder = open(dir, O_RDONLY);
+        failed = file < 0 || folder < 0 ? errno : pcalc_write_all(file, bytes, length);
+        if (!failed && (fsync(file) || rename(from, to) || fsync(folder))) {
+            failed = errno;
+        }
+        if (failed && file >= 0) {
+            unlink(from);
+        }
+        if (file >= 0) {
+            close(file);
+        }
+        if (folder >= 0) {
+            close(folder);
+        }
+    }
+    free(fresh);
+    free(from);
+    free(to);
+    return failed;
+}
+
+/* Gives a file of a folder to what a store will be opened over: 0, or an error number; ENOENT where it isn't there. */
+static inline int pcalc_give_file(pcalc *store, uint32_t what, const char *dir, const char *name)
+{
+    pcalc_answer answer;
+    struct stat about;
+    int failed = ENOMEM, file = -1;
+    uint8_t *bytes = NULL;
+    char *path = pcalc_path(dir, name);
+    if (path && ((file = open(path, O_RDONLY)) < 0 || fstat(file, &about))) {
+        failed = errno;
+    } else if (path && (bytes = (uint8_t *)malloc((size_t)about.st_size + 1)) != NULL) {
+        size_t length = 0, all = (size_t)about.st_size;
+        ssize_t count = 1;
+        while (length < all && count > 0) {
+            count = read(file, bytes + length, all - length);
+            length += count > 0 ? (size_t)count : 0;
+        }
+        failed = count < 0 ? errno : pcalc_give(store, what, bytes, length, &answer) == PCALC_GIVEN ? 0 : ENOMEM;
+    }
+    if (file >= 0) {
+        close(file);
+    }
+    free(bytes);
+    free(path);
+    return failed;
+}
+
+static inline int pcalc_is_part(const struct dirent *entry)
+{
+    size_t length = strlen(entry->d_name);
+    return length >= 4 && strcmp(entry->d_name + length - 4, ".pcp") == 0;
+}
+
+static inline int pcalc_by_bytes(const struct dirent **first, const struct dirent **second)
+{
+    return strcmp((*first)->d_name, (*second)->d_name);
+}
+
+/* Gives a folder of a run, or a generation of a served store, to what a store will be opened over: its base, its parts by their names, and
+ * its log, which may be missing. 0, or an error number. */
+static inline int pcalc_give_folder(pcalc *store, const char *dir)
+{
+    struct dirent **names = NULL;
+    int failed = pcalc_give_file(store, PCALC_BASE, dir, "base.pcb");
+    int count = failed ? 0 : scandir(dir, &names, pcalc_is_part, pcalc_by_bytes);
+    failed = failed ? failed : count < 0 ? errno : 0;
+    for (int i = 0; i < count; i++) {
+        failed = failed ? failed : pcalc_give_file(store, PCALC_PART, dir, names[i]->d_name);
+        free(names[i]);
+    }
+    free(names);
+    if (!failed) {
+        failed = pcalc_give_file(store, PCALC_LOG, dir, "log.pcl");
+        failed = failed == ENOENT ? 0 : failed;
+    }
+    return failed;
+}
+
+#endif
