@@ -4,6 +4,7 @@
     bench/serve.py                       20,000 transactions line by line, 20 times as many where many are under way, over 1,000 keys
     bench/serve.py COMMITS               so many line by line
     bench/serve.py --pairs N             a start with so many pairs, and else with 1,000,000
+    bench/serve.py --only-rolls ..       rolls of a generation alone
     bench/serve.py --program FILE ..     of the program FILE, and else of the one that `rt run` has built
 
 Told are rates with a round trip for each line, with one for each transaction, and with 16 and 1,000 transactions under way; by a client in C
@@ -11,7 +12,8 @@ Told are rates with a round trip for each line, with one for each transaction, a
 the best and the worst of several runs are told. The other one is `redis-server` with `appendonly yes`, over a Unix socket, where it is installed: with
 `appendfsync no` beside pcalc, and with `always` beside `--sync`, over as many transactions as fit in some seconds. Its transactions are MULTI, SET, EXEC, and
 beside them stands a SET alone. Then the memory of the process behind its start and behind two counts of commits; and how long a start with many
-pairs takes, by the clock and in processor time, with the memory behind it.
+pairs takes, by the clock and in processor time, with the memory behind it; and how long a client waits for an answer while a generation rolls over as
+many.
 """
 
 import argparse
@@ -41,6 +43,8 @@ SYNCED = 0.02
 COUNTS = (100_000, 1_000_000)
 PUTS = 250
 PATIENCE = 100
+# commits of a generation that rolls, and how many generations do
+ROLL, ROLLS = 20, 6
 
 
 @contextlib.contextmanager
@@ -193,12 +197,45 @@ def tell_start(program, pairs):
             print(f"start with {pairs:,} pairs, {what}: {seconds:.2f} s, {used:.2f} of processor time, {memory}", flush=True)
 
 
+def tell_roll(program, pairs):
+    """How long a client waits for an answer where a generation rolls before it, beside other answers, and the processor time of a roll."""
+    with tempfile.TemporaryDirectory() as folder:
+        filled(program, folder, pairs)
+        with pcalc_server(program, folder, "--capacity", str(max(1, pairs)), "--roll", str(ROLL)) as (number, source, target):
+            taken, used = [], processor_seconds(number)
+            for _ in range(ROLLS * ROLL + 1):
+                began = time.monotonic()
+                asked(source, target, b"begin 1\nput 1 k0000000 v0000000\ncommit 1\n", 3)
+                taken.append(time.monotonic() - began)
+            used, mb = (processor_seconds(number) - used) / ROLLS, resident(number)
+    # the first line behind each ROLL commits waits
+    pauses = sorted(seconds for place, seconds in enumerate(taken) if place and place % ROLL == 0)
+    others = sorted(seconds for place, seconds in enumerate(taken) if place % ROLL)
+    history.note(f"serve: roll over {pairs} pairs", used, "s of processor time")
+    waits = f"{pauses[0]:.2f} to {pauses[-1]:.2f} s, {used:.2f} of processor time"
+    print(f"a roll over {pairs:,} pairs: {waits}; {others[len(others) // 2] * 1e6:.0f} us without one; memory {mb:.0f} MB behind {ROLLS} of them", flush=True)
+
+
+def asked(source, target, lines, count):
+    """Asks lines, and reads this number of lines."""
+    target.write(lines)
+    read = b""
+    while read.count(b"\n") < count:
+        some = source.read(65_536)
+        if not some:
+            sys.exit("pcalc has ended")
+        read += some
+
+
 def main():
     ask = argparse.ArgumentParser(description=__doc__, formatter_class=argparse.RawDescriptionHelpFormatter)
     ask.add_argument("--program", default=shared.program("pcalc"))
     ask.add_argument("--pairs", type=int, default=1_000_000)
+    ask.add_argument("--only-rolls", action="store_true")
     ask.add_argument("commits", type=int, nargs="?", default=20_000)
     said = ask.parse_args()
+    if said.only_rolls:
+        return tell_roll(said.program, said.pairs)
     redis = shutil.which("redis-server")
     if redis is None:
         print("redis-server isn't here: only pcalc is measured")
@@ -210,6 +247,7 @@ def main():
         if client and redis:
             tell_memory("redis", client, redis_server, redis, ("--appendfsync", "no"), "set")
     tell_start(said.program, said.pairs)
+    tell_roll(said.program, said.pairs)
 
 
 if __name__ == "__main__":

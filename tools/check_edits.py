@@ -93,7 +93,7 @@ def functions_near(crate):
     if command is None:
         sys.exit("the command rt, beside which the sources of the kit's library stand, is not there")
     kit = os.path.join(os.path.dirname(os.path.dirname(os.path.realpath(command))), "rattle")
-    named = dict(line.partition(":")[::2] for line in text_of(os.path.join(ROOT, "crates.txt")).splitlines())
+    named = {head.split(" ")[0]: names for head, _, names in (line.partition(":") for line in text_of(os.path.join(ROOT, "crates.txt")).splitlines())}
     own = [crate, *below()[crate]]
     libraries = {it for name in own for it in named[name].split() if it not in named}
     folders = [os.path.join(CRATES, name) for name in own] + [os.path.join(kit, name) for name in (*LIBRARY, *libraries)]

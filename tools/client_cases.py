@@ -77,7 +77,7 @@ def operations(program, room):
             got += (t.get(b"fig"), t.entry)
         counts = {name: number for name, number in store.stats().items() if name != "bytes"}
         got += (t.entry, store.run_number, store.pairs, store.check(), counts)
-        yield "a transaction of the client", differing(got, (list(ODD.values()), -5, -2, b"0", None, None, 1, 7, 0, True, {"entries": 1, "commits": 1, "points": 0, "open": 0}))
+        yield "a transaction of the client", differing(got, (list(ODD.values()), -5, -2, b"0", None, None, 1, 7, 0, True, {"entries": 1, "commits": 1, "points": 0, "open": 0, "pairs": len(ODD)}))
         yield "one that raises leaves nothing", raises(store)
     with opened(program, room, sync=True, lag=0) as store:
         wanted = [None, *list(ODD.values())[1:], text_of(-2), None]
@@ -305,7 +305,7 @@ def lines(program, room):
         one.sock.sendall(b"put 1 m 2\ncommit 1\nbegin 1\nget 1 m\ncommit 1\n")
         got = two.ask(b"commit 1\n"), one.ask(b"", 5)
         yield "what waits is asked again", differing(got, (b"committed 1\n", b"ok\ncommitted 2\nbegun 4\n= 2\ncommitted 3\n"))
-        yield "quit ends a connection alone", differing((one.ask(b"quit\n", 0), one.is_ended(), two.ask(b"stats\n")), (b"", True, b"entries=3 commits=3 points=0 open=0 bytes=91\n"))
+        yield "quit ends a connection alone", differing((one.ask(b"quit\n", 0), one.is_ended(), two.ask(b"stats\n")), (b"", True, b"entries=3 commits=3 points=0 open=0 bytes=91 pairs=3\n"))
         one.close()
         two.close()
 

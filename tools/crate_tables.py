@@ -31,6 +31,7 @@ def graph():
             parts.append([])
         elif ":" in line:
             name, _, names = line.partition(":")
+            name = name.split(" ")[0]
             parts[-1].append(name)
             below[name] = [it for it in names.split() if it in below]
     return dict(zip(PARTS, parts, strict=True)), below

@@ -138,13 +138,16 @@ def usage_cases(folder):
     for words in (("\udcff",), ("step", "\udcff.pcs"), ("recover", "a\udcff"), ("run", "empty.pcs", "--dir", "\udcff")):
         yield Case("a word that is no UTF-8", words, 2, err=[b"error: a word is no UTF-8\n", b"Usage: pcalc"])
     yield Case("--version", ("--version",), 0, b"pcalc 0.1.0\n")
-    yield Case("--help", ("--help",), 0, parts=[b"Usage: pcalc", b"\n  step ", b"\n  run ", b"\n  collapse ", b"\n  recover ", b"\n  serve "])
+    yield Case("--help", ("--help",), 0, parts=[b"Usage: pcalc", b"\n  step ", b"\n  run ", b"\n  collapse ", b"\n  recover ", b"\n  log ", b"\n  verify ", b"\n  serve "])
     options = [b"<SCRIPT>", b"--sessions <N>", b"[default: 8]", b"--capacity <N>", b"[default: 1024]", b"--run <N>", b"[default: 1]", FAULTS]
     yield Case("step --help", ("step", "--help"), 0, parts=options)
     yield Case("step -h", ("step", "-h"), 0, parts=options)
     yield Case("recover --help", ("recover", "--help"), 0, parts=[b"<DIR>", FAULTS])
-    yield Case("serve --help", ("serve", "--help"), 0, parts=[b"<DIR>", b"--create", b"--sessions <N>", b"[default: 64]", b"--lag <N>", b"[default: 0]", b"--sync", b"--damaged", FAULTS])
+    yield Case("serve --help", ("serve", "--help"), 0, parts=[b"<DIR>", b"--create", b"--sessions <N>", b"[default: 64]", b"--lag <N>", b"[default: 0]", b"--sync", b"--damaged", b"--keep <N>", b"[default: 1]", b"--import <OLD>", FAULTS])
     yield Case("no folder to serve", ("serve",), 2, err=[b"error: the following required arguments were not provided:\n  <DIR>\n"])
+    yield Case("a store that is imported and there", ("serve", "store", "--import", "old"), 2, err=[b"error: the following required arguments were not provided:\n  --create\n"])
+    yield Case("a store that is imported with a run's number", ("serve", "store", "--create", "--import", "old", "--run", "2"), 2, err=[b"error: the argument '--import <OLD>' cannot be used with '--run <N>'\n"])
+    yield Case("a store that keeps no generation", ("serve", "store", "--keep", "0"), 2, err=[b"error: invalid value '0' for '--keep <N>': 0 is not in 1..=9999999\n"])
     yield Case("a run's number of a store that is there", ("serve", "store", "--run", "2"), 2, err=[b"error: the following required arguments were not provided:\n  --create\n"])
     yield Case("--help to a full output", ("--help",), 1, output=FULL)
 

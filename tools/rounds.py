@@ -72,6 +72,9 @@ class Copy:
         with open(os.path.join(self.folder, path), encoding="utf-8") as it:
             return it.read()
 
+    def has(self, path):
+        return os.path.exists(os.path.join(self.folder, path))
+
     def write(self, path, text):
         with open(os.path.join(self.folder, path), "w", encoding="utf-8") as it:
             it.write(text)
@@ -155,6 +158,8 @@ def reasons_of(said, copy, functions):
     """Why each of the functions was refused, by what the check said; a function of which nothing was said is left out."""
     owners, notes = {}, {}
     for path, line, rest in NOTE.findall(said):
+        if not copy.has(path):
+            continue  # of a library below
         if path not in owners:
             owners[path] = owners_in(copy.read(path))
         notes.setdefault((path, owners[path][int(line)]), []).append(rest)
@@ -173,9 +178,11 @@ def try_round(copy, bodies, functions, texts, run=check):
     """The reason of each body of the round; a body that couldn't be tried is left out."""
     applied = [it for it in bodies if copy.apply(texts[it])]
     wanted = {it for body in applied for it in functions[body]}
-    said = check_named(copy.folder, wanted, run)
-    reasons = reasons_of(said, copy, wanted)
-    copy.restore()
+    try:
+        said = check_named(copy.folder, wanted, run)
+        reasons = reasons_of(said, copy, wanted)
+    finally:
+        copy.restore()
     if not reasons and len(applied) > 1:
         # One of them doesn't compile, so nothing is said of the others.
         half = len(applied) // 2

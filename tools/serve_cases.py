@@ -3,12 +3,14 @@
 A client asks a served store by transactions of one session, the number N-th of which puts N under one of its keys and counts itself. So the state of a folder
 tells how many of them it has, and each key is compared. All that were answered are to be there, but for as many as `--lag` allows, and no
 more than were asked. A process is killed at random moments, at each of its calls that change files, and where its output is closed; its disk gets full.
-Of two processes one has the folder.
+Of two processes one has the folder. Many sessions are answered as plain_serving.py says. Lines are also typed at a terminal of its own.
 """
 
 import contextlib
 import os
+import pty
 import random
+import select
 import shutil
 import signal
 import subprocess
@@ -18,6 +20,7 @@ import time
 
 import disk_cases
 import plain_files
+import plain_serving
 import refused_growths
 from kill_cases import MOST_CALLS, SOURCE as KILL
 from disk_cases import SOURCE as NOTE
@@ -110,7 +113,7 @@ FIRST = (
     (b"add 1 \\s9:n 5", b"sum 5"),
     (b"commit 1", b"committed 1"),
     (b"# a remark", None),
-    (b"stats\r", b"entries=1 commits=1 points=0 open=0 bytes=55"),
+    (b"stats\r", b"entries=1 commits=1 points=0 open=0 bytes=55 pairs=2"),
     (b"begin 1", b"begun 2"),
     (b"put 1 fig 8", b"ok"),
     (b"begin 2", b"begun 3"),
@@ -161,7 +164,7 @@ def refusals(program, room):
     os.makedirs(os.path.join(room, "empty"))
     written(room, "run/base.pcb", plain_files.Base(1, 0, keyed({})).text())
     written(room, "file", b"")
-    served(program, room, ("three", "--create"), b"begin 1\nput 1 a 1\nput 1 b 1\nput 1 c 1\ncommit 1\n")
+    served(program, room, ("three", "--create", "--run", "1"), b"begin 1\nput 1 a 1\nput 1 b 1\nput 1 c 1\ncommit 1\n")
     for words, told in (
         (("none",), b"pcalc: none: NoFile\n"),
         (("empty",), b"pcalc: empty: NoStore\n"),
@@ -192,7 +195,7 @@ def rolls(program, room):
     yield "the last two of them stand", [] if generations_in(os.path.join(room, "S")) == [5, 6] else [f"{generations_in(os.path.join(room, 'S'))}"]
     # session 2 keeps a transaction open, and so the generation goes on
     open_lines = b"begin 2\nput 2 held 1\n" + b"".join(map(transaction, range(1, 21))) + b"run\ncommit 2\nrun\n"
-    ran = served(program, room, ("O", "--create", "--roll", "5"), open_lines)
+    ran = served(program, room, ("O", "--create", "--run", "1", "--roll", "5"), open_lines)
     runs = [line for line in ran.stdout.splitlines() if line.startswith(b"run ")]
     yield "no generation begins while a transaction is open", [] if runs == [b"run 1", b"run 2"] else [repr(runs)]
     ran = served(program, room, ("P", "--create", "--every", "100", "--lag", "1000"), b"".join(map(transaction, range(1, count + 1))) + b"stats\n")
@@ -221,7 +224,7 @@ def asked(process, line):
 
 def owners(program, room):
     """Two processes of one folder."""
-    with started(program, room, ("S", "--create")) as first:
+    with started(program, room, ("S", "--create", "--run", "1")) as first:
         lines = [] if first.stdout.readline() == b"ready run 1 pairs 0\n" else ["the first one isn't ready"]
         second = served(program, room, ("S",), b"begin 1\n")
         if (second.returncode, second.stdout, second.stderr) != (1, b"", b"pcalc: S: Busy\n"):
@@ -252,6 +255,13 @@ def fed(process, numbers):
     with contextlib.suppress(OSError):
         for first in range(numbers.start, numbers.stop, 64):
             process.stdin.write(b"".join(transaction(number) for number in range(first, min(first + 64, numbers.stop))))
+
+
+def fed_to_the_end(process, numbers):
+    """Asks all of these transactions, and then no more."""
+    fed(process, numbers)
+    with contextlib.suppress(OSError):
+        process.stdin.close()
 
 
 def answered_before_kill(program, room, words, numbers, answered):
@@ -302,7 +312,7 @@ def killed_at_start(program, room, words, chance):
 def killed_calls(program, room):
     """A process that is killed at each of its calls that change files, over a store that has three transactions and an older generation."""
     library = refused_growths.built(room, KILL)
-    for words in ((), ("--sync",), ("--every", "1"), ("--roll", "2"), ("--every", "1", "--roll", "4", "--sync")):
+    for words, kept in (((), 1), (("--sync",), 1), (("--every", "1"), 1), (("--roll", "2"), 1), (("--every", "1", "--roll", "4", "--sync"), 1), (("--roll", "2", "--keep", "2"), 2)):
         for number in range(1, MOST_CALLS):
             place = os.path.join(room, f"calls_{number}")
             for some in (b"".join(map(transaction, (1, 2))), transaction(3)):
@@ -312,9 +322,9 @@ def killed_calls(program, room):
             lines = [] if ran.returncode in (0, -signal.SIGKILL) else [f"status {ran.returncode}"]
             answered = sum(line.startswith(b"committed ") for line in ran.stdout.splitlines(keepends=True) if line.endswith(b"\n"))
             more, there = faults_of(program, os.path.join(place, "S"), 3 + answered, 8)
-            again = served(program, place, ("S",), b"")
+            again = served(program, place, ("S", "--keep", str(kept)), b"")
             more += [] if again.returncode == 0 and b" pairs %d\n" % len(pairs_of(there)) in again.stdout else ["it doesn't go on"]
-            more += [] if len(generations_in(os.path.join(place, "S"))) == 2 else [f"{generations_in(os.path.join(place, 'S'))} are there in the end"]
+            more += [] if len(generations_in(os.path.join(place, "S"))) == kept + 1 else [f"{generations_in(os.path.join(place, 'S'))} are there in the end"]
             yield f"serve {' '.join(words)}, killed at its call {number}", lines + more
             shutil.rmtree(place)
             if ran.returncode == 0:
@@ -352,6 +362,201 @@ def full_disk(program, room):
     return lines + more
 
 
+def full_roll(program, room):
+    """A generation whose base has no room: the one before counts, with all that was answered."""
+    puts = b"".join(b"begin 1\n" + b"".join(b"put 1 key%05d %s\n" % (first + place, b"v" * 100) for place in range(250)) + b"commit 1\n" for first in range(0, 4_500, 250))
+    written(room, "lines", puts)
+    ran = disk_cases.own_disk(room, ("sh", "-c", 'exec "$0" serve D --create --roll 18 --explain <../lines', program))
+    name = b"D/gen-0000002/base.pcb"
+    told = b"pcalc: D: Device\n  writing %s: %s" % (name, disk_cases.FULL)
+    lines = [] if (ran.returncode, ran.stderr) == (1, told) else [f"status {ran.returncode}, {ran.stderr!r}"]
+    place = os.path.join(room, disk_cases.LEFT, "D")
+    lines += [] if generations_in(place) == [1] and len(state_of(place)) == 4_500 else [f"{generations_in(place)} are there"]
+    return lines + [f"{left} is left" for left in os.listdir(generation(place, 2)) if left != "log.pcl"]
+
+
+def kept(program, room):
+    """How many generations are kept."""
+    for words, wanted in ((("--create", "--keep", "3", "--roll", "1"), [3, 4, 5, 6]), (("--keep", "9999999"), [3, 4, 5, 6, 7]), (("--keep", "2"), [6, 7, 8]), ((), [8, 9])):
+        lines = b"".join(map(transaction, range(1, 6))) if "--create" in words else b""
+        ran, found = served(program, room, ("S", *words), lines), generations_in(os.path.join(room, "S"))
+        yield f"serve {' '.join(words)} keeps generations", [] if (ran.returncode, found) == (0, wanted) else [f"status {ran.returncode}, {found}"]
+
+
+def first_runs(program, room):
+    """The number of a first run, which is drawn."""
+    told = [served(program, room, (name, "--create"), b"").stdout.split() for name in ("A", "B", "C")]
+    runs = {int(words[2]) for words in told}
+    is_right = len(runs) == 3 and all(1 <= run < 2**31 for run in runs) and all(words[3:] == [b"pairs", b"0"] for words in told)
+    yield "the numbers of first runs are drawn", [] if is_right else [repr(told)]
+
+
+RUN = b"points 1\nclient 1\nfill a 30 x\nclient 2\nfill b 30 y\n"
+
+
+def imports(program, room):
+    """A store that starts from a folder of a run, or of another store, and a run that starts from one."""
+    call = lambda *words: subprocess.run((program, *words), cwd=room, stdin=subprocess.DEVNULL, capture_output=True, timeout=SECONDS)
+    written(room, "run.pcw", RUN)
+    os.makedirs(os.path.join(room, "old"))
+    lines = [] if call("run", "run.pcw", "--dir", "old", "--run", "6").returncode == 0 else ["no run"]
+    # without its part the folder is what its base and its log have
+    pairs = plain_files.recover(*files_of(os.path.join(room, "old"))).pairs
+    lines += answers(program, room, ("S", "--create", "--import", "old"), ((b"", b"ready run 7 pairs 60"), (b"begin 1", b"begun 1"), (b"get 1 b000007", b"= y"), (b"put 1 z 1", b"ok"), (b"commit 1", b"committed 1")))
+    lines += [] if state_of(os.path.join(room, "S")) == {**pairs, **keyed({b"z": b"1"})} else ["its state is another one"]
+    yield "a store starts from the folder of a run", lines
+    yield "and no store that is there does", answers(program, room, ("S", "--create", "--import", "old"), (), 1, b"pcalc: S: NotEmpty\n")
+    yield "nor one of a folder that isn't there", answers(program, room, ("N", "--create", "--import", "none"), (), 1, b"pcalc: base.pcb: NoFile\n")
+    yield "but that may be tried again", answers(program, room, ("N", "--create", "--import", "old"), ((b"", b"ready run 7 pairs 60"),))
+    yield "a store starts from another one", answers(program, room, ("T", "--create", "--import", "S"), ((b"", b"ready run 8 pairs 61"),), 0, b"generation 1\n")
+    written(room, "old/log.pcl", b"")
+    yield "a damaged folder is refused", answers(program, room, ("U", "--create", "--import", "old"), (), 1, b"pcalc: old: Damaged\n")
+    yield "and taken by --damaged", answers(program, room, ("U", "--create", "--import", "old", "--damaged"), ((b"", b"ready run 7 pairs %d" % len(plain_files.recover(*files_of(os.path.join(room, "old"))).pairs)),))
+    os.makedirs(os.path.join(room, "new"))
+    ran = call("run", "run.pcw", "--from", "S", "--dir", "new", "--times", "S/gen-0000001/times")
+    told = b"generation 1\npcalc: S/gen-0000001/times: it would stand in the folder of --from\n"
+    yield "times of a run aren't written among the files from which it starts", [] if (ran.returncode, ran.stderr) == (2, told) else [f"status {ran.returncode}, {ran.stderr!r}"]
+    ran = call("run", "run.pcw", "--from", "S", "--dir", "new")
+    is_right = (ran.returncode, ran.stderr, ran.stdout.split(b"\n")[4]) == (0, b"generation 1\n", b"state pairs 61")
+    yield "a run starts from a store", [] if is_right else [f"status {ran.returncode}, {ran.stdout!r}, {ran.stderr!r}"]
+
+
+CROWDS = ((64, 1_000_000, 5_000), (5, 3, 3_000))
+
+
+def crowd_line(chance, store, sessions):
+    """A line of one of the sessions, which are often in one another's way."""
+    session = chance.randint(1, sessions)
+    mine = store.store.open.get(session)
+    if mine is None:
+        return b"begin %d" % session
+    if mine.is_dead:
+        return b"abort %d" % session
+    key = chance.choice((b"a", b"b", b"c", b"d"))
+    return chance.choice((b"put %d %s %d" % (session, key, session), b"get %d %s" % (session, key), b"add %d %s-n 1" % (session, key), b"commit %d" % session))
+
+
+def crowds(program, room):
+    """Many sessions that wait for one another and die, beside the plain form."""
+    chance = random.Random(SEED)
+    for sessions, roll, count in CROWDS:
+        store, lines, told = plain_serving.Served(run=1, sessions=sessions, roll=roll), [], []
+        for number in range(count):
+            lines.append(crowd_line(chance, store, sessions))
+            told.append(store.answer(lines[-1]))
+        lines, told = [*lines, b"stats"], [*told, store.answer(b"stats")]
+        counts = [sum(it.startswith(word) for it in told) for word in (b"wait", b"died", b"committed")] + [sum(it.count(b"granted") for it in told)]
+        words = (f"S{sessions}", "--create", "--run", "1", "--sessions", str(sessions), "--roll", str(roll))
+        ran = served(program, room, words, b"".join(it + b"\n" for it in lines))
+        is_right = (ran.returncode, ran.stderr, ran.stdout) == (0, b"", b"ready run 1 pairs 0\n" + b"".join(told)) and min(counts) > 10
+        yield f"{sessions} sessions wait and die", [] if is_right else [f"status {ran.returncode}, {counts}, {ran.stderr!r}, {ran.stdout[:2000]!r}"]
+        more = [] if state_of(os.path.join(room, f"S{sessions}")) == store.pairs() else ["the folder has another state"]
+        yield f"and {sessions} sessions leave what was committed", more
+
+
+LONG = 50_000_000
+
+
+def long_line(program, room):
+    """A line of 50 MB, whole and cut off."""
+    line = b"put 1 " + b"k" * LONG + b" 1\n"
+    lines = b"begin 1\n" + line + b"put 1 fig 7\ncommit 1\n"
+    ran = served(program, room, ("S", "--create", "--run", "1"), lines + line[:-1])
+    wanted = b"ready run 1 pairs 0\nbegun 1\nrefused KeyLength\nok\ncommitted 1\n"
+    more = [] if (ran.returncode, ran.stdout, ran.stderr) == (0, wanted, b"") else [f"status {ran.returncode}, {ran.stdout[:200]!r}, {ran.stderr[:200]!r}"]
+    yield "a line of 50 MB", more + ([] if state_of(os.path.join(room, "S")) == keyed({b"fig": b"7"}) else ["the folder has another state"])
+
+
+def unread(program, room):
+    """A client that asks and reads no answer for a while: the process waits, and takes no memory meanwhile."""
+    count = 30_000
+    with started(program, room, ("S", "--create")) as process:
+        feeder = threading.Thread(target=fed_to_the_end, args=(process, range(1, count + 1)))
+        feeder.start()
+        ready = process.stdout.readline()
+        sizes = [waiting_size(process.pid) for _ in range(2)]
+        lines = [] if ready.startswith(b"ready") and sizes[0] == sizes[1] else [f"its memory grows from {sizes[0]} to {sizes[1]} pages"]
+        done = b"committed %d\n" % count
+        told = next((it for it in process.stdout if it == done), b"")
+        feeder.join()
+        lines += [] if told == done and process.wait(SECONDS) == 0 else [f"not all is answered: {told!r}"]
+    more, _ = faults_of(program, os.path.join(room, "S"), count, count)
+    yield "a client that reads nothing for a while", lines + more
+
+
+def waiting_size(number):
+    """How many pages of memory a process has, once it has used no processor time for a while."""
+    used = None
+    for _ in range(100):
+        with open(f"/proc/{number}/stat", encoding="ascii") as it:
+            now = it.read().rpartition(")")[2].split()
+        if now[11:13] == used:
+            return int(now[21])
+        used = now[11:13]
+        time.sleep(0.2)
+    return 0
+
+
+def closed_streams(program, room):
+    """A process that is started without one of the standard streams."""
+    call = lambda words: subprocess.run(("sh", "-c", 'exec "$0" serve ' + words, program), cwd=room, input=b"begin 1\nput 1 a 1\ncommit 1\n", capture_output=True, timeout=SECONDS)
+    for words, wanted in (
+        ("S --create --run 3 <&-", (0, b"ready run 3 pairs 0\n", b"")),
+        ("S >&-", (1, b"", b"")),
+        ("S 2>&-", (0, b"ready run 5 pairs 0\nbegun 1\nok\ncommitted 1\n", b"")),
+        ("none 2>&-", (1, b"", b"")),
+    ):
+        ran = call(words)
+        yield f"serve {words}", [] if (ran.returncode, ran.stdout, ran.stderr) == wanted else [f"status {ran.returncode}, {ran.stdout!r}, {ran.stderr!r}"]
+
+
+# each line, its answer, and what stands beside it on standard error before the next prompt
+TYPED = (
+    (b"begin 1", b"begun 1\n", b""),
+    (b"put 1 - x", b"refused KeyLength\n", b""),
+    (b"put 1 a", b"bad line\n", b"  a word is missing\n"),
+    (b"begin x", b"bad line\n", b"  the second word is no session number\n"),
+    (b"frob", b"bad line\n", b"  the first word names no command\n"),
+    (b"# nothing", b"", b""),
+    (b"stats", b"entries=0 commits=0 points=0 open=1 bytes=20 pairs=0\n", b""),
+    (b"run", b"run 1\n", b""),
+    (b"run 1", b"bad line\n", b"  the first word names no command\n"),
+    (b"commit 1", b"committed 1\n", b""),
+)
+
+
+def typed(program, room):
+    """Lines that are typed at a terminal: a prompt before each, and behind a bad one why it is one."""
+    ours, theirs = pty.openpty()
+    process = subprocess.Popen((program, "serve", "S", "--create", "--run", "1"), cwd=room, stdin=theirs, stdout=subprocess.PIPE, stderr=subprocess.PIPE)
+    os.close(theirs)
+    told, beside = read_until(process.stdout, b"\n"), read_until(process.stderr, b"> ")
+    lines = [] if (told, beside) == (b"ready run 1 pairs 0\n", b"> ") else [f"{told!r} and {beside!r}"]
+    for line, answer, reason in TYPED:
+        os.write(ours, line + b"\n")
+        beside = read_until(process.stderr, b"> ")
+        told = read_until(process.stdout, answer) if answer else b""
+        lines += [] if (told, beside) == (answer, reason + b"> ") else [f"{line!r} is answered {told!r}, and beside it stands {beside!r}"]
+    # the end of the input, at a terminal
+    os.write(ours, b"\x04")
+    status, told, beside = process.wait(SECONDS), process.stdout.read(), process.stderr.read()
+    lines += [] if (status, told, beside) == (0, b"", b"\n") else [f"it ends with {status}, {told!r} and {beside!r}"]
+    os.close(ours)
+    yield "lines that are typed at a terminal", lines
+
+
+def read_until(stream, end):
+    """What a stream gives, up to an end like this one, or for some seconds."""
+    got, patience = b"", time.monotonic() + 10
+    while not got.endswith(end) and time.monotonic() < patience:
+        if select.select([stream], [], [], 1)[0]:
+            some = os.read(stream.fileno(), 65_536)
+            if not some:
+                break
+            got += some
+    return got
+
+
 def synced(program, room):
     """When files are brought to the disk: s each time, and r where a file gets its name."""
     library, notes = refused_growths.built(room, NOTE), os.path.join(room, "notes")
@@ -373,7 +578,7 @@ def synced(program, room):
 def serves(program, folder):
     """What each served store differs in, by its name."""
     chance = random.Random(SEED)
-    for cases in (sessions, refusals, owners, alone, rolls, closed_output, killed_calls, synced):
+    for cases in (sessions, refusals, owners, alone, rolls, kept, first_runs, imports, crowds, long_line, unread, closed_output, closed_streams, typed, killed_calls, synced):
         room = os.path.join(folder, cases.__name__)
         os.makedirs(room)
         yield from cases(program, room)
@@ -385,5 +590,8 @@ def serves(program, folder):
         room = os.path.join(folder, "full")
         os.makedirs(room)
         yield "a served store on a full disk", full_disk(program, room)
+        room = os.path.join(folder, "full_roll")
+        os.makedirs(room)
+        yield "a generation that begins on a full disk", full_roll(program, room)
     else:
         print("no disk of 1 MB is given here: what a full one does to a served store is not tried")

@@ -6,6 +6,7 @@
     scripts      lines of each kind, with points, joins, states and texts, beside plain_store.py
     recoveries   a base, parts and a log, with bytes changed, cut off, put in, and files left out, beside plain_files.py
     collapses    parts that overlap, are damaged, of other runs or differ, beside plain_files.py
+    serves       lines asked of a store that is served, and killed, beside plain_serving.py and what each line leaves
     runs         workloads on threads, each into a folder; what the log has of each client; and the folder recovered with its log cut anywhere and without
                  any of its parts, beside plain_files.py and what the log says
 
@@ -15,14 +16,19 @@ does, found by leaving out its pieces. In the end it is told how many of each ki
 
 import collections
 import concurrent.futures
+import contextlib
 import os
 import random
+import re
+import signal
 import subprocess
 import sys
 import tempfile
+import threading
 import time
 
 import plain_files
+import plain_serving
 import plain_store
 from program_cases import written
 from run_cases import files_of, has_commits, writes_of
@@ -48,6 +54,31 @@ def ran(folder, *words):
     except subprocess.TimeoutExpired:
         return None, b"", b"no end in %d s" % SECONDS
     return told.returncode, told.stdout, told.stderr
+
+
+def served(folder, words, lines, most):
+    """The status, the output and the error stream of a process that serves with these words and is asked these lines; it is killed once this number of lines
+    was read of it, if a number is given."""
+    command = [PROGRAM, "serve", *words]
+    with subprocess.Popen(command, cwd=folder, stdin=subprocess.PIPE, stdout=subprocess.PIPE, stderr=subprocess.PIPE) as process:
+        feeder = threading.Thread(target=fed, args=(process.stdin, lines))
+        patience = threading.Timer(SECONDS, process.kill)
+        feeder.start()
+        patience.start()
+        read = []
+        for line in process.stdout:
+            read.append(line)
+            if len(read) == most:
+                process.kill()
+        patience.cancel()
+        feeder.join()
+        return process.wait(), b"".join(read), process.stderr.read()
+
+
+def fed(target, lines):
+    """Asks the lines, as far as somebody reads them."""
+    with contextlib.suppress(OSError), target:
+        target.write(b"".join(line + b"\n" for line in lines))
 
 
 def smallest(pieces, is_wrong):
@@ -373,7 +404,85 @@ class Runs:
         return [" ".join(setting[1]), self.workload(setting[0], pieces).decode()]
 
 
-KINDS = (Scripts(), Recoveries(), Collapses(), Runs())
+class Serves:
+    """Pieces are lines; the setting is that of the store, behind how many lines each process but the last is killed, and the other options."""
+
+    name = "serves"
+
+    def draw(self, chance):
+        # points free the places of keys that are gone, and have entries in the log: with them the store has room, and no generation rolls
+        every = chance.choice([0, 0, 0, 1, 5])
+        capacity, roll = (1024, 1_000_000) if every else (chance.choice([2, 6, 1024]), chance.choice([1, 3, 20, 1_000_000]))
+        sessions = chance.choice([1, 2, 5, 64])
+        lines = [self.line(chance, sessions, every) for _ in range(chance.choice([20, 100, 500]))]
+        kills = [chance.randrange(1, 300) for _ in range(chance.randrange(5))]
+        return (sessions, capacity, roll, every, kills, chance.choice([[], ["--sync"], ["--keep=3"]])), lines
+
+    def line(self, chance, sessions, every):
+        session, key = chance.randint(1, sessions), chance.choice(KEYS)
+        shown = [b"check", b"run"] + ([] if every else [b"stats", b"state 1", b"text 1"])
+        return chance.choice(
+            [b"begin %d" % session, b"begin %d" % session, b"commit %d" % session, b"commit %d" % session, b"abort %d" % session]
+            + [b"put %d %s %s" % (session, key, chance.choice(VALUES)), b"get %d %s" % (session, key), b"del %d %s" % (session, key)]
+            + [b"add %d %s %s" % (session, key, chance.choice(DELTAS)), chance.choice(shown), chance.choice(ODD), chance.choice(sum(NEXT.values(), []))]
+        )
+
+    def differences(self, folder, setting, lines):
+        sessions, capacity, roll, every, kills, words = setting
+        place, pairs, run, at = tempfile.mkdtemp(dir=folder), {}, 6, 0
+        words = [f"--sessions={sessions}", f"--capacity={capacity}", f"--roll={roll}", f"--every={every}", *words]
+        for most in (*kills, None):
+            first = ["--create", "--run=7"] if run == 6 else []
+            status, out, err = served(place, ["S", *first, *words], lines[at:], most)
+            # a line that was cut off tells nothing, and with points commits have other numbers in the log
+            out = self.unnumbered(out[: out.rfind(b"\n") + 1], every)
+            run, found = int((out.split() or [b"ready", b"run", b"0"])[2]), run
+            store = plain_serving.Served(pairs, run, sessions, capacity, roll)
+            texts, states = [], [store.pairs()]
+            for line in lines[at:]:
+                texts.append(self.unnumbered(store.answer(line), every))
+                states.append(store.pairs())
+            wanted = b"".join((plain_serving.Served(pairs, run).ready(), *texts))
+            is_whole = (status, out) == (0, wanted)
+            if err or run <= found or not (is_whole or most is not None and status == -signal.SIGKILL and wanted.startswith(out)):
+                return [f"killed behind {most} lines of {lines[at:]}", f"wanted {wanted!r}", f"status {status}, {out!r} and {err!r}"]
+            answered = self.answered(out, wanted, texts)
+            pairs, told = self.recovered(place)
+            if told or pairs not in states[answered:]:
+                return [*told, f"killed behind {answered} answers to {lines[at:]}", f"{pairs} is left, where it may be {states[answered:]}"]
+            at += answered
+        return []
+
+    def unnumbered(self, text, every):
+        return re.sub(rb"(?m)^committed [0-9]+$", b"committed", text) if every else text
+
+    def answered(self, out, wanted, texts):
+        """How many lines are answered whole by this beginning of what is wanted."""
+        end, count = len(wanted) - sum(map(len, texts)), 0
+        for text in texts:
+            end += len(text)
+            if len(out) < end:
+                break
+            count += 1
+        return count
+
+    def recovered(self, place):
+        """The pairs that are recovered of the generation that counts, and what is wrong with what `recover` prints of them."""
+        folder = os.path.join(place, "S")
+        name = max(name for name in os.listdir(folder) if os.path.exists(os.path.join(folder, name, "base.pcb")))
+        found = plain_files.recover(*files_of(os.path.join(folder, name)))
+        told = ran(place, "recover", "S")
+        wanted = 0, found.text(), b"generation %d\n" % int(name[4:])
+        return found.pairs, [] if told == wanted else [f"recovered {told} in the place of {wanted}"]
+
+    def tried(self, lines):
+        return {"lines served": len(lines)}
+
+    def shown(self, setting, lines):
+        return [repr(setting), *[line.decode() for line in lines]]
+
+
+KINDS = (Scripts(), Recoveries(), Collapses(), Serves(), Runs())
 
 
 def case(kind, seed, number):

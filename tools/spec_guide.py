@@ -156,7 +156,7 @@ def in_order(specs):
             visit(other)
         order.append(path)
 
-    crates = re.findall(r"^(\w+):", text_of(os.path.join(ROOT, "crates.txt")), re.M)
+    crates = re.findall(r"^(\w+)(?: staticlib)?:", text_of(os.path.join(ROOT, "crates.txt")), re.M)
     for path in sorted(specs, key=lambda it: (crates.index(crate_of(it)), it)):
         visit(path)
     return order

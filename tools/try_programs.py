@@ -6,12 +6,15 @@
     examples/NAME/        a folder: `pcalc recover` prints NAME.out, or `pcalc collapse` of its files where it has no base
     bench/counts.txt      a line `$ WORDS` is a command of bench_calls, and the lines up to the next one what it prints
     program_cases.py      options, files that can't be had, long files, a full output, little memory
+    look_cases.py         logs that are printed, and files and folders that are verified
     run_cases.py          workloads that are run on threads, and the folders that they leave
     crash_cases.py        runs that are killed, and what is recovered of their folders
     kill_cases.py         commands that are killed at each call that changes files, and runs into one folder at the same time
     disk_cases.py         commands on a disk that gets full, and how often files are brought to the disk
     serve_cases.py        stores that are served over pipes, and killed
+    tutorial_cases.py     the commands of docs/TUTORIAL.md
     client_cases.py       the client and the relay of clients/python over served stores: threads, kills, sockets
+    embedding_cases.py    the library of pc_c in programs of C, C++ and Python, where there is a C compiler
     refused_growths.py    a run and the tests of test_memory and test_growths, each growth of memory that they ask for refused in turn
     PAGES                 what tools make of the crates stands in docs/ as they make it, and each wrong body is one, those of tools/meetings as they
                           were seen, and none that was refused waits to be tried again since the function that it changes was another one
@@ -36,11 +39,14 @@ import unittest
 import client_cases
 import crash_cases
 import disk_cases
+import embedding_cases
 import kill_cases
+import look_cases
 import program_cases
 import refused_growths
 import run_cases
 import serve_cases
+import tutorial_cases
 
 ROOT = os.path.join(os.path.dirname(os.path.abspath(__file__)), "..")
 SECONDS = 60
@@ -120,13 +126,13 @@ def settings_of(case, folder):
 
 
 def cases():
-    """What each case of `program_cases.py` and `run_cases.py` differs in, by its name. The program is copied, so that any user may run it."""
+    """What each case of `program_cases.py`, `look_cases.py` and `run_cases.py` differs in, by its name. The program is copied, so that any user may run it."""
     with tempfile.TemporaryDirectory() as folder:
         os.chmod(folder, 0o755)
         program = os.path.join(folder, "pcalc")
         if os.path.exists(program_of("pcalc")):
             shutil.copy(program_of("pcalc"), program)
-        for case in itertools.chain(program_cases.cases(folder), run_cases.cases(folder)):
+        for case in itertools.chain(program_cases.cases(folder), look_cases.cases(folder), run_cases.cases(folder)):
             settings = settings_of(case, folder)
             if case.output is None:
                 told = ran([program, *case.words], **settings)
@@ -170,11 +176,25 @@ def serves():
             yield from serve_cases.serves(os.path.abspath(program_of("pcalc")), folder)
 
 
+def tutorial():
+    """What each command of the tutorial differs in, by its name."""
+    if os.path.exists(program_of("pcalc")):
+        with tempfile.TemporaryDirectory() as folder:
+            yield from tutorial_cases.tutorial(os.path.abspath(program_of("pcalc")), folder)
+
+
 def clients():
     """What each use of the client and of the relay differs in, by its name."""
     if os.path.exists(program_of("pcalc")):
         with tempfile.TemporaryDirectory() as folder:
             yield from client_cases.clients(os.path.abspath(program_of("pcalc")), folder)
+
+
+def embedded():
+    """What each use of the library in other languages differs in, by its name."""
+    if os.path.exists(program_of("pcalc")):
+        with tempfile.TemporaryDirectory() as folder:
+            yield from embedding_cases.embedded(os.path.abspath(program_of("pcalc")), folder)
 
 
 def pages():
@@ -247,7 +267,7 @@ def counted(parts):
 
 
 def main():
-    passed, failed = counted((stored, cases, crashes, kills, disks, serves, clients, refused_growths.growths, pages, tests))
+    passed, failed = counted((stored, cases, crashes, kills, disks, serves, tutorial, clients, embedded, refused_growths.growths, pages, tests))
     print(f"{passed} passed, {failed} failed")
     return 1 if failed else 0
 

@@ -55,9 +55,9 @@ class Words(unittest.TestCase):
 
     def test_a_command_has_its_options(self):
         self.assertEqual(pcalc.command("d", "p", create=True, sync=True, lag=5, run=None), ["p", "serve", "d", "--create", "--sync", "--lag", "5"])
-        self.assertEqual(pcalc.command("d", "p", every=7, roll=9), ["p", "serve", "d", "--every", "7", "--roll", "9"])
+        self.assertEqual(pcalc.command("d", "p", every=7, roll=9, keep=2), ["p", "serve", "d", "--every", "7", "--roll", "9", "--keep", "2"])
         with self.assertRaises(TypeError):
-            pcalc.command("d", keep=5)
+            pcalc.command("d", rolls=5)
 
 
 class OfStore(unittest.TestCase):

@@ -88,6 +88,11 @@ class Rounds(InFolder):
         self.texts["free"] = edit("no such text", "7")
         self.assertEqual(self.tried(["free"]), {})
 
+    def test_a_note_of_a_library_below_is_passed_over(self):
+        said = "note: src/elsewhere.rt:19:5: it is not proved that what the function ensures holds (`returns`)\nfn pc_one::One::new: no proof: x\n"
+        self.assertEqual(self.tried(["method"], said), {"method": "fits"})
+        self.assertEqual(self.copy.first, {})
+
 
 if __name__ == "__main__":
     unittest.main()

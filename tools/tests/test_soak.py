@@ -2,12 +2,15 @@
 
 import os
 import random
+import re
+import signal
 import unittest
 from unittest import mock
 
 from support import InFolder
 
 import plain_files
+import plain_serving
 import plain_store
 import soak
 from run_cases import files_of
@@ -22,6 +25,9 @@ def step(path, sessions, capacity, run):
 
 
 def recover(place):
+    names = sorted(name for name in os.listdir(place) if name.startswith("gen-"))
+    if names:
+        return 0, plain_files.recover(*files_of(os.path.join(place, names[-1]))).text(), b"generation %d\n" % int(names[-1][4:])
     with open(os.path.join(place, "log.pcl"), "ab"):
         pass
     try:
@@ -75,6 +81,29 @@ def run(workload, option, place, *words):
     return 0, b"commits %d\ngave up 0\npoints 0\ncollapsed none\ncheck ok\n" % len(log.entries), b""
 
 
+def served(folder, words, lines, most):
+    """A store that is served: it leaves one generation, whose log has what was answered, and is killed behind this number of lines."""
+    options = {name: int(number) for name, _, number in (word[2:].partition("=") for word in words if "=" in word)}
+    place = os.path.join(folder, "S")
+    os.makedirs(place, exist_ok=True)
+    names, pairs, run = sorted(os.listdir(place)), {}, options.get("run")
+    if names:
+        texts = files_of(os.path.join(place, names[-1]))
+        pairs, run = plain_files.recover(*texts).pairs, plain_files.read_log(texts[2]).run + 1
+    store = plain_serving.Served(pairs, run, options["sessions"], options["capacity"], options["roll"])
+    out = store.ready()
+    for line in lines:
+        if most is not None and out.count(b"\n") >= most:
+            break
+        out += store.answer(line)
+    generation = os.path.join(place, "gen-%07d" % (len(names) + 1))
+    os.makedirs(generation)
+    for name, text in (("base.pcb", plain_files.Base(store.store.run, 0, store.store.base).text()), ("log.pcl", store.log.text())):
+        with open(os.path.join(generation, name), "wb") as it:
+            it.write(text)
+    return (0 if most is None else -signal.SIGKILL), out, b""
+
+
 COMMANDS = {"step": step, "recover": recover, "collapse": collapse, "run": run}
 
 
@@ -94,6 +123,7 @@ class Soaks(InFolder):
         super().setUp()
         self.program = soak.ran
         self.patch(soak, "ran", stand_in)
+        self.patch(soak, "served", served)
 
     def patch(self, where, name, by):
         patched = mock.patch.object(where, name, by)
@@ -220,6 +250,30 @@ class Soaks(InFolder):
 
         with mock.patch.dict(COMMANDS, run=wrong):
             self.assertIn("gave up 1", self.found(soak.Runs())[-1])
+
+    def test_a_served_store_that_loses_a_commit(self):
+        def wrong(*words):
+            told = served(*words)
+            if words[3] is not None:
+                with open(self.last_log(words[0]), "r+b") as it:
+                    it.truncate(max(20, os.path.getsize(it.name) - 1))
+            return told
+
+        self.patch(soak, "served", wrong)
+        self.assertIn("serves", self.found(soak.Serves())[0])
+
+    def last_log(self, folder):
+        place = os.path.join(folder, "S")
+        return os.path.join(place, max(os.listdir(place)), "log.pcl")
+
+    def test_a_served_store_that_tells_no_grant(self):
+        def wrong(*words):
+            status, out, err = served(*words)
+            return status, re.sub(rb"granted [0-9]+\n", b"", out), err
+
+        self.patch(soak, "served", wrong)
+        lines = self.found(soak.Serves(), 400)
+        self.assertCountEqual([line.split(" ")[0] for line in lines[2:-3] if line.split(" ")[0] in ("begin", "commit", "abort")][:2], ["begin", "begin"])
 
     def test_a_program_without_an_end(self):
         with mock.patch.multiple(soak, PROGRAM="sleep", SECONDS=0):

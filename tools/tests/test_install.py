@@ -1,0 +1,104 @@
+"""What `build`, `shell_pages.py` and the Makefile decide."""
+
+import importlib.machinery
+import importlib.util
+import os
+import shutil
+import subprocess
+import unittest
+
+from support import TOOLS, InFolder, stored
+
+import shell_pages
+
+
+def loaded():
+    """`tools/build`, whose name has no ending."""
+    loader = importlib.machinery.SourceFileLoader("build", os.path.join(TOOLS, "build"))
+    module = importlib.util.module_from_spec(importlib.util.spec_from_loader("build", loader))
+    loader.exec_module(module)
+    return module
+
+
+build = loaded()
+
+HELP = """\
+Prints what stands there
+
+Usage: pcalc show [OPTIONS] <DIR>
+
+Arguments:
+  <DIR>  The folder - it's there
+
+Options:
+      --many <N>     How many [default: 1]
+      --from <OLD>
+          A folder of before
+  -h, --help         Print help
+
+What each fault means: docs/FORMATS.md
+"""
+
+
+class Builds(unittest.TestCase):
+    def test_a_crate_has_all_that_it_stands_on_once(self):
+        stands_on = build.graph("# Lowest first.\nlow: kit_b\nmid may_wait=2: low kit_a # why\npcalc: mid low\n")
+        self.assertEqual(stands_on, {"low": ["kit_b"], "mid": ["low", "kit_a"], "pcalc": ["mid", "low"]})
+        self.assertEqual(build.closure("pcalc", stands_on), ["pcalc", "mid", "low", "kit_a", "kit_b"])
+
+    def test_the_version_says_that_nothing_is_proved(self):
+        self.assertEqual(build.told_version('a\nconst VERSION: &str = "1.2.3";\nb\n', "commit 1"), 'a\nconst VERSION: &str = "1.2.3 (not proved; commit 1)";\nb\n')
+        with self.assertRaises(SystemExit):
+            build.told_version("const OTHER: u8 = 1;\n", "commit 1")
+
+    def test_the_options_have_one_version(self):
+        build.told_version(stored("crates", build.OPTIONS, "src", build.OPTIONS_FILE).decode(), "commit 1")
+
+    def test_checks_are_left_out_only_where_that_is_asked_for(self):
+        lines = ['define void @"rattle-llvm-checks::x"() {\n', "  call void @llvm.trap()\n", "}\n", "define void @f() {\n"]
+        lines += ['  call void @"rattle-llvm-checks::x"()\n', "  call void @llvm.memset.p0.i64(ptr %a, i8 -86, i64 8, i1 false)\n", "  call void @g()\n", "}\n"]
+        attributes = "attributes #0 = { sanitize_address }\n"
+        self.assertEqual(list(build.rewritten([*lines, attributes], False)), [*lines, "attributes #0 = {  }\n"])
+        self.assertEqual(list(build.rewritten(lines, True)), lines[:4] + lines[6:])
+
+
+class Pages(unittest.TestCase):
+    def setUp(self):
+        self.help = shell_pages.help_of(HELP)
+        self.commands = {"show": self.help}
+
+    def test_a_help_is_taken_apart(self):
+        self.assertEqual((self.help.about, self.help.usage), ("Prints what stands there", "pcalc show [OPTIONS] <DIR>"))
+        self.assertEqual(self.help.sections["Arguments"], [("<DIR>", "The folder - it's there")])
+        options = [("--many <N>", "How many [default: 1]"), ("--from <OLD>", "A folder of before"), ("-h, --help", "Print help")]
+        self.assertEqual(self.help.sections["Options"], options)
+        self.assertEqual(self.help.behind, ["What each fault means: docs/FORMATS.md"])
+
+    def test_the_man_page_has_each_option(self):
+        page = shell_pages.man_page("pcalc 1.2.3", shell_pages.help_of("A store\n\nUsage: pcalc <COMMAND>\n"), self.commands)
+        self.assertIn('.TH PCALC 1 "" "pcalc 1.2.3"', page)
+        self.assertIn(".B \\-\\-many <N>\nHow many [default: 1]\n", page)
+        self.assertIn('.SH "pcalc show"\nPrints what stands there.\n', page)
+
+    def test_completions_know_what_takes_a_file(self):
+        self.assertIn("show) words='--many --from --help' ;;", shell_pages.bash_completion(self.commands))
+        self.assertIn("'--from[A folder of before]:OLD:_files' '--help[Print help]'", shell_pages.zsh_completion(self.commands))
+        lines = shell_pages.fish_completion(self.commands).splitlines()
+        self.assertEqual(lines[1], "complete -c pcalc -n '__fish_seen_subcommand_from show' -l many -x -d 'How many  default  1 '")
+        self.assertEqual(lines[2], "complete -c pcalc -n '__fish_seen_subcommand_from show' -l from -r -d 'A folder of before'")
+
+
+@unittest.skipUnless(shutil.which("make"), "make is not there")
+class Installs(InFolder):
+    def installed(self):
+        """The program that `make install` takes."""
+        words = ["make", "-n", "-f", os.path.join(os.path.dirname(TOOLS), "Makefile"), "install", "PREFIX=/p"]
+        told = subprocess.run(words, cwd=self.folder, capture_output=True, text=True, check=True).stdout
+        return [line for line in told.splitlines() if line.startswith("install -m 755")]
+
+    def test_the_proved_program_goes_first(self):
+        for name in ("crates.txt", "tools/build", "out/pcalc"):
+            self.write(name, "")
+        self.assertEqual(self.installed(), ['install -m 755 "out/pcalc" "/p/bin/pcalc"'])
+        self.write("crates/pcalc/out/pcalc", "")
+        self.assertEqual(self.installed(), ['install -m 755 "crates/pcalc/out/pcalc" "/p/bin/pcalc"'])
