@@ -1,5 +1,5 @@
-"""A slow, plain store that is served, which knows nothing of the crates: what `pcalc serve` has to answer without points, written from the part "Served
-stores" of docs/FORMATS.md, over the plain store.
+"""A slow, plain store that is served, which knows nothing of the crates: what `pcalc serve` has to answer without points, written from "pcalc
+serve" in docs/MANUAL.md, over the plain store.
 """
 
 import plain_files

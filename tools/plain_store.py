@@ -1,6 +1,6 @@
 #!/usr/bin/env python3
 """A slow, plain store, which knows nothing of the crates: what the store of `pcalc step` has to answer, written from the rules in
-docs/FORMATS.md and docs/ARCHITECTURE.md alone. Expected outputs of the gate's programs come from it, and are then stored.
+docs/MANUAL.md, docs/FORMATS.md and docs/ARCHITECTURE.md alone. Expected outputs of the gate's programs come from it, and are then stored.
 
     plain_store.py ROWS            prints what each script of ROWS is to print, in the form of the program test_scripts
 

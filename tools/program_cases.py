@@ -1,7 +1,7 @@
 """What the built program is run on beside the stored examples, for `try_programs.py`: options, scripts and folders that can't be had, files that are
 longer than a read, pipes, an output that is full, streams that are closed, and little memory.
 
-What is to be printed was worked out by hand from docs/FORMATS.md, or comes from `plain_files.py` and `plain_store.py`, which know nothing of the program.
+What is to be printed was worked out by hand from docs/MANUAL.md and docs/FORMATS.md, or comes from `plain_files.py` and `plain_store.py`, which know nothing of the program.
 """
 
 import contextlib

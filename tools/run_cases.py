@@ -1,7 +1,7 @@
 """Workloads that the built program runs on threads, for `try_programs.py`: what it prints and tells, and what stands in the folder afterwards, which
 `pcalc recover` is then run on, whole, with its log cut, and without each of its parts.
 
-What is to be printed was worked out by hand from docs/FORMATS.md, or comes from `plain_files.py`, which knows nothing of the program. How clients on
+What is to be printed was worked out by hand from docs/MANUAL.md and docs/FORMATS.md, or comes from `plain_files.py`, which knows nothing of the program. How clients on
 threads mix can't be told beforehand; what is compared is the same for every order.
 """
 

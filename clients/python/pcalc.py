@@ -166,7 +166,7 @@ def fault_of(answer):
 
 def command(folder, program="pcalc", create=False, sync=False, damaged=False, **numbers):
     """The words of a command that serves the store of the folder. `program` is a path, or a list of words; the numbers are `sessions`,
-    `capacity`, `every`, `roll`, `keep`, `lag` and `run`, as docs/FORMATS.md has them."""
+    `capacity`, `every`, `roll`, `keep`, `lag` and `run`, as docs/MANUAL.md has them."""
     unknown = sorted(set(numbers) - {"sessions", "capacity", "every", "roll", "keep", "lag", "run"})
     if unknown:
         raise TypeError("there is no option %s" % unknown[0])
@@ -319,7 +319,7 @@ class Store:
     waits for one to end.
 
     `program` is the path of pcalc, or a list of words; `create` makes the folder where there is no store yet; `sync` answers a commit once
-    it is on the disk; `lag`, `sessions`, `capacity`, `every`, `roll`, `keep`, `damaged` and `run` are as docs/FORMATS.md has them. Raises `Ended`, with what the program
+    it is on the disk; `lag`, `sessions`, `capacity`, `every`, `roll`, `keep`, `damaged` and `run` are as docs/MANUAL.md has them. Raises `Ended`, with what the program
     tells, where it can't be opened: as "pcalc: shop: Busy" where another process has it.
 
     `run_number` is the number of the run with which the process began, and `pairs` how many pairs that had; a later generation is a run
