@@ -1,5 +1,5 @@
 #!/usr/bin/env python3
-"""Makes the tables of crates in docs/ARCHITECTURE.md, from crates.txt and the first words of each crate's page.
+"""Makes the tables of crates in docs/ARCHITECTURE.md, from crates.txt and the first sentence of each crate's page.
 
     crate_tables.py           tells whether they are as they are to be; the status is 1 where they aren't
     crate_tables.py --mark    writes them
@@ -51,7 +51,7 @@ def nearest(name, below):
 
 
 def page_of(name):
-    """The first paragraph of what a crate says of itself."""
+    """The first sentence of what a crate says of itself."""
     folder = os.path.join("crates", name, "src")
     file = "lib.rt" if os.path.exists(os.path.join(ROOT, folder, "lib.rt")) else "main.rt"
     lines = []
@@ -59,7 +59,7 @@ def page_of(name):
         if not line.startswith("//! "):
             break
         lines.append(line[4:])
-    return " ".join(lines)
+    return re.match(r"(?:.*?\.(?= |$))?", " ".join(lines))[0] or " ".join(lines)
 
 
 def table(names, below):

@@ -34,7 +34,7 @@ class Tables(InFolder):
         self.move(crate_tables)
         self.write("crates.txt", CRATES)
         for name, text in (("pc_low", "is low"), ("pc_mid", "is in the\n//! middle"), ("pc_high", "is high")):
-            self.write(f"crates/{name}/src/lib.rt", f"//! What {text}.\n//!\n//! More of it.\nmod a;\n")
+            self.write(f"crates/{name}/src/lib.rt", f"//! What {text}. A second sentence.\n//!\n//! More of it.\nmod a;\n")
         self.write("crates/test_low/src/main.rt", "//! Tests of what is low.\n")
         self.write("docs/ARCHITECTURE.md", TABLES)
 
