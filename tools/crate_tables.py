@@ -1,5 +1,5 @@
 #!/usr/bin/env python3
-"""Makes the tables of crates in docs/ARCHITECTURE.md, from crates.txt and the first sentence of each crate's page.
+"""Makes the tables of crates in docs/ARCHITECTURE.md, from crates.txt and the first words of each crate's page.
 
     crate_tables.py           tells whether they are as they are to be; the status is 1 where they aren't
     crate_tables.py --mark    writes them
@@ -15,6 +15,7 @@ import sys
 ROOT = os.path.join(os.path.dirname(os.path.abspath(__file__)), "..")
 PAGE = os.path.join(ROOT, "docs", "ARCHITECTURE.md")
 PARTS = ("store", "gate")
+FEW = 4
 MARK = re.compile(r"(?m)^(<!-- crates (\w+) -->\n)((?:\|.*\n)*)")
 
 
@@ -51,7 +52,7 @@ def nearest(name, below):
 
 
 def page_of(name):
-    """The first sentence of what a crate says of itself."""
+    """What a crate says of itself: its first sentence, up to a colon or semicolon that has at least `FEW` words before it."""
     folder = os.path.join("crates", name, "src")
     file = "lib.rt" if os.path.exists(os.path.join(ROOT, folder, "lib.rt")) else "main.rt"
     lines = []
@@ -59,7 +60,9 @@ def page_of(name):
         if not line.startswith("//! "):
             break
         lines.append(line[4:])
-    return re.match(r"(?:.*?\.(?= |$))?", " ".join(lines))[0] or " ".join(lines)
+    sentence = re.split(r"(?<=\.) ", " ".join(lines))[0]
+    head = re.match(r"(?:[^ :;]+ ){%d,}?[^ :;]+(?=[:;] )" % (FEW - 1), sentence)
+    return head[0] + "." if head else sentence
 
 
 def table(names, below):

@@ -48,6 +48,12 @@ class Tables(InFolder):
         self.assertEqual(self.printed(crate_tables.main, ["--mark"]), (0, ""))
         self.assertEqual(self.read("docs/ARCHITECTURE.md"), TABLES)
 
+    def test_a_sentence_ends_at_a_colon_that_has_enough_before_it(self):
+        self.write("crates/pc_low/src/lib.rt", "//! What is low: all of it.\nmod a;\n")
+        self.assertEqual(crate_tables.page_of("pc_low"), "What is low: all of it.")
+        self.write("crates/pc_low/src/lib.rt", "//! What is very low: all\n//! of it; and more.\nmod a;\n")
+        self.assertEqual(crate_tables.page_of("pc_low"), "What is very low.")
+
     def test_a_table_that_is_not_marked(self):
         self.write("docs/ARCHITECTURE.md", TABLES.replace("<!-- crates gate -->\n", ""))
         self.assertEqual(self.printed(crate_tables.main, [])[0], 1)
