@@ -66,7 +66,7 @@ def page_of(name):
 
 
 def table(names, below):
-    yield "| crate | what it has | stands on |"
+    yield "| crate | what it has | depends on |"
     yield "|---|---|---|"
     for name in names:
         yield f"| `{name}` | {page_of(name)} | {', '.join(f'`{it}`' for it in nearest(name, below))} |"

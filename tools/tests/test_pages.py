@@ -11,7 +11,7 @@ import spec_guide
 CRATES = "# The store.\npc_low: std\npc_mid: pc_low\npc_high: pc_low pc_mid\n# What the gate runs.\ntest_low: pc_low\n"
 TABLES = """\
 <!-- crates store -->
-| crate | what it has | stands on |
+| crate | what it has | depends on |
 |---|---|---|
 | `pc_low` | What is low. |  |
 | `pc_mid` | What is in the middle. | `pc_low` |
@@ -20,7 +20,7 @@ TABLES = """\
 Between them.
 
 <!-- crates gate -->
-| crate | what it has | stands on |
+| crate | what it has | depends on |
 |---|---|---|
 | `test_low` | Tests of what is low. | `pc_low` |
 
