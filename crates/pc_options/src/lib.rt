@@ -2,9 +2,11 @@
 #![tactic(auto)]
 
 mod looking;
+mod moving;
 mod options;
 
 pub use looking::{LogOptions, VerifyOptions};
+pub use moving::{DumpOptions, LoadOptions};
 pub use options::{
     CollapseOptions, RecoverOptions, RunOptions, ServeOptions, StepOptions, Task, task_of,
     unreadable,

@@ -7,6 +7,9 @@ ghost use Rattle.pc_jobs.specs.declared.dealing.TheConstants.{MOST_WORKERS};
 use crate::looking::{
     LogOptions, VerifyOptions, log_command, log_options_of, verify_command, verify_options_of,
 };
+use crate::moving::{
+    DumpOptions, LoadOptions, dump_command, dump_options_of, load_command, load_options_of,
+};
 use clap::builder::ValueParser;
 use clap::error::ErrorKind;
 use clap::{Arg, ArgAction, ArgMatches, Command, Error};
@@ -146,6 +149,10 @@ pub enum Task<'a> {
     Log(LogOptions<'a>),
     /// `pcalc verify`.
     Verify(VerifyOptions<'a>),
+    /// `pcalc dump`.
+    Dump(DumpOptions<'a>),
+    /// `pcalc load`.
+    Load(LoadOptions<'a>),
     /// `pcalc serve`.
     Serve(ServeOptions<'a>),
 }
@@ -171,6 +178,12 @@ pub fn task_of<'a>(alloc: Global, words: &'a [&'a str]) -> Result<Option<Task<'a
     if let Some(matches) = matches.subcommand_matches("verify") {
         return Ok(Some(Task::Verify(verify_options_of(alloc, matches)?)));
     }
+    if let Some(matches) = matches.subcommand_matches("dump") {
+        return Ok(dump_options_of(matches).map(|options| Task::Dump(options)));
+    }
+    if let Some(matches) = matches.subcommand_matches("load") {
+        return Ok(load_options_of(matches).map(|options| Task::Load(options)));
+    }
     match matches.subcommand_matches("serve") {
         Some(matches) => Ok(serve_options_of(matches).map(|options| Task::Serve(options))),
         None => Ok(None),
@@ -195,6 +208,8 @@ fn command<'a>(alloc: Global) -> Result<Command<'a>, Error> {
             .subcommand(recover_command(alloc)?)?
             .subcommand(log_command(alloc)?)?
             .subcommand(verify_command(alloc)?)?
+            .subcommand(dump_command(alloc)?)?
+            .subcommand(load_command(alloc)?)?
             .subcommand(serve_command(alloc)?)?,
     )
 }
@@ -247,7 +262,8 @@ fn capacity_arg<'a>(alloc: Global, default: &'a str) -> Arg<'a> {
         .default_value(default)
 }
 
-fn run_arg<'a>(alloc: Global) -> Arg<'a> {
+/// The option of a run's number.
+pub(crate) fn run_arg<'a>(alloc: Global) -> Arg<'a> {
     Arg::new(alloc, "run")
         .long("run")
         .value_name("N")

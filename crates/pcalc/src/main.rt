@@ -2,8 +2,10 @@
 //! shows what a log has, tells whether files are whole, or serves the store of a folder.
 #![tactic(auto)]
 
+mod dumping;
 mod gate;
 mod joining;
+mod loading;
 mod logging;
 mod parts;
 mod recovering;
@@ -15,7 +17,9 @@ mod verifying;
 
 use clap::Error;
 use clap::error::ErrorKind;
+use dumping::dump_folder;
 use joining::join_parts;
+use loading::load_folder;
 use logging::show_log;
 use pc_disk::fill_places;
 use pc_options::{Task, task_of, unreadable};
@@ -86,6 +90,8 @@ fn run_task<H: Threads + Wait + Sync>(rt: &HostRuntime, threads: &H, task: Task)
         Task::Recover(options) => recover_folder(rt, &options),
         Task::Log(options) => show_log(rt, &options),
         Task::Verify(options) => verify_paths(rt, &options),
+        Task::Dump(options) => dump_folder(rt, &options),
+        Task::Load(options) => load_folder(rt, &options),
         Task::Serve(options) => serve_folder(rt, &options),
     }
 }

@@ -1,0 +1,4 @@
+mod DumpLaws
+mod LoadLaws
+mod PrintedLines
+mod PrintedWords

@@ -1,0 +1,13 @@
+//! The pairs of a database as lines, one line for each: those of a folder are written, and lines are read back.
+#![tactic(auto)]
+
+mod choice;
+mod dumping;
+mod gathered;
+mod loading;
+mod reading;
+
+pub use choice::Choice;
+pub use dumping::run_dump;
+pub use loading::{Unloaded, load_pairs};
+pub use reading::Fault;

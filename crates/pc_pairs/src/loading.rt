@@ -1,0 +1,103 @@
+//! Lines of pairs are read back.
+ghost use Rattle.std.specs.Prelude.{◌≡◌, ◌+◌, ◌<◌, ℕ, List, Ok, IfOk, IfErr, OnOk, map};
+ghost use Rattle.std.specs.List.{All};
+ghost use Rattle.pc_model.specs.Database.{Database, KeysRise, database_of};
+ghost use Rattle.pc_model.specs.Maps.{empty};
+ghost use Rattle.pc_lines.specs.Lines.{lines_in};
+ghost use Rattle.pc_pairs.specs.Dumps.{lines_of};
+ghost use Rattle.pc_pairs.specs.Loads.{IsStorable, IsUnloaded, database_in, pair_in, with_line, with_lines};
+
+use crate::gathered::Gathered;
+use crate::reading::{Fault, PairLine, pair_in};
+use bstr::ByteSlice;
+use pc_types::{Key, Value};
+use std::alloc::{AllocError, Global};
+
+/// Why lines give no database.
+#[derive(Clone, Copy, Debug, PartialEq, Eq)]
+pub enum Unloaded {
+    /// The first line at fault, by its number from 1, and the fault.
+    Line(u64, Fault),
+    /// Memory ran out.
+    NoMemory,
+}
+
+/// The pairs of a text's lines, ascending by key: a line is a key's word and a value's word as they are printed, with one space between
+/// them, in any order of the keys, none of which comes twice. The lines of all pairs of a database give these pairs.
+pub fn load_pairs(alloc: Global, text: &[u8]) -> Result<Vec<(Key, Value)>, Unloaded>
+    ensures rise { IfOk result (λ pairs. KeysRise pairs.items) }
+    ensures loaded { IfOk result (λ pairs. database_in text.now ≡ Ok (database_of pairs.items)) }
+    ensures unloaded { IfErr result (IsUnloaded (database_in text.now)) }
+    ensures dumped { (db : Database) → All IsStorable db.entries → text.now ≡ lines_of db.entries → IfOk result (λ pairs. database_of pairs.items ≡ db) }
+    ensures memory { (db : Database) → All IsStorable db.entries → text.now ≡ lines_of db.entries → IfErr result (λ why. why ≡ Unloaded.NoMemory) }
+{
+    load_lines(alloc, text)
+}
+
+fn load_lines(alloc: Global, text: &[u8]) -> Result<Vec<(Key, Value)>, Unloaded>
+    ensures rise { IfOk result (λ pairs. KeysRise pairs.items) }
+    ensures loaded { IfOk result (λ pairs. database_in text.now ≡ Ok (database_of pairs.items)) }
+    ensures unloaded { IfErr result (IsUnloaded (database_in text.now)) }
+{
+    let Ok(lines) = lines_in(alloc, text) else {
+        return Err(Unloaded::NoMemory);
+    };
+    let gathered = gather(alloc, &lines)?;
+    match gathered.into_pairs(alloc) {
+        Ok(pairs) => Ok(pairs),
+        Err(_) => Err(Unloaded::NoMemory),
+    }
+}
+
+// The lines of a text, without their ends.
+fn lines_in<'a>(alloc: Global, text: &'a [u8]) -> Result<Vec<&'a [u8]>, AllocError>
+    ensures { IfOk result (λ lines. map (λ line. line.now) lines.items ≡ lines_in text.now) }
+{
+    let mut lines = Vec::new(alloc);
+    for line in text.lines() {
+        lines.push(line)?;
+    }
+    Ok(lines)
+}
+
+// The database of the lines.
+fn gather(alloc: Global, lines: &[&[u8]]) -> Result<Gathered, Unloaded>
+    ensures gathered { IfOk result (λ db. with_lines empty 1 (map (λ line. line.now) lines.now) ≡ Ok db) }
+    ensures ungathered { IfErr result (IsUnloaded (with_lines empty 1 (map (λ line. line.now) lines.now))) }
+{
+    let mut gathered = Gathered::new(alloc);
+    for i in 0..lines.len() {
+        add_line(alloc, &mut gathered, i as u64 + 1, lines[i])?;
+    }
+    Ok(gathered)
+}
+
+// Adds the pair of the line of this number.
+fn add_line(
+    alloc: Global,
+    gathered: &mut Gathered,
+    number: u64,
+    text: &[u8],
+) -> Result<(), Unloaded>
+    ensures added { OnOk result (with_line gathered.old number (pair_in text.now) ≡ Ok gathered.new) }
+    ensures fault { IfErr result (IsUnloaded (with_line gathered.old number (pair_in text.now))) }
+{
+    match pair_in(alloc, text) {
+        Ok(PairLine::Pair(key, value)) => add_pair(gathered, number, key, value),
+        Ok(PairLine::Bad(fault)) => Err(Unloaded::Line(number, fault)),
+        Err(_) => Err(Unloaded::NoMemory),
+    }
+}
+
+fn add_pair(gathered: &mut Gathered, number: u64, key: Key, value: Value) -> Result<(), Unloaded>
+    ensures added { OnOk result (with_line gathered.old number (PairLine.Pair key value) ≡ Ok gathered.new) }
+    ensures fault { IfErr result (IsUnloaded (with_line gathered.old number (PairLine.Pair key value))) }
+{
+    if gathered.has(&key) {
+        return Err(Unloaded::Line(number, Fault::Twice));
+    }
+    match gathered.insert(key, value) {
+        Ok(()) => Ok(()),
+        Err(_) => Err(Unloaded::NoMemory),
+    }
+}

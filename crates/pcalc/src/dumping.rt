@@ -1,0 +1,97 @@
+//! The pairs that a folder's files are worth, a line for each.
+use pc_disk::{Causes, FoundFolder, ReadFolder, open_folder, output_before, tell_unopened};
+use pc_explanations::{About, Explained, Explainer, explain_output, is_explained};
+use pc_lines::text_of;
+use pc_options::DumpOptions;
+use pc_pairs::{Choice, run_dump};
+use pc_restore::tell_lost;
+use pc_serve::RecoveredFolder;
+use pc_texts::report_words;
+use pc_types::Tally;
+use std::borrow::CowSlice;
+use std::io;
+use std::io::Write;
+
+/// The status of a dump of which not all went out.
+const FAILED: u8 = 1;
+
+/// The status of one that was asked for in a way that can't be.
+const MISUSED: u8 = 2;
+
+/// Prints the pairs of the folder as the options say; the status.
+pub fn dump_folder<'a>(rt: &'a HostRuntime, options: &DumpOptions<'a>) -> io::Result<u8> {
+    let causes = Causes::new(rt.alloc())?;
+    let named = ReadFolder {
+        rt,
+        path: options.dir,
+        causes: &causes,
+    };
+    let found = RecoveredFolder::find(named)?;
+    dump_in(rt, &causes, options, &found)
+}
+
+// Prints the pairs of the folder that was found; the status.
+fn dump_in<'a>(
+    rt: &'a HostRuntime,
+    causes: &'a Causes,
+    options: &DumpOptions<'_>,
+    found: &'a RecoveredFolder,
+) -> io::Result<u8> {
+    let path = found.path.as_str();
+    let explainer = Explainer {
+        rt,
+        causes,
+        about: About::Folder(path),
+        is_on: is_explained(rt, options.is_explained),
+    };
+    let stderr = rt.stderr();
+    let mut errors = Tally::new(Explained::new(&explainer, io::writer(&stderr)));
+    let status = match text_of(rt.alloc(), options.prefix.unwrap_or("-").as_bytes())? {
+        Some(prefix) => {
+            let _ = found.tell(&mut errors);
+            dump(&explainer, path, options, &prefix, &mut errors)?
+        }
+        None => {
+            let _ = report_words(b"--prefix", b"no word of bytes", &mut errors);
+            MISUSED
+        }
+    };
+    explain_output(&explainer, &mut errors);
+    Ok(status)
+}
+
+fn dump<E: Write>(
+    explainer: &Explainer<'_>,
+    path: &str,
+    options: &DumpOptions<'_>,
+    prefix: &CowSlice<'_, u8>,
+    errors: &mut Tally<E>,
+) -> io::Result<u8> {
+    let (rt, causes) = (explainer.rt, explainer.causes);
+    let mut out = Tally::new(output_before(rt, causes, io::writer(rt))?);
+    let dir = ReadFolder { rt, path, causes };
+    let choice = Choice {
+        space: options.space,
+        prefix: prefix.as_slice(),
+    };
+    dump_to(dir, &choice, options.accepts_damage, &mut out, errors)
+}
+
+fn dump_to<W: Write, E: Write>(
+    dir: ReadFolder<'_>,
+    choice: &Choice<'_>,
+    accepts_damage: bool,
+    out: &mut Tally<W>,
+    errors: &mut Tally<E>,
+) -> io::Result<u8> {
+    let FoundFolder { folder, unopened } = open_folder(dir)?;
+    tell_unopened(&unopened, errors);
+    let alloc = dir.rt.alloc();
+    match run_dump(alloc, folder, choice, accepts_damage, out, errors) {
+        None => Ok(0),
+        Some(lost) => {
+            tell_lost(dir.path.as_bytes(), &lost, errors);
+            Ok(FAILED)
+        }
+    }
+}

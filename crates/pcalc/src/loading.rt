@@ -1,0 +1,143 @@
+//! A folder that is made of lines of pairs.
+use crate::parts::open_named;
+use crate::run_folder::{Claim, NewFolder};
+use itoa::Buffer;
+use pc_disk::{BASE, Causes, LOG, ReadFolder};
+use pc_explanations::{About, Explained, Explainer, explain_output, is_explained};
+use pc_log::encode_header;
+use pc_options::LoadOptions;
+use pc_pairs::{Fault, Unloaded, load_pairs};
+use pc_part::Base;
+use pc_runs::{NewFiles, RunFolder, Unusable};
+use pc_texts::{FileName, end_output, read_opened, report, report_words};
+use pc_types::{Key, MOST_FILE_ENTRIES, Refusal, Tally, Value};
+use std::io;
+use std::io::Write;
+
+/// The status of a load that failed.
+const FAILED: u8 = 1;
+
+/// The status of one with a line at fault.
+const BAD_LINE: u8 = 3;
+
+/// Makes the files of a run that has the pairs of the lines, as the options say; the status.
+pub fn load_folder(rt: &HostRuntime, options: &LoadOptions<'_>) -> io::Result<u8> {
+    let causes = Causes::new(rt.alloc())?;
+    let explainer = Explainer {
+        rt,
+        causes: &causes,
+        about: About::Script(options.file),
+        is_on: is_explained(rt, options.is_explained),
+    };
+    let stderr = rt.stderr();
+    let mut errors = Tally::new(Explained::new(&explainer, io::writer(&stderr)));
+    let status = load(&explainer, options, &mut errors)?;
+    explain_output(&explainer, &mut errors);
+    Ok(status)
+}
+
+// Reads the lines, and makes the files where none is at fault.
+fn load<E: Write>(
+    explainer: &Explainer<'_>,
+    options: &LoadOptions<'_>,
+    errors: &mut Tally<E>,
+) -> io::Result<u8> {
+    let (rt, causes) = (explainer.rt, explainer.causes);
+    let alloc = rt.alloc();
+    let opened = open_named(rt, causes, options.file);
+    let text = match read_opened(alloc, opened) {
+        Ok(text) => text,
+        Err(why) => {
+            let _ = report(options.file.as_bytes(), why.refusal(), errors);
+            return Ok(FAILED);
+        }
+    };
+    match load_pairs(alloc, &text) {
+        Ok(pairs) => make(explainer, options, pairs, errors),
+        Err(Unloaded::NoMemory) => {
+            let _ = report(options.file.as_bytes(), Refusal::OutOfMemory, errors);
+            Ok(FAILED)
+        }
+        Err(Unloaded::Line(number, fault)) => {
+            let _ = tell_line(number, fault, errors);
+            Ok(BAD_LINE)
+        }
+    }
+}
+
+// Tells which line is at fault, and why.
+fn tell_line<E: Write>(number: u64, fault: Fault, errors: &mut Tally<E>) -> Result<(), Refusal> {
+    let mut buffer = Buffer::new();
+    let line = buffer.format(number).as_bytes();
+    errors.put_all(&[b"bad line ", line, b" ", fault.name(), b"\n"])
+}
+
+fn make<E: Write>(
+    explainer: &Explainer<'_>,
+    options: &LoadOptions<'_>,
+    pairs: Vec<(Key, Value)>,
+    errors: &mut Tally<E>,
+) -> io::Result<u8> {
+    if pairs.len() > MOST_FILE_ENTRIES {
+        let _ = report(options.dir.as_bytes(), Refusal::Full, errors);
+        return Ok(FAILED);
+    }
+    let dir = ReadFolder {
+        rt: explainer.rt,
+        path: options.dir,
+        causes: explainer.causes,
+    };
+    let claim = Claim::new(dir, true)?;
+    let base = Base::start(u64::from(options.run), pairs);
+    let status = make_in(&claim, &base, errors)?;
+    claim.end();
+    Ok(status)
+}
+
+// Makes the files in the folder that was claimed.
+fn make_in<E: Write>(claim: &Claim<'_>, base: &Base, errors: &mut Tally<E>) -> io::Result<u8> {
+    let RunFolder { name, files } = claim.folder()?;
+    let made = match files {
+        Ok(mut folder) => make_files(&mut folder, base),
+        Err(Unusable::NotEmpty) => {
+            let _ = report_words(&name, b"NotEmpty", errors);
+            return Ok(FAILED);
+        }
+        Err(Unusable::Unlisted(why)) => {
+            let _ = report(&name, why, errors);
+            return Ok(FAILED);
+        }
+    };
+    match made {
+        Ok(()) => Ok(0),
+        Err((file, why)) => {
+            let _ = report(file.as_bytes(), why, errors);
+            Ok(FAILED)
+        }
+    }
+}
+
+// The base first, then the log, which has no entry; or the file that can't be made, and why.
+fn make_files(folder: &mut NewFolder<'_>, base: &Base) -> Result<(), (&'static str, Refusal)> {
+    if let Err(why) = make_base(folder, base) {
+        return Err((BASE, why));
+    }
+    match make_log(folder, base.run()) {
+        Ok(()) => Ok(()),
+        Err(why) => Err((LOG, why)),
+    }
+}
+
+fn make_base(folder: &mut NewFolder<'_>, base: &Base) -> Result<(), Refusal> {
+    let mut file = Tally::new(folder.make(&FileName::Base)?);
+    let put = base.encode(&mut file);
+    end_output(put, &mut file)?;
+    folder.finish(&FileName::Base, file.into_inner())
+}
+
+fn make_log(folder: &mut NewFolder<'_>, run: u64) -> Result<(), Refusal> {
+    let mut file = Tally::new(folder.make(&FileName::Log)?);
+    let put = encode_header(&mut file, run);
+    end_output(put, &mut file)?;
+    folder.finish(&FileName::Log, file.into_inner())
+}
