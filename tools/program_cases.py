@@ -113,7 +113,7 @@ NO_LOG = b"point 0\nentries 0\npairs 1\na 0\n"
 WITH_PART = b"point 1\nentries 0\npairs 1\na 1\n"
 
 
-FAULTS = b"What each fault means: docs/FORMATS.md\n"
+FAULTS = b"What each fault means: docs/MANUAL.md\n"
 
 
 def usage_cases(folder):

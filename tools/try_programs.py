@@ -7,6 +7,7 @@
     bench/counts.txt      a line `$ WORDS` is a command of bench_calls, and the lines up to the next one what it prints
     program_cases.py      options, files that can't be had, long files, a full output, little memory
     look_cases.py         logs that are printed, and files and folders that are verified
+    pair_cases.py         pairs that are printed, and folders that are made of lines
     run_cases.py          workloads that are run on threads, and the folders that they leave
     crash_cases.py        runs that are killed, and what is recovered of their folders
     kill_cases.py         commands that are killed at each call that changes files, and runs into one folder at the same time
@@ -42,6 +43,7 @@ import disk_cases
 import embedding_cases
 import kill_cases
 import look_cases
+import pair_cases
 import program_cases
 import refused_growths
 import run_cases
@@ -132,7 +134,7 @@ def cases():
         program = os.path.join(folder, "pcalc")
         if os.path.exists(program_of("pcalc")):
             shutil.copy(program_of("pcalc"), program)
-        for case in itertools.chain(program_cases.cases(folder), look_cases.cases(folder), run_cases.cases(folder)):
+        for case in itertools.chain(program_cases.cases(folder), look_cases.cases(folder), pair_cases.cases(folder), run_cases.cases(folder)):
             settings = settings_of(case, folder)
             if case.output is None:
                 told = ran([program, *case.words], **settings)

@@ -36,7 +36,7 @@ Options:
           A folder of before
   -h, --help         Print help
 
-What each fault means: docs/FORMATS.md
+What each fault means: docs/MANUAL.md
 """
 
 
@@ -72,7 +72,7 @@ class Pages(unittest.TestCase):
         self.assertEqual(self.help.sections["Arguments"], [("<DIR>", "The folder - it's there")])
         options = [("--many <N>", "How many [default: 1]"), ("--from <OLD>", "A folder of before"), ("-h, --help", "Print help")]
         self.assertEqual(self.help.sections["Options"], options)
-        self.assertEqual(self.help.behind, ["What each fault means: docs/FORMATS.md"])
+        self.assertEqual(self.help.behind, ["What each fault means: docs/MANUAL.md"])
 
     def test_the_man_page_has_each_option(self):
         page = shell_pages.man_page("pcalc 1.2.3", shell_pages.help_of("A store\n\nUsage: pcalc <COMMAND>\n"), self.commands)

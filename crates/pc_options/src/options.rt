@@ -19,7 +19,7 @@ use pc_types::{MOST_KEYS, MOST_SESSIONS};
 use std::alloc::{AllocError, Global};
 
 /// Where the help of each command points to.
-pub(crate) const FAULTS: &str = "What each fault means: docs/FORMATS.md";
+pub(crate) const FAULTS: &str = "What each fault means: docs/MANUAL.md";
 
 /// What `pcalc --version` prints behind the program's name.
 const VERSION: &str = "0.1.0";
