@@ -73,12 +73,16 @@ def load_cases(folder):
     yield Case("lines for a folder that has files", ("load", "loaded0", "lines"), 1, err=b"pcalc: loaded0: NotEmpty\n")
     os.makedirs(os.path.join(folder, "spare"), exist_ok=True)
     faults = {
-        b"a": b"Malformed", b"": b"Malformed", b"a ": b"Malformed", b" a": b"KeyLength", b"a b c": b"Malformed", b"a  b": b"Malformed", b"a \\q": b"Malformed",
+        b"a": b"Malformed", b"": b"Malformed", b" a": b"KeyLength", b"a b c": b"Malformed", b"a  b": b"Malformed", b"a \\q": b"Malformed",
         b"- b": b"KeyLength", b"x" * 256 + b" b": b"KeyLength", b"a " + b"v" * 65_536: b"ValueLength", b"\\s0:a b": b"Malformed", b"\\s65536:a b": b"Malformed", b"k 1": b"Twice",
     }
     for line, fault in faults.items():
         written(folder, "lines", b"k v\nl w\n" + line + b"\nm x\n")
         yield Case(f"a line that is {line[:9]}", ("load", "spare", "lines"), 3, err=b"bad line 3 %s\n" % fault)
+    written(folder, "lines", b"a \nb -\n")
+    os.makedirs(os.path.join(folder, "empty"), exist_ok=True)
+    yield Case("values of no bytes", ("load", "empty", "lines"), 0, files={"empty/base.pcb": plain_files.Base(1, 0, keyed({b"a": b"", b"b": b""})).text()})
+    written(folder, "lines", b"k v\nl w\nk 1\n")
     yield Case("a file of lines that isn't there", ("load", "spare", "none"), 1, err=b"pcalc: none: NoFile\n")
     yield Case("a folder that isn't there", ("load", "nowhere", "lines"), 3, err=b"bad line 3 Twice\n")
     written(folder, "lines", b"")
