@@ -2,7 +2,9 @@
 
 import os
 import random
+import re
 
+import look_cases
 import plain_files
 from plain_files import commit
 from plain_store import key_word, keyed, word
@@ -55,6 +57,91 @@ def dump_cases(folder):
     yield Case("dump --help", ("dump", "--help"), 0, parts=[b"<DIR>", b"--space <N>", b"--prefix <WORD>", b"--damaged"])
 
 
+def hostile_cases(folder):
+    """Folders whose files are cut off, changed or foreign: what is recovered of them is printed, or why nothing is."""
+    base = plain_files.Base(1, 0, keyed({b"a": b"1", b"k": b"v"})).text()
+    texts = [("base.pcb", base[:size]) for size in range(0, len(base), 5)] + [("log.pcl", text) for _, text in look_cases.texts() if len(text) < 1_000]
+    written(folder, "hostile/base.pcb", base)
+    for number, (name, text) in enumerate(texts):
+        files = {"base.pcb": base, "log.pcl": plain_files.Log(1).text(), name: text}
+        for each, content in files.items():
+            written(folder, f"hostile/{each}", content)
+        try:
+            found = plain_files.recover(files["base.pcb"], [], files["log.pcl"])
+        except plain_files.Refused as fault:
+            yield Case(f"a dump of a hostile folder, {number}", ("dump", "hostile"), 1, err=b"pcalc: hostile: %s\n" % fault.name.encode())
+            continue
+        is_damaged = len(files["log.pcl"]) < 20 or found.fault not in (None, "Short")
+        told = [b"pcalc: hostile: Damaged\n"] if is_damaged else b""
+        yield Case(f"a dump of a hostile folder, {number}", ("dump", "hostile"), 1 if is_damaged else 0, b"" if is_damaged else lines_of(found.pairs), told)
+        yield Case(f"the same where damage is accepted, {number}", ("dump", "hostile", "--damaged"), 0, lines_of(found.pairs), [])
+
+
+def foreign_cases(folder):
+    """Lines that are bytes of files, or cut off or changed: they are loaded or refused, and what is loaded is what they say."""
+    chance = random.Random(SEED)
+    lines = lines_of(odd_pairs())[:3_000]
+    texts = [plain_files.Base(1, 0, keyed({b"a": b"1"})).text(), bytes(range(256)) * 40, b"\n" * 1_000, b" \n" * 9]
+    for _ in range(40):
+        at = chance.randrange(len(lines))
+        texts.append(lines[:at] + bytes([chance.randrange(256)]) + lines[at + 1 :])
+    for number, text in enumerate(texts):
+        written(folder, "foreign", text)
+        made = f"foreign{number}"
+        os.makedirs(os.path.join(folder, made), exist_ok=True)
+        pairs, fault = loaded(text)
+        if fault:
+            yield Case(f"foreign lines, {number}", ("load", made, "foreign"), 3, err=b"bad line %d %s\n" % fault, files={f"{made}/base.pcb": None})
+        else:
+            yield Case(f"foreign lines, {number}", ("load", made, "foreign"), 0, files={f"{made}/base.pcb": plain_files.Base(1, 0, pairs).text()})
+
+
+def loaded(text):
+    """The pairs of lines, and the number of the first line at fault with the fault, if one is."""
+    pairs = {}
+    for number, line in enumerate(lines_in(text), 1):
+        first, space, second = line.partition(b" ")
+        key, value = key_in(first), bytes_in(second)
+        if not space or key is None or value is None:
+            return pairs, (number, b"Malformed")
+        if not 1 <= len(key[1]) <= 255:
+            return pairs, (number, b"KeyLength")
+        if len(value) > 65_535:
+            return pairs, (number, b"ValueLength")
+        if key in pairs:
+            return pairs, (number, b"Twice")
+        pairs[key] = value
+    return pairs, None
+
+
+def lines_in(text):
+    """The lines of a text: a line feed ends each, with a carriage return before it or without, but the last one may lack its end."""
+    lines = text.split(b"\n")
+    if not lines[-1]:
+        lines.pop()
+    elif lines:
+        return [line.removesuffix(b"\r") for line in lines[:-1]] + [lines[-1]]
+    return [line.removesuffix(b"\r") for line in lines]
+
+
+def bytes_in(text):
+    """The bytes that a word stands for, if it is one."""
+    if text == b"-":
+        return b""
+    found = re.fullmatch(rb"(?:[!-\[\]-~]|\\x[0-9a-f]{2})*", text)
+    return found and re.sub(rb"\\x(..)", lambda escape: bytes.fromhex(escape[1].decode()), text)
+
+
+def key_in(text):
+    """The space and the own bytes that a key's word stands for, if it is one."""
+    found = re.match(rb"\\s([1-9][0-9]{0,8}):", text)
+    if not found:
+        own = bytes_in(text)
+        return None if own is None else (0, own)
+    own = bytes_in(text[found.end() :])
+    return None if own is None or int(found[1]) > 65_535 or found.end() == len(text) else (int(found[1]), own)
+
+
 def load_cases(folder):
     """Folders that are made of lines."""
     pairs = odd_pairs()
@@ -96,3 +183,5 @@ def cases(folder):
     """Each case, whose files are written into the folder right before it."""
     yield from dump_cases(folder)
     yield from load_cases(folder)
+    yield from hostile_cases(folder)
+    yield from foreign_cases(folder)

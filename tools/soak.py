@@ -4,7 +4,8 @@
     soak.py MINUTES [SEED]
 
     scripts      lines of each kind, with points, joins, states and texts, beside plain_store.py
-    recoveries   a base, parts and a log, with bytes changed, cut off, put in, and files left out, beside plain_files.py
+    recoveries   a base, parts and a log, with bytes changed, cut off, put in, and files left out, beside plain_files.py; and a dump of the same, which is
+                 loaded and dumped again
     collapses    parts that overlap, are damaged, of other runs or differ, beside plain_files.py
     serves       lines asked of a store that is served, and killed, beside plain_serving.py and what each line leaves
     runs         workloads on threads, each into a folder; what the log has of each client; and the folder recovered with its log cut anywhere and without
@@ -191,6 +192,22 @@ def damage(chance):
     return chance.choice(["change", "change", "change", "cut", "insert"]), chance.random(), chance.randbytes(chance.choice([1, 1, 4]))
 
 
+def dumped_twice(folder, place, recovered):
+    """What differs in a dump of a folder, by what is recovered of it, and in a dump of what is loaded of that."""
+    status, text, _ = recovered
+    lines = text[text.index(b"\n", text.index(b"pairs ")) + 1 :] if status == 0 else b""
+    told = ran(folder, "dump", place, "--damaged")
+    if told[:2] != (status, lines):
+        return [f"recovered {recovered}", f"dumped {told}"]
+    if status:
+        return []
+    again = tempfile.mkdtemp(dir=folder)
+    written(folder, "lines", lines)
+    loaded = ran(folder, "load", again, "lines")
+    told = ran(folder, "dump", again)
+    return [] if (loaded, told) == ((0, b"", b""), (0, lines, b"")) else [f"dumped {lines}", f"loaded {loaded}", f"dumped again {told}"]
+
+
 class Recoveries:
     """Pieces are what befalls the files; the setting is their texts by name."""
 
@@ -223,7 +240,7 @@ class Recoveries:
         except plain_files.Refused as fault:
             wanted = 1, b"", b"pcalc: %s: %s\n" % (place.encode(), fault.name.encode())
         told = ran(folder, "recover", place)
-        return [] if told == wanted else [f"wanted {wanted}", f"told {told}"]
+        return [f"wanted {wanted}", f"told {told}"] if told != wanted else dumped_twice(folder, place, wanted)
 
     def tried(self, pieces):
         return {"damages": len(pieces)}
