@@ -22,7 +22,7 @@ use std::alloc::{AllocError, Global};
 pub(crate) const FAULTS: &str = "What each fault means: docs/MANUAL.md";
 
 /// What `pcalc --version` prints behind the program's name.
-const VERSION: &str = "0.1.0";
+const VERSION: &str = "0.1.0, formats 01 and 02";
 
 /// What `pcalc step` is asked to do.
 #[derive(Drop)]
