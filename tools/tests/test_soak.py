@@ -9,6 +9,7 @@ from unittest import mock
 
 from support import InFolder
 
+import pair_cases
 import plain_files
 import plain_serving
 import plain_store
@@ -34,6 +35,21 @@ def recover(place):
         return 0, plain_files.recover(*files_of(place)).text(), b""
     except plain_files.Refused as fault:
         return 1, b"", b"pcalc: %s: %s\n" % (place.encode(), fault.name.encode())
+
+
+def dump(place, *options):
+    """A damaged folder is never refused here: the cases accept damage."""
+    status, out, err = recover(place)
+    return status, out[out.index(b"\n", out.index(b"pairs ")) + 1 :] if status == 0 else b"", err
+
+
+def load(place, name):
+    with open(name, "rb") as it:
+        pairs, _ = pair_cases.loaded(it.read())
+    for file, text in (("base.pcb", plain_files.Base(1, 0, pairs).text()), ("log.pcl", plain_files.Log(1).text())):
+        with open(os.path.join(place, file), "wb") as it:
+            it.write(text)
+    return 0, b"", b""
 
 
 def collapse(option, out, *names):
@@ -104,7 +120,7 @@ def served(folder, words, lines, most):
     return (0 if most is None else -signal.SIGKILL), out, b""
 
 
-COMMANDS = {"step": step, "recover": recover, "collapse": collapse, "run": run}
+COMMANDS = {"step": step, "recover": recover, "collapse": collapse, "run": run, "dump": dump, "load": load}
 
 
 def stand_in(folder, command, *words):
@@ -211,6 +227,25 @@ class Soaks(InFolder):
             lines = self.found(soak.Recoveries())
         self.assertIn("recoveries", lines[0])
         self.assertIn("entries 1", lines[-2])
+
+    def test_a_dump_that_leaves_out_the_last_pair(self):
+        def wrong(place, *options):
+            status, out, err = dump(place)
+            return status, b"".join(out.splitlines(keepends=True)[:-1]), err
+
+        with mock.patch.dict(COMMANDS, dump=wrong):
+            self.assertIn("recoveries", self.found(soak.Recoveries())[0])
+
+    def test_a_load_that_leaves_out_the_last_line(self):
+        def wrong(place, name):
+            with open(name, "rb") as it:
+                lines = it.read().splitlines(keepends=True)[:-1]
+            with open(name, "wb") as it:
+                it.write(b"".join(lines))
+            return load(place, name)
+
+        with mock.patch.dict(COMMANDS, load=wrong):
+            self.assertIn("recoveries", self.found(soak.Recoveries())[0])
 
     def test_a_collapse_that_drops_tombstones(self):
         def wrong(option, out, *names):

@@ -10,7 +10,7 @@ use Rattle.pc_model.proofs.PairMapLaws.{entries_of}
 use Rattle.pc_texts.specs.Outputs.{IsUnprinted}
 use Rattle.pc_texts.proofs.OutputLaws.{whole_printed, part_printed}
 use Rattle.pc_pairs.specs.declared.choice.Choice.{Choice}
-use Rattle.pc_pairs.specs.Dumps.{PutsPart, PutsWhole, chosen, dump_text, lines_of}
+use Rattle.pc_pairs.specs.Dumps.{PutsPart, PutsWhole, chosen, dump_text, pair_lines}
 
 module _ {T : Type 0} (contents : T → Option (List ℕ)) (a b c : Tally T) (x : List ℕ) (put : Result (Unit {0}) Refusal) (puts : Puts contents a b put x) (kept : Keeps (contents (inner_of b)) (contents (inner_of c))) where
   pub whole_out : (ended : Result (Unit {0}) Refusal) → IfOk ended (λ u. (put ≡ Ok u) × (failures_of c ≡ failures_of b)) → OnOk ended (PutsWhole contents a c x)
@@ -27,6 +27,6 @@ pairs_are pairs db rise is = sym (entries_of pairs rise) ∙ ap (λ (d : Databas
 
 -- what was put of the chosen pairs is the text of the database's
 pub put_same : {T : Type 0} (contents : T → Option (List ℕ)) (a b : Tally T) (choice : Choice) (db : Database) (pairs kept shown : List (List ℕ × List ℕ)) (put : Result (Unit {0}) Refusal)
-    → KeysRise pairs → database_of pairs ≡ db → kept ≡ chosen choice pairs → shown ≡ kept → Puts contents a b put (lines_of shown) → Puts contents a b put (dump_text choice db)
+    → KeysRise pairs → database_of pairs ≡ db → kept ≡ chosen choice pairs → shown ≡ kept → Puts contents a b put (pair_lines shown) → Puts contents a b put (dump_text choice db)
 put_same contents a b choice db pairs kept shown put rise is keeps shows puts =
-    subst (λ these. Puts contents a b put (lines_of these)) (shows ∙ keeps ∙ ap (chosen choice) (pairs_are pairs db rise is)) puts
+    subst (λ these. Puts contents a b put (pair_lines these)) (shows ∙ keeps ∙ ap (chosen choice) (pairs_are pairs db rise is)) puts

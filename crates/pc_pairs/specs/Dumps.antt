@@ -30,12 +30,12 @@ abbrev pub chosen : Choice → List (List ℕ × List ℕ) → List (List ℕ ×
 chosen choice pairs = filter (is_chosen choice) pairs
 
 -- the lines of these pairs: of each its key and its value as they are printed, with a space between them
-abbrev pub lines_of : List (List ℕ × List ℕ) → List ℕ
-lines_of pairs = flat_map pair_text pairs
+abbrev pub pair_lines : List (List ℕ × List ℕ) → List ℕ
+pair_lines pairs = flat_map pair_text pairs
 
 -- the lines of the chosen pairs of a database
 abbrev pub dump_text : Choice → Database → List ℕ
-dump_text choice db = lines_of (chosen choice db.entries)
+dump_text choice db = pair_lines (chosen choice db.entries)
 
 -- all of a text went out, and nothing failed
 abbrev pub PutsWhole : {T : Type 0} → (T → Option (List ℕ)) → Tally T → Tally T → List ℕ → Type 0

@@ -4,7 +4,7 @@ ghost use Rattle.std.specs.List.{All};
 ghost use Rattle.pc_model.specs.Database.{Database, KeysRise, database_of};
 ghost use Rattle.pc_model.specs.Maps.{empty};
 ghost use Rattle.pc_lines.specs.Lines.{lines_in};
-ghost use Rattle.pc_pairs.specs.Dumps.{lines_of};
+ghost use Rattle.pc_pairs.specs.Dumps.{pair_lines};
 ghost use Rattle.pc_pairs.specs.Loads.{IsStorable, IsUnloaded, database_in, pair_in, with_line, with_lines};
 
 use crate::gathered::Gathered;
@@ -28,8 +28,8 @@ pub fn load_pairs(alloc: Global, text: &[u8]) -> Result<Vec<(Key, Value)>, Unloa
     ensures rise { IfOk result (λ pairs. KeysRise pairs.items) }
     ensures loaded { IfOk result (λ pairs. database_in text.now ≡ Ok (database_of pairs.items)) }
     ensures unloaded { IfErr result (IsUnloaded (database_in text.now)) }
-    ensures dumped { (db : Database) → All IsStorable db.entries → text.now ≡ lines_of db.entries → IfOk result (λ pairs. database_of pairs.items ≡ db) }
-    ensures memory { (db : Database) → All IsStorable db.entries → text.now ≡ lines_of db.entries → IfErr result (λ why. why ≡ Unloaded.NoMemory) }
+    ensures dumped { (db : Database) → All IsStorable db.entries → text.now ≡ pair_lines db.entries → IfOk result (λ pairs. database_of pairs.items ≡ db) }
+    ensures memory { (db : Database) → All IsStorable db.entries → text.now ≡ pair_lines db.entries → IfErr result (λ why. why ≡ Unloaded.NoMemory) }
 {
     load_lines(alloc, text)
 }
