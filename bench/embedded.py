@@ -1,14 +1,16 @@
 #!/usr/bin/env python3
-"""Measures the library inside programs: committed transactions of one put a second over 1,000 keys, several runs in turn, the least and the
-greatest rate; and the sizes of the archive and of a program.
+"""Measures the library inside programs: committed transactions of one put a second over 1,000 keys, several runs in turn, the least and the greatest
+rate; and the sizes of the archive and of programs.
 
-    bench/embedded.py [COMMITS]      by one thread of C (`bench/embedded.c`), by four threads of C over `pcalc_threads.h`, by
-                                     Python, and by Python over SQLite in memory and, where its module is there, LMDB without syncs
+    bench/embedded.py [--archive FILE] [COMMITS]
 
-Build the archive first, by `rt lib` in the folder crates/pc_c.
+By one thread of C and by four over `pcalc_threads.h` (`bench/embedded.c`), by C++ (`bench/embedded.cpp`) and by Python; beside them, in the same turns,
+SQLite in memory, LMDB without syncs and Berkeley DB with its log in memory, where their headers and libraries are installed (`bench/beside.c`), and
+Python's `sqlite3` in memory. LMDB's folder is in memory too. FILE is the archive of crates/pc_c that is measured: else the proved one where there is one,
+else one of `tools/build --library --unchecked`, of which nothing is proved, and which makes no checks, as what is proved makes none.
 """
 
-import importlib.util
+import argparse
 import os
 import shutil
 import subprocess
@@ -16,20 +18,49 @@ import sys
 import tempfile
 import time
 
-ROOT = os.path.join(os.path.dirname(os.path.abspath(__file__)), "..")
-EMBEDDING = os.path.join(ROOT, "embedding")
-RUNS, KEYS = 5, 1000
+ROOT = os.path.abspath(os.path.join(os.path.dirname(os.path.abspath(__file__)), ".."))
+EMBEDDING, BENCH = os.path.join(ROOT, "embedding"), os.path.join(ROOT, "bench")
+PROVED = os.path.join(ROOT, "crates", "pc_c", "out", "libpc_c.a")
+RUNS, KEYS, THREADS, FEWER = 5, 1000, 4, 20
+IN_MEMORY = "/dev/shm"
+# By name the macro of `bench/beside.c`, the library, and by how many threads it is measured.
+BESIDE = {"SQLite in memory": ("SQLITE", "sqlite3", (1,)), "LMDB without syncs": ("LMDB", "lmdb", (1, THREADS)), "Berkeley DB in memory": ("BDB", "db", (1, THREADS))}
 
 
-def made(room):
-    subprocess.run(("make", "-s", "-f", os.path.join(EMBEDDING, "Makefile"), f"OUT={room}", f"{room}/libpcalc.so"), check=True)
-    subprocess.run(("cc", "-std=c11", "-O2", "-pthread", "-I", os.path.join(EMBEDDING, "include"), os.path.join(ROOT, "bench", "embedded.c"),
-                    f"{room}/libpcalc.a", "-o", f"{room}/embedded"), check=True)
+def archive_in(room):
+    """The archive that is measured where none is named."""
+    if os.path.exists(PROVED):
+        return PROVED
+    subprocess.run((os.path.join(ROOT, "tools", "build"), "--library", "--unchecked", f"{room}/libpc_c.a"), check=True)
+    return f"{room}/libpc_c.a"
 
 
-def by_c(room, commits, *threads):
-    """The rate of so many commits by a program of C."""
-    return 1e9 / float(subprocess.run((f"{room}/embedded", str(commits), *threads), stdout=subprocess.PIPE, check=True).stdout)
+def made(room, archive):
+    """Builds the library of Python and the programs of C and C++."""
+    subprocess.run(("make", "-s", "-f", os.path.join(EMBEDDING, "Makefile"), f"OUT={room}", f"ARCHIVE={archive}", f"{room}/libpcalc.so"), check=True)
+    for compiler, source, name in (("cc", "embedded.c", "embedded"), ("c++", "embedded.cpp", "embedded_cpp")):
+        subprocess.run((compiler, "-O2", "-pthread", "-I", os.path.join(EMBEDDING, "include"), os.path.join(BENCH, source), f"{room}/libpcalc.a", "-o", f"{room}/{name}"), check=True)
+
+
+def beside(room):
+    """The programs over other stores, by name, with the numbers of their threads: of those that are installed."""
+    for name, (macro, library, threads) in BESIDE.items():
+        program = os.path.join(room, macro)
+        told = subprocess.run(("cc", "-std=gnu11", "-O2", "-pthread", f"-DBESIDE_{macro}", os.path.join(BENCH, "beside.c"), f"-l{library}", "-o", program), capture_output=True)
+        if told.returncode == 0:
+            yield name, program, threads
+        else:
+            print(f"{name}: not there")
+
+
+def rate(*command):
+    """The rate of commits by a program that prints how many nanoseconds one took."""
+    return 1e9 / float(subprocess.run(command, stdout=subprocess.PIPE, check=True).stdout)
+
+
+def rate_beside(program, commits, threads):
+    with tempfile.TemporaryDirectory(dir=IN_MEMORY if os.path.isdir(IN_MEMORY) else None) as folder:
+        return rate(program, folder, str(commits), str(threads))
 
 
 def timed(commits, body):
@@ -48,7 +79,7 @@ def by_python(commits):
         return timed(commits, commit)
 
 
-def by_sqlite(commits):
+def by_python_sqlite(commits):
     import sqlite3
     with sqlite3.connect(":memory:", isolation_level=None) as store:
         store.execute("create table pairs (key blob primary key, value blob) without rowid")
@@ -60,37 +91,40 @@ def by_sqlite(commits):
         return timed(commits, commit)
 
 
-def by_lmdb(commits):
-    import lmdb
-    with tempfile.TemporaryDirectory() as folder, lmdb.open(folder, sync=False, map_size=1 << 30) as store:
-        def commit(key, value):
-            with store.begin(write=True) as t:
-                t.put(key, value)
-        return timed(commits, commit)
+def bodies(room, commits):
+    """What is measured, by its name."""
+    yield "C, one thread", lambda: rate(f"{room}/embedded", str(commits))
+    yield f"C, {THREADS} threads", lambda: rate(f"{room}/embedded", str(commits), str(THREADS))
+    yield "C++", lambda: rate(f"{room}/embedded_cpp", str(commits))
+    yield "Python", lambda: by_python(commits // FEWER)
+    yield "Python, SQLite in memory", lambda: by_python_sqlite(commits // FEWER)
+    for name, program, counts in beside(room):
+        for threads in counts:
+            yield f"C, {threads} thread{'s' * (threads > 1)}, {name}", lambda program=program, threads=threads: rate_beside(program, commits // FEWER, threads)
 
 
-def main(words):
-    commits = int(words[0]) if words else 1_000_000
+def main():
+    asked = argparse.ArgumentParser(description=__doc__, formatter_class=argparse.RawDescriptionHelpFormatter)
+    asked.add_argument("commits", nargs="?", metavar="COMMITS", type=int, default=1_000_000)
+    asked.add_argument("--archive", metavar="FILE")
+    given = asked.parse_args()
     with tempfile.TemporaryDirectory() as room:
-        made(room)
+        archive = os.path.abspath(given.archive or archive_in(room))
+        made(room, archive)
         os.environ["PCALC_SO"] = f"{room}/libpcalc.so"
         sys.path.insert(0, os.path.join(EMBEDDING, "python"))
-        measured = {
-            "C, one thread": lambda: by_c(room, commits), "C, four threads": lambda: by_c(room, commits, "4"),
-            "Python": lambda: by_python(commits // 20), "Python, SQLite in memory": lambda: by_sqlite(commits // 20),
-        }
-        if importlib.util.find_spec("lmdb"):
-            measured["Python, LMDB without syncs"] = lambda: by_lmdb(commits // 20)
+        measured = dict(bodies(room, given.commits))
         rates = {name: [] for name in measured}
         for _ in range(RUNS):
             for name, body in measured.items():
                 rates[name].append(body())
         for name, them in rates.items():
             print(f"{name}: {min(them):,.0f} to {max(them):,.0f} commits a second")
-        stripped = shutil.copy(f"{room}/embedded", f"{room}/stripped")
-        subprocess.run(("strip", stripped), check=True)
-        print(f"archive: {os.path.getsize(f'{room}/libpcalc.a'):,} bytes; program: {os.path.getsize(stripped):,} bytes")
+        for name in ("embedded", "embedded_cpp"):
+            subprocess.run(("strip", shutil.copy(f"{room}/{name}", f"{room}/stripped_{name}")), check=True)
+        sizes = [os.path.getsize(f"{room}/{it}") for it in ("libpcalc.a", "libpcalc.so", "stripped_embedded", "stripped_embedded_cpp")]
+        print("bytes: archive {:,}; shared object {:,}; stripped programs of C {:,}, of C++ {:,}".format(*sizes))
 
 
 if __name__ == "__main__":
-    main(sys.argv[1:])
+    main()

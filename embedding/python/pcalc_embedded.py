@@ -3,10 +3,10 @@
     import pcalc_embedded
 
     with pcalc_embedded.Store() as store:
-        with store.transaction() as t:          # committed at the end of the block, aborted where it raises
+        with store.transaction() as t:          # committed at the end of the block, aborted if it raises
             t[b"fig"] = b"7"
             t.add(b"sold", 1)
-        store.run(lambda t: t.add(b"sold", 1))  # begun again where it dies
+        store.run(lambda t: t.add(b"sold", 1))  # begun again if it dies
         base, log = store.base(), store.log()   # what to keep: nothing is written to a file here
 
     again = pcalc_embedded.Store(base=base, log=log)

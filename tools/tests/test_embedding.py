@@ -1,8 +1,18 @@
-"""The numbers of the border are the same in `crates/pc_wire`, in `embedding/include/pcalc.h`, and in `embedding/python/pcalc_embedded.py`."""
+"""The numbers of the border are the same in `crates/pc_wire`, in `embedding/include/pcalc.h`, and in `embedding/python/pcalc_embedded.py`; what the pages show
+of the examples stands there; what `embedding_cases` and `embedding_border` decide."""
 
+import contextlib
+import io
 import os
 import re
 import unittest
+from unittest import mock
+
+from support import InFolder
+
+import embedding_border
+import embedding_cases
+import plain_store
 
 ROOT = os.path.join(os.path.dirname(os.path.abspath(__file__)), "..", "..")
 
@@ -65,6 +75,77 @@ class Numbers(unittest.TestCase):
         names = {number: name for number, name in enumerate(first, 1)} | {int(number): name for number, name in re.findall(r'(\d+): "(\w+)"', source)}
         wanted = {number: name.title().replace("_", "") for name, number in enum_of(self.header, "pcalc_refusal").items()}
         self.assertEqual(names, wanted)
+
+def blocks_of(page, language):
+    """The blocks of a language in a page."""
+    return re.findall(rf"```{language}\n(.*?)```", text_of(page), re.DOTALL)
+
+
+class Pages(unittest.TestCase):
+    def test_the_readme_shows_parts_of_the_examples(self):
+        for language, name in (("c", "first.c"), ("python", "first.py")):
+            source = text_of("embedding", "examples", name)
+            shown = [it for it in blocks_of("README.md", language) if it in source]
+            self.assertEqual(len(shown), 1, name)
+            self.assertGreaterEqual(len(shown[0].splitlines()), 10)
+
+    def test_the_page_shows_the_examples(self):
+        for language, name in (("c", "first.c"), ("python", "first.py")):
+            first = text_of("embedding", "examples", name)
+            self.assertEqual([first.endswith(it) for it in blocks_of("docs/EMBEDDING.md", language)], [True], name)
+
+
+class Wrong(plain_store.Store):
+    """A store whose third number that is added is one too large."""
+
+    added = 0
+
+    def step(self, event):
+        reply = super().step(event)
+        self.added += event[0] == "add"
+        return ("sum", reply[1] + 1) if reply[0] == "sum" and self.added == 3 else reply
+
+    def close(self):
+        pass
+
+
+class Scripts(unittest.TestCase):
+    LINES = [b"begin 1", b"add 1 a 1", b"add 1 a 1", b"get 1 a", b"add 1 a 1", b"commit 1"]
+
+    def differences(self, store, lines):
+        with mock.patch.object(embedding_border, "Border", store):
+            return list(embedding_border.different_script((1, 10, 1), lines))
+
+    def test_a_line_that_is_answered_otherwise_is_found(self):
+        self.assertEqual(self.differences(Wrong, self.LINES[:4]), [])
+        self.assertEqual(self.differences(Wrong, self.LINES), ["line 5, b'add 1 a 1': b'sum 4\\n' beside b'sum 3\\n'"])
+
+    def test_rows_are_of_steps(self):
+        self.assertGreater(sum(1 for _ in embedding_border.rows()), 300)
+
+
+class Archives(InFolder):
+    def test_an_archive_is_current_behind_its_sources(self):
+        source, archive = self.write("a.rt", "a"), os.path.join(self.folder, "a.a")
+        self.assertFalse(embedding_cases.is_current(archive, [source]))
+        self.write("a.a", "")
+        os.utime(source, (5, 5)), os.utime(archive, (5, 5))
+        self.assertTrue(embedding_cases.is_current(archive, [source]))
+        os.utime(source, (6, 6))
+        self.assertFalse(embedding_cases.is_current(archive, [source]))
+
+    def test_an_archive_without_proofs_says_so(self):
+        self.write("a.a", "..pc_c: not proved; commit 1..")
+        self.assertEqual(embedding_cases.unmarked((0, b"", b""), os.path.join(self.folder, "a.a")), [])
+        self.write("b.a", "..pc_c..")
+        self.assertEqual(len(embedding_cases.unmarked((0, b"", b""), os.path.join(self.folder, "b.a"))), 1)
+        self.assertEqual(embedding_cases.unmarked((1, b"why", b""), "none"), ["status 1", "why"])
+
+    def test_without_a_compiler_nothing_is_counted(self):
+        told = io.StringIO()
+        with mock.patch("shutil.which", lambda name: None if name == "cc" else name), contextlib.redirect_stdout(told):
+            self.assertEqual(list(embedding_cases.embedded("pcalc", self.folder)), [])
+        self.assertEqual(told.getvalue(), "embedding: there is no cc, so that nothing is tried\n")
 
 
 if __name__ == "__main__":

@@ -3,6 +3,7 @@
 import importlib.machinery
 import importlib.util
 import os
+import re
 import shutil
 import subprocess
 import unittest
@@ -60,6 +61,18 @@ class Builds(unittest.TestCase):
         attributes = "attributes #0 = { sanitize_address }\n"
         self.assertEqual(list(build.rewritten([*lines, attributes], False)), [*lines, "attributes #0 = {  }\n"])
         self.assertEqual(list(build.rewritten(lines, True)), lines[:4] + lines[6:])
+
+    def test_what_the_library_hands_out_is_seen_from_outside(self):
+        source = 'pub extern "C" fn one(\n    alloc: Global,\n    bytes: &[u8],\n) -> u32\n    ensures x { y }\npub extern "C" fn two(handle: &mut Handle)\npub fn three(a: u8)\n'
+        self.assertEqual(build.exported(source), {"one": 2, "two": 1})
+        lines = ['define internal i32 @"pc_c::one"(ptr %a) #0 {\n', '  call void @"pc_c::main"()\n', "define i32 @main() #0 {\n", 'define internal void @"pc_c::oneself"() {\n']
+        wanted = ["define i32 @one(ptr %a) #0 {\n", lines[1], "define internal i32 @main() #0 {\n", lines[3], 'module asm ".ident \\22pc_c: not proved; commit 1\\22"\n']
+        self.assertEqual(list(build.handed_out(lines, ["one", "two"], "commit 1")), wanted)
+
+    def test_the_library_hands_out_what_its_header_declares(self):
+        header = stored("embedding", "include", "pcalc.h").decode()
+        declared = set(re.findall(r"(?m)^(?:uint32_t|void) (pcalc_\w+)\(", header))
+        self.assertEqual(set(build.exported(stored("crates", build.LIBRARY, "src", "lib.rt").decode())), declared)
 
 
 class Pages(unittest.TestCase):
