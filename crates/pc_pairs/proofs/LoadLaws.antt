@@ -1,21 +1,23 @@
 -- The lines of a database's pairs give the database.
 use denote.Bor.{Bor}
-use Rattle.std.proofs.Common.{◌≡◌, ℕ, zero, suc, ◌+◌, ◌<◌, arith, get_or, drop, length, true, cond, List, [], ◌∷◌, ◌++◌, map, Some, None, Result, Ok, Err, is_some, refl, sym, ap, ◌∙◌, append_assoc, append-nil}
-use Rattle.std.specs.Prelude.{IfOk, IfErr, if◌then◌else◌}
+use Rattle.std.proofs.Common.{◌≡◌, Option, subst, ℕ, zero, suc, ◌+◌, ◌<◌, arith, get_or, drop, length, true, cond, List, [], ◌∷◌, ◌++◌, map, Some, None, Result, Ok, Err, is_some, refl, sym, ap, ◌∙◌, append_assoc, append-nil}
+use Rattle.std.specs.Prelude.{IfOk, IfErr, if◌then◌else◌, IfSome}
 use Rattle.std.specs.List.{All, flat_map}
 use Rattle.std.specs.FinMap.{find, is_sorted, put}
 use Rattle.std.specs.FinMap.Entries.{below_all, by_order}
 use Rattle.std.specs.Ordering.{is_eq, is_lt, ordering_reverse}
 use Rattle.std.specs.Global.{Vec}
 use Rattle.std.specs.declared.cmp.Ordering.TheVariants.{Greater}
+use Rattle.pc_types.specs.declared.limits.TheConstants.{MOST_FILE_ENTRIES}
+use Rattle.pc_model.specs.Files.{BaseFile}
 use Rattle.pc_model.specs.Maps.{empty, get, insert}
-use Rattle.pc_model.specs.Database.{Database, database_of, key_cmp, key_order}
+use Rattle.pc_model.specs.Database.{Database, KeysRise, database_of, key_cmp, key_order}
 use Rattle.pc_model.proofs.MapLaws.{get-entries}
 use Rattle.pc_model.proofs.PlaceLaws.{rest_at}
-use Rattle.pc_model.proofs.PairMapLaws.{same_database, tested}
+use Rattle.pc_model.proofs.PairMapLaws.{len_of, same_database, tested}
 use Rattle.pc_model.proofs.RisingLaws.{both, is_less}
 use Rattle.pc_texts.specs.Texts.{pair_text}
-use Rattle.pc_pairs.specs.Loads.{IsStorable, IsUnloaded, and_then, database_in, pair_in, with_line, with_lines}
+use Rattle.pc_pairs.specs.Loads.{IsLoaded, IsStorable, IsUnloaded, and_then, database_in, pair_in, with_line, with_lines}
 use Rattle.pc_pairs.specs.declared.loading.Unloaded.{Unloaded}
 use Rattle.pc_pairs.specs.declared.loading.Unloaded.TheVariants as unloaded
 use Rattle.pc_pairs.specs.declared.reading.Fault.{Fault}
@@ -112,3 +114,10 @@ module _ (lines : List (Bor (List ℕ))) (i : ℕ) (d : Bor (List ℕ)) (within 
   pub line_faulty : (why : Unloaded) (whole : Result Database (ℕ × Fault)) → IsUnloaded (with_line db (i + 1) (pair_in (get_or lines i d).now)) why → with_lines db (i + 1) (drop i (map (λ l. l.now) lines)) ≡ whole → IsUnloaded whole why
   line_faulty (unloaded.Line number why) whole is so_far = sym so_far ∙ next_line ∙ ap (λ r. and_then r (λ after. with_lines after (i + 1 + 1) (drop (i + 1) (map (λ l. l.now) lines)))) is
   line_faulty unloaded.NoMemory whole is so_far = tt
+
+-- the base of pairs that were loaded, or that they are too many
+pub base_made : (run : ℕ) (pairs : List Pair) (made : Result Database (ℕ × Fault)) (r : Option BaseFile) → KeysRise pairs → made ≡ Ok (database_of pairs)
+    → IfSome r (λ base. base ≡ record { run = run; point = 0; pairs = database_of pairs }) → (r ≡ None → MOST_FILE_ENTRIES < length pairs) → IsLoaded run made r
+base_made run pairs made None rise is some none = (database_of pairs, is, subst (λ n. MOST_FILE_ENTRIES < n) (len_of pairs rise) (none refl))
+base_made run pairs made (Some base) rise is some none =
+    (ap (λ (b : BaseFile). b.run) some, ap (λ (b : BaseFile). b.point) some, is ∙ ap Ok (sym (ap (λ (b : BaseFile). b.pairs) some)))

@@ -1,9 +1,11 @@
 -- The database that lines of pairs give.
-use Rattle.std.specs.Prelude.{◌≡◌, ℕ, ◌+◌, ◌==◌, List, [], ◌∷◌, Option, Some, None, Result, Ok, Err, if◌then◌else◌, is_some, take, drop, codes, ⊤}
+use Rattle.std.specs.Prelude.{◌≡◌, ℕ, ◌+◌, ◌<◌, ◌==◌, List, [], ◌∷◌, Option, Some, None, Result, Ok, Err, if◌then◌else◌, is_some, take, drop, codes, ⊤}
 use Rattle.std.specs.List.{position}
 use Rattle.pc_types.specs.FieldForms.{IsBytes}
+use Rattle.pc_types.specs.declared.limits.TheConstants.{MOST_FILE_ENTRIES}
 use Rattle.pc_part.specs.Lawful.{IsPair}
-use Rattle.pc_model.specs.Maps.{empty, get, insert}
+use Rattle.pc_model.specs.Files.{BaseFile}
+use Rattle.pc_model.specs.Maps.{empty, get, insert, len}
 use Rattle.pc_model.specs.Database.{Database}
 use Rattle.pc_lines.specs.Lines.{is_key, is_value, lines_in}
 use Rattle.pc_lines.specs.Words.{key_text_of, text_of}
@@ -61,6 +63,11 @@ HasBytes pair = IsBytes pair.0 × IsBytes pair.1
 -- a pair that a store can have: its key and its value are bytes, and within their limits
 abbrev pub IsStorable : List ℕ × List ℕ → Type 0
 IsStorable pair = IsPair pair × HasBytes pair
+
+-- the base of this run with the database that there is, at point 0; none where it has more pairs than a base may have
+abbrev pub IsLoaded : ℕ → Result Database (ℕ × Fault) → Option BaseFile → Type 0
+IsLoaded run made None = (db : Database) × (made ≡ Ok db) × (MOST_FILE_ENTRIES < len db)
+IsLoaded run made (Some base) = (base.run ≡ run) × (base.point ≡ 0) × (made ≡ Ok base.pairs)
 
 -- there is no database for this: the first line at fault, or memory ran out
 abbrev pub IsUnloaded : Result Database (ℕ × Fault) → Unloaded → Type 0

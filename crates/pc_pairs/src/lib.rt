@@ -9,5 +9,5 @@ mod reading;
 
 pub use choice::Choice;
 pub use dumping::run_dump;
-pub use loading::{Unloaded, load_pairs};
+pub use loading::{Unloaded, load_base};
 pub use reading::Fault;

@@ -1,16 +1,18 @@
 //! Lines of pairs are read back.
-ghost use Rattle.std.specs.Prelude.{◌≡◌, ◌+◌, ◌<◌, ℕ, List, Ok, IfOk, IfErr, OnOk, map};
+ghost use Rattle.std.specs.Prelude.{◌≡◌, ◌+◌, ◌<◌, ℕ, List, None, Ok, IfOk, IfErr, IfSome, OnOk, length, map};
 ghost use Rattle.std.specs.List.{All};
+ghost use Rattle.pc_types.specs.declared.limits.TheConstants.{MOST_FILE_ENTRIES};
 ghost use Rattle.pc_model.specs.Database.{Database, KeysRise, database_of};
 ghost use Rattle.pc_model.specs.Maps.{empty};
 ghost use Rattle.pc_lines.specs.Lines.{lines_in};
 ghost use Rattle.pc_pairs.specs.Dumps.{pair_lines};
-ghost use Rattle.pc_pairs.specs.Loads.{IsStorable, IsUnloaded, database_in, pair_in, with_line, with_lines};
+ghost use Rattle.pc_pairs.specs.Loads.{IsLoaded, IsStorable, IsUnloaded, database_in, pair_in, with_line, with_lines};
 
 use crate::gathered::Gathered;
 use crate::reading::{Fault, PairLine, pair_in};
 use bstr::ByteSlice;
-use pc_types::{Key, Value};
+use pc_part::Base;
+use pc_types::{Key, MOST_FILE_ENTRIES, Value};
 use std::alloc::{AllocError, Global};
 
 /// Why lines give no database.
@@ -22,9 +24,33 @@ pub enum Unloaded {
     NoMemory,
 }
 
-/// The pairs of a text's lines, ascending by key: a line is a key's word and a value's word as they are printed, with one space between
-/// them, in any order of the keys, none of which comes twice. The lines of all pairs of a database give these pairs.
-pub fn load_pairs(alloc: Global, text: &[u8]) -> Result<Vec<(Key, Value)>, Unloaded>
+/// The base of a run of this number that has the pairs of a text's lines, at point 0; nothing where they are more than the 4,294,967,295
+/// that a base may have. A line is a key's word and a value's word as they are printed, with one space between them; the keys come in any
+/// order, and none comes twice. The lines of all pairs of a database give a base with that database.
+pub fn load_base(alloc: Global, run: u64, text: &[u8]) -> Result<Option<Base>, Unloaded>
+    ensures loaded { IfOk result (IsLoaded run (database_in text.now)) }
+    ensures unloaded { IfErr result (IsUnloaded (database_in text.now)) }
+    ensures dumped { (db : Database) → All IsStorable db.entries → text.now ≡ pair_lines db.entries → IfOk result (λ made. IfSome made (λ base. base.pairs ≡ db)) }
+    ensures memory { (db : Database) → All IsStorable db.entries → text.now ≡ pair_lines db.entries → IfErr result (λ why. why ≡ Unloaded.NoMemory) }
+{
+    let pairs = load_pairs(alloc, text)?;
+    Ok(base_of(run, pairs))
+}
+
+// The base of these pairs, where it may have as many.
+fn base_of(run: u64, pairs: Vec<(Key, Value)>) -> Option<Base>
+    requires rise { KeysRise pairs.items }
+    ensures made { IfSome result (λ base. base ≡ record { run = run; point = 0; pairs = database_of pairs.items }) }
+    ensures none { result ≡ None → MOST_FILE_ENTRIES < length pairs.items }
+{
+    if pairs.len() > MOST_FILE_ENTRIES {
+        return None;
+    }
+    Some(Base::start(run, pairs))
+}
+
+// The pairs of a text's lines, ascending by key.
+fn load_pairs(alloc: Global, text: &[u8]) -> Result<Vec<(Key, Value)>, Unloaded>
     ensures rise { IfOk result (λ pairs. KeysRise pairs.items) }
     ensures loaded { IfOk result (λ pairs. database_in text.now ≡ Ok (database_of pairs.items)) }
     ensures unloaded { IfErr result (IsUnloaded (database_in text.now)) }

@@ -6,11 +6,11 @@ use pc_disk::{BASE, Causes, LOG, ReadFolder};
 use pc_explanations::{About, Explained, Explainer, explain_output, is_explained};
 use pc_log::encode_header;
 use pc_options::LoadOptions;
-use pc_pairs::{Fault, Unloaded, load_pairs};
+use pc_pairs::{Fault, Unloaded, load_base};
 use pc_part::Base;
 use pc_runs::{NewFiles, RunFolder, Unusable};
 use pc_texts::{FileName, end_output, read_opened, report, report_words};
-use pc_types::{Key, MOST_FILE_ENTRIES, Refusal, Tally, Value};
+use pc_types::{Refusal, Tally};
 use std::io;
 use std::io::Write;
 
@@ -52,8 +52,12 @@ fn load<E: Write>(
             return Ok(FAILED);
         }
     };
-    match load_pairs(alloc, &text) {
-        Ok(pairs) => make(explainer, options, pairs, errors),
+    match load_base(alloc, u64::from(options.run), &text) {
+        Ok(Some(base)) => make(explainer, options, &base, errors),
+        Ok(None) => {
+            let _ = report(options.dir.as_bytes(), Refusal::Full, errors);
+            Ok(FAILED)
+        }
         Err(Unloaded::NoMemory) => {
             let _ = report(options.file.as_bytes(), Refusal::OutOfMemory, errors);
             Ok(FAILED)
@@ -75,21 +79,16 @@ fn tell_line<E: Write>(number: u64, fault: Fault, errors: &mut Tally<E>) -> Resu
 fn make<E: Write>(
     explainer: &Explainer<'_>,
     options: &LoadOptions<'_>,
-    pairs: Vec<(Key, Value)>,
+    base: &Base,
     errors: &mut Tally<E>,
 ) -> io::Result<u8> {
-    if pairs.len() > MOST_FILE_ENTRIES {
-        let _ = report(options.dir.as_bytes(), Refusal::Full, errors);
-        return Ok(FAILED);
-    }
     let dir = ReadFolder {
         rt: explainer.rt,
         path: options.dir,
         causes: explainer.causes,
     };
     let claim = Claim::new(dir, true)?;
-    let base = Base::start(u64::from(options.run), pairs);
-    let status = make_in(&claim, &base, errors)?;
+    let status = make_in(&claim, base, errors)?;
     claim.end();
     Ok(status)
 }
