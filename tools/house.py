@@ -37,7 +37,7 @@ LIMITS = {
     "the same of the worst crate": (1_114, 700),
     "lower-case words of definitions with two homes": (118, 15),
     "types and facts of definitions with two homes": (35, 10),
-    "words of the pages": (40_893, 30_000),
+    "words of the pages": (40_929, 30_000),
     "words to avoid": (1_184, 100),
 }
 PAGES = ("README.md", "CHANGELOG.md", "CONTRIBUTING.md", "docs/*.md")
