@@ -29,7 +29,7 @@ LIMITS = {
     "longest chain of crates": (13, 12),
     "crates of more than 60 functions": (10, 0),
     "crates of more than 1000 lines of code": (15, 0),
-    "crates of the product without a wrong body": (9, 0),
+    "crates of the product without a wrong body": (8, 0),
     "files of more than 800 lines": (0, 0),
     "functions of more than 40 lines": (1, 0),
     "functions of more than 6 parameters": (27, 6),
@@ -37,7 +37,7 @@ LIMITS = {
     "the same of the worst crate": (1_114, 700),
     "lower-case words of definitions with two homes": (118, 15),
     "types and facts of definitions with two homes": (35, 10),
-    "words of the pages": (40_648, 30_000),
+    "words of the pages": (40_929, 30_000),
     "words to avoid": (1_184, 100),
 }
 PAGES = ("README.md", "CHANGELOG.md", "CONTRIBUTING.md", "docs/*.md")

@@ -1,6 +1,6 @@
 #!/usr/bin/env python3
 """A plain reader of part files, base files and logs, and a slow recovery, which know nothing of the crates: they are written from the formats and
-rules of docs/FORMATS.md alone. Expected outputs of the gate's programs come from them, and are then stored.
+rules of docs/FORMATS.md and docs/MANUAL.md alone. Expected outputs of the gate's programs come from them, and are then stored.
 
     plain_files.py files LINES    prints what the program test_files is to print of these lines
     plain_files.py rows ROWS      prints what the program test_scripts is to print of these rows; scripts are run by plain_store.py, beside this file
