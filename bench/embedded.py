@@ -1,6 +1,6 @@
 #!/usr/bin/env python3
-"""Measures the library inside programs: committed transactions of one put a second over 1,000 keys, several runs in turn, the least and the greatest
-rate; and the sizes of the archive and of programs.
+"""Measures the library inside programs: transactions of one put over 1,000 keys, several runs in turn: how many commit a second, and the processor time
+of one, the least and the greatest of each; and the sizes of the archive and of programs.
 
     bench/embedded.py [--archive FILE] [COMMITS]
 
@@ -12,6 +12,7 @@ else one of `tools/build --library --unchecked`, of which nothing is proved, and
 
 import argparse
 import os
+import resource
 import shutil
 import subprocess
 import sys
@@ -53,21 +54,30 @@ def beside(room):
             print(f"{name}: not there")
 
 
-def rate(*command):
-    """The rate of commits by a program that prints how many nanoseconds one took."""
-    return 1e9 / float(subprocess.run(command, stdout=subprocess.PIPE, check=True).stdout)
+def spent():
+    """The processor seconds of the programs that have ended."""
+    used = resource.getrusage(resource.RUSAGE_CHILDREN)
+    return used.ru_utime + used.ru_stime
+
+
+def rate(commits, *command):
+    """The rate of the commits of a program that prints how many nanoseconds one took, and the processor time of one in microseconds."""
+    before = spent()
+    told = float(subprocess.run(command, stdout=subprocess.PIPE, check=True).stdout)
+    return 1e9 / told, 1e6 * (spent() - before) / commits
 
 
 def rate_beside(program, commits, threads):
     with tempfile.TemporaryDirectory(dir=IN_MEMORY if os.path.isdir(IN_MEMORY) else None) as folder:
-        return rate(program, folder, str(commits), str(threads))
+        return rate(commits, program, folder, str(commits), str(threads))
 
 
 def timed(commits, body):
-    began = time.perf_counter()
+    """The same of commits by this program."""
+    began, before = time.perf_counter(), time.process_time()
     for turn in range(commits):
         body(b"%d" % (turn % KEYS), b"%d" % turn)
-    return commits / (time.perf_counter() - began)
+    return commits / (time.perf_counter() - began), 1e6 * (time.process_time() - before) / commits
 
 
 def by_python(commits):
@@ -93,9 +103,9 @@ def by_python_sqlite(commits):
 
 def bodies(room, commits):
     """What is measured, by its name."""
-    yield "C, one thread", lambda: rate(f"{room}/embedded", str(commits))
-    yield f"C, {THREADS} threads", lambda: rate(f"{room}/embedded", str(commits), str(THREADS))
-    yield "C++", lambda: rate(f"{room}/embedded_cpp", str(commits))
+    yield "C, one thread", lambda: rate(commits, f"{room}/embedded", str(commits))
+    yield f"C, {THREADS} threads", lambda: rate(commits, f"{room}/embedded", str(commits), str(THREADS))
+    yield "C++", lambda: rate(commits, f"{room}/embedded_cpp", str(commits))
     yield "Python", lambda: by_python(commits // FEWER)
     yield "Python, SQLite in memory", lambda: by_python_sqlite(commits // FEWER)
     for name, program, counts in beside(room):
@@ -119,7 +129,8 @@ def main():
             for name, body in measured.items():
                 rates[name].append(body())
         for name, them in rates.items():
-            print(f"{name}: {min(them):,.0f} to {max(them):,.0f} commits a second")
+            (least, most), (cheapest, dearest) = ((min(it), max(it)) for it in zip(*them))
+            print(f"{name}: {least:,.0f} to {most:,.0f} commits a second, {cheapest:.2f} to {dearest:.2f} µs of processor time each")
         for name in ("embedded", "embedded_cpp"):
             subprocess.run(("strip", shutil.copy(f"{room}/{name}", f"{room}/stripped_{name}")), check=True)
         sizes = [os.path.getsize(f"{room}/{it}") for it in ("libpcalc.a", "libpcalc.so", "stripped_embedded", "stripped_embedded_cpp")]
