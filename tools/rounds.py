@@ -113,6 +113,10 @@ def owners_in(text):
         named = FN.match(line)
         if named:
             name = (owner if line.startswith(" ") else "", named[1])
+            above = at
+            while lines[above - 1].lstrip().startswith("#["):
+                found[above] = name  # the checker tells of a function by the first of its attributes
+                above -= 1
         found.append(name)
     return found
 

@@ -84,6 +84,15 @@ class Rounds(InFolder):
         said = "fn pc_one::One::new: not proved\n"
         self.assertEqual(self.tried(["method", "trait"], "error[E0425]: no `Two`\n", said, "error[E0425]: no `Two`\n"), {"method": "fits"})
 
+    def test_a_note_at_an_attribute_is_of_the_function_below_it(self):
+        source = SOURCE.replace("    fn from", "    #[inline(always)]\n    #[tactic(auto)]\n    fn from")
+        self.write("crates/pc_one/src/lib.rt", source)
+        line = source.split("\n").index("    #[inline(always)]") + 1
+        lines = rounds.owners_in(source)
+        self.assertEqual(lines[line - 1 : line + 3], [("One", "new"), ("One", "from"), ("One", "from"), ("One", "from")])
+        said = f"note: src/lib.rt:{line}:5: it is not proved that what the function ensures holds (`returns`)\nfn pc_one::OneFromU8::from: no proof: x\n"
+        self.assertEqual(self.tried(["trait"], said), {"trait": "clause"})
+
     def test_a_body_that_no_longer_stands_there_is_left_out(self):
         self.texts["free"] = edit("no such text", "7")
         self.assertEqual(self.tried(["free"]), {})
