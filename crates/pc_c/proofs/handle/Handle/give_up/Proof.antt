@@ -23,7 +23,6 @@ use denote.Steps.{nothing}
 use denote.Param.{layout}
 use denote.Triple.Entry.{alive}
 use denote.Triple.Walked.{Stays, stay_dropped, walk_of, Goes-dropped}
-use Rattle.libc.specs.Heap.{chunk}
 use Rattle.core.specs.Ptr.{points_to}
 use Rattle.core.proofs.alloc.Calls.{Goes-blank}
 use Rattle.core.proofs.atomic.Steps.{Ptr-Good}
@@ -35,7 +34,7 @@ use Rattle.std.proofs.alloc.Global.TheLaws as heap_laws
 use Rattle.std.proofs.GlobalToken.{dealloc_token-Testable}
 use Rattle.std_heap.specs.contracts.GlobalAllocator.TheImpl.{ghosts}
 use Rattle.std.proofs.raw_atomic.Walks.{proved_at, leaves}
-use Rattle.pc_c.specs.Held.{held}
+use Rattle.pc_c.specs.Held.{held, may_free}
 use Rattle.pc_c.proofs.UnboxedValues.{word, Unboxed, word_is_typed, closed}
 use Rattle.pc_c.proofs.HandleValues.{R, Z, one_field, handle_out}
 use Rattle.pc_c.specs.contracts.handle.Handle as handle
@@ -70,10 +69,10 @@ give_up_spec 𝓤 𝓛 𝓜 𝓡 wired =
     keep ! (3 ∷ 0 ∷ 2 ∷ 1 ∷ []) $ by ! (leaves 𝓛 En hs c z (live 0 vnil) None (tt, (tt, tt)) (tt, (tt, tt))))
     (λ wrong. absurd wrong))) in
     let whole_one : (x : R.Denot) → d.value ≡ Some x → z.0.4.0 ≡ one_field (ptr_val d.at) ∷ [] → ent 𝓤 (Γ₀ (Some x)) (Run (z.0.4.0 ++ (z.0.4.1.0 ++ []))) = λ x e ws.
-    qed 𝓛 (‵ (box_owns chunk R d.at x) ∷ ‵ (Z.own_val a (h.0 ∷ [])) ∷ toks ∷ []) ∵
-    in_a_block ! d.at (λ p. box_owns chunk R p x) (fst∗ 𝓤 (never 𝓤) (sem 𝓛 (chunk (bare (lone R.mir)) null_ptr))) (λ b o at.
-    let p : Ptr = block_ptr b o in let B : Fml = box_owns chunk R p x in
-    use1 𝓛 (given (Testable p) (‵ B)) (fact_use 𝓤 (Testable p) (via 𝓤 _ (snd∗ 𝓤 (sem 𝓛 (points_to R p x)) (sem 𝓛 (chunk (bare (lone R.mir)) p))) (dealloc_token-Testable 𝓛 a (bare (lone R.mir)) p)) (guard_i 𝓤 (Testable p) (sem 𝓛 B))) $ learn ! (λ t.
+    qed 𝓛 (‵ (box_owns may_free R d.at x) ∷ ‵ (Z.own_val a (h.0 ∷ [])) ∷ toks ∷ []) ∵
+    in_a_block ! d.at (λ p. box_owns may_free R p x) (fst∗ 𝓤 (never 𝓤) (sem 𝓛 (may_free (bare (lone R.mir)) null_ptr))) (λ b o at.
+    let p : Ptr = block_ptr b o in let B : Fml = box_owns may_free R p x in
+    use1 𝓛 (given (Testable p) (‵ B)) (fact_use 𝓤 (Testable p) (via 𝓤 _ (snd∗ 𝓤 (sem 𝓛 (points_to R p x)) (sem 𝓛 (may_free (bare (lone R.mir)) p))) (dealloc_token-Testable 𝓛 a (bare (lone R.mir)) p)) (guard_i 𝓤 (Testable p) (sem 𝓛 B))) $ learn ! (λ t.
     suffices ! (Run (one_field (vptr b o) ∷ h.0 ∷ [])) (start p at ws) $
     enter ! 𝓣.C 𝓣.Λ fn (one_field (vptr b o) ∷ h.0 ∷ []) Post $ alloc_all ! (λ l. pass_all ! refl ((tt, (tt, tt)), (h.2, tt)) $
     sets ! (of_opd ! (get_in ! (fld ! refl (stop !)) (sub ! 0 refl (whole !)))) refl (tt, tt) $

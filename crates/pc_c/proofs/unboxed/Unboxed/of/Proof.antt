@@ -32,7 +32,7 @@ use Rattle.std_alloc.specs.Box.Ownership.{box_owns}
 use Rattle.std_alloc.proofs.BoxSteps.Form as box
 use Rattle.std_alloc.proofs.BoxSteps.Steps.{box_out, box_in}
 use Rattle.std.proofs.raw_atomic.Walks.{proved_at, leaves}
-use Rattle.pc_c.proofs.UnboxedValues.{word, kept, word_is_typed, closed}
+use Rattle.pc_c.proofs.UnboxedValues.{word, word_is_typed, closed}
 use Rattle.std_alloc.specs.contracts.boxed.Box.into_raw_with_allocator as parting
 use Rattle.std_alloc.proofs.boxed.Box.into_raw_with_allocator.Met as parting_met
 use Rattle.pc_c.specs.contracts.unboxed.Unboxed.of.{ended, clauses}
