@@ -1,5 +1,5 @@
 -- The lines of a folder's pairs.
-use Rattle.std.specs.Prelude.{◌≡◌, ◌⊎◌, ◌==◌, ◌&&◌, ℕ, Bool, true, List, Option, Some, None, Ok, filter}
+use Rattle.std.specs.Prelude.{◌≡◌, ◌⊎◌, ◌==◌, ◌&&◌, ℕ, Bool, true, false, is_ok, List, Option, Some, None, Ok, filter}
 use Rattle.std.specs.List.{flat_map, starts_with}
 use Rattle.std.specs.Io.KnownBytes.{Appends}
 use Rattle.pc_types.specs.Counted.{AppendsBeginning, HasRisen}
@@ -8,7 +8,8 @@ use Rattle.pc_types.specs.Tallies.{failures_of, inner_of}
 use Rattle.pc_types.specs.declared.tally.Tally.{Tally}
 use Rattle.pc_model.specs.Database.{Database}
 use Rattle.pc_recover.specs.Recovery.{Recovery, recovery}
-use Rattle.pc_restore.specs.Bases.{IsBaseUnmade}
+use Rattle.pc_restore.specs.Bases.{IsBaseUnmade, TellsDamage}
+use Rattle.pc_restore.specs.Lacks.{lacks_of, refuses}
 use Rattle.pc_restore.specs.Recoveries.{HoldsAll}
 use Rattle.pc_restore.specs.declared.recovery.Folder.{Folder}
 use Rattle.pc_restore.specs.declared.recovery.Lost.{Lost}
@@ -45,10 +46,12 @@ PutsWhole contents old new text = Appends (contents (inner_of old)) (contents (i
 abbrev pub PutsPart : {T : Type 0} → (T → Option (List ℕ)) → Tally T → Tally T → List ℕ → Type 0
 PutsPart contents old new text = HasRisen (failures_of old) (failures_of new) × AppendsBeginning (contents (inner_of old)) (contents (inner_of new)) text
 
--- what is recovered of the folder was written: the lines of its chosen pairs; said where the files' bytes are known
-abbrev pub Dumps : {R T : Type 0} → (R → Option (List ℕ)) → (T → Option (List ℕ)) → Folder R → Choice → Tally T → Tally T → Type 0
-Dumps remaining contents folder choice old new = (base : List ℕ) (names parts : List (List ℕ)) (log : List ℕ) → HoldsAll remaining folder base names parts log →
+-- what is recovered of the folder was written: the lines of its chosen pairs. The folder isn't damaged, or damage is accepted, and what
+-- is damaged was reported. Said where the files' bytes are known.
+abbrev pub Dumps : {R T E : Type 0} → (R → Option (List ℕ)) → (T → Option (List ℕ)) → (E → Option (List ℕ)) → Folder R → Choice → Bool → Tally T → Tally T → Tally E → Tally E → Type 0
+Dumps remaining contents reported folder choice accepts_damage old new told_old told_new = (base : List ℕ) (names parts : List (List ℕ)) (log : List ℕ) → HoldsAll remaining folder base names parts log →
     (found : Recovery) × (recovery base parts log ≡ Ok found) × Appends (contents (inner_of old)) (contents (inner_of new)) (dump_text choice found.pairs)
+    × (refuses accepts_damage (lacks_of (is_ok folder.log) log found) ≡ false) × TellsDamage reported told_old told_new names found
 
 -- the same of a beginning of the lines
 abbrev pub DumpsInPart : {R T : Type 0} → (R → Option (List ℕ)) → (T → Option (List ℕ)) → Folder R → Choice → Tally T → Tally T → Type 0

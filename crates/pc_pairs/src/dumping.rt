@@ -25,7 +25,7 @@ pub fn run_dump<R: Read + Drop, W: Write, E: Write>(
     out: &mut Tally<W>,
     errors: &mut Tally<E>,
 ) -> Option<Lost<R>>
-    ensures dumped { result ≡ None → Dumps R.remaining W.contents folder choice.now out.old out.new }
+    ensures dumped { result ≡ None → Dumps R.remaining W.contents E.contents folder choice.now accepts_damage out.old out.new errors.old errors.new }
     ensures sound { result ≡ None → failures_of out.new ≡ failures_of out.old }
     ensures cause { IfSome result (IsUndumped R.remaining W.contents E.contents folder choice.now accepts_damage out.old out.new errors.old errors.new) }
 {

@@ -13,6 +13,8 @@ returns-in-Ok-put_chosen-clause-dumped g c = λ e base names parts log holds.
       made.2.recovered,
       subst (λ db. Appends (g.W.Write.contents (inner_of c.args.out.now)) (g.W.Write.contents (inner_of c.put_chosen.new.out)) (dump_text c.args.choice.now db))
           (ap (λ (b : BaseFile). b.pairs) made.3) c.in-Ok-put_chosen.ensures.whole.0,
+      made.4,
+      made.5,
     )
 
 pub returns-in-Err-put_chosen-clause-cause : goal.returns-in-Err-put_chosen-clause-cause
