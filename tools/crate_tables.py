@@ -16,6 +16,8 @@ ROOT = os.path.join(os.path.dirname(os.path.abspath(__file__)), "..")
 PAGE = os.path.join(ROOT, "docs", "ARCHITECTURE.md")
 PARTS = ("store", "gate")
 FEW = 4
+# What is added to a sentence behind a comma: for whom, over what, or what is printed in the end.
+ADDED = re.compile(r", (?:over|with|by|from|beside|each|shared|and prints|and tells)\b")
 MARK = re.compile(r"(?m)^(<!-- crates (\w+) -->\n)((?:\|.*\n)*)")
 
 
@@ -52,7 +54,7 @@ def nearest(name, below):
 
 
 def page_of(name):
-    """What a crate says of itself: its first sentence, up to a colon or semicolon that has at least `FEW` words before it."""
+    """What a crate says of itself: its first sentence, up to a colon or semicolon, or to what is `ADDED`, that has at least `FEW` words before it."""
     folder = os.path.join("crates", name, "src")
     file = "lib.rt" if os.path.exists(os.path.join(ROOT, folder, "lib.rt")) else "main.rt"
     lines = []
@@ -62,7 +64,9 @@ def page_of(name):
         lines.append(line[4:])
     sentence = re.split(r"(?<=\.) ", " ".join(lines))[0]
     head = re.match(r"(?:[^ :;]+ ){%d,}?[^ :;]+(?=[:;] )" % (FEW - 1), sentence)
-    return head[0] + "." if head else sentence
+    sentence = head[0] + "." if head else sentence
+    added = next((it for it in ADDED.finditer(sentence) if len(sentence[: it.start()].split()) >= FEW), None)
+    return sentence[: added.start()] + "." if added else sentence
 
 
 def table(names, below):
