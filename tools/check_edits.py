@@ -11,7 +11,8 @@ of another form, an old text that doesn't stand exactly once in its file, a new 
 which no source of its crate names, or a method of a name that no function has in the crate, in those that it stands on, or in
 the kit's library: that is no body at all, and the gate takes no such refusal. (A method is looked for by its name alone, since
 no types are known here.) A row of docs/PROMISES.md begins with the name of its promise, in bold; its third cell has those edits that
-name it and that the gate tries, and behind a plus how many more are tried on demand. Told are a name that no row has, and a page whose
+name it and that the gate tries, and behind a plus how many more are tried on demand; of a name that several rows have, those of the
+crates that the heading above the row names. Told are a name that no row has, and a page whose
 column is another one. The status is 1 where anything is told.
 """
 
@@ -21,6 +22,7 @@ import os
 import re
 import shutil
 import sys
+from collections import Counter
 
 from gate_times import crates_of
 
@@ -28,6 +30,7 @@ ROOT = os.path.join(os.path.dirname(os.path.abspath(__file__)), "..")
 CRATES = os.path.join(ROOT, "crates")
 PROMISES = os.path.join(ROOT, "docs", "PROMISES.md")
 ROW = re.compile(r"^\| \*\*([^*]+)\*\*: ")
+HEADING = re.compile(r"^## (.*)$")
 COLUMN = 3
 CALL = re.compile(r"(?<![\w.:])([a-z_]\w*)\(")
 METHOD = re.compile(r"\.([a-z_]\w*)(?:::<[^()]*>)?\(")
@@ -130,25 +133,29 @@ def promises_of(edit):
 
 
 def bodies():
-    """By the name of a promise the names of its edits, each with whether the gate tries it."""
+    """By the name of a promise its edits: the crate and the name of each, with whether the gate tries it."""
     found = {}
     for edit in edits():
         folder, file = os.path.split(edit)
         for name in promises_of(edit):
-            found.setdefault(name, {})
-            body = file.removesuffix(".edit")
-            found[name][body] = found[name].get(body, False) or folder.endswith("must-fail")
+            found.setdefault(name, {})[os.path.basename(os.path.dirname(folder)), file.removesuffix(".edit")] = folder.endswith("must-fail")
     return found
 
 
 def marked(text, found):
     """The text with the column of wrong bodies as it is to be."""
-    lines = []
+    lines, crates = [], []
+    rows = Counter(row[1] for row in map(ROW.match, text.split("\n")) if row)
     for line in text.split("\n"):
-        row = ROW.match(line)
+        heading, row = HEADING.match(line), ROW.match(line)
+        if heading:
+            crates = re.findall(r"`(\w+)`", heading[1])
         if row:
             cells = line.split("|")
-            named = found.get(row[1], {})
+            named = {}
+            for (crate, body), gated in found.get(row[1], {}).items():
+                if rows[row[1]] == 1 or crate in crates:
+                    named[body] = named.get(body, False) or gated
             gate = [f"`{name}`" for name in sorted(named) if named[name]]
             others = len(named) - len(gate)
             cells[COLUMN] = " " + ", ".join(gate + ([f"+{others}"] if others else [])) + " "
