@@ -15,6 +15,8 @@ pub struct DumpOptions<'a> {
     pub prefix: Option<&'a str>,
     /// Whether the lines are JSON.
     pub is_json: bool,
+    /// The point whose state is printed, 1 to 65,535, if one is given.
+    pub point: Option<u16>,
     /// Whether the folder may be damaged.
     pub accepts_damage: bool,
     /// Whether faults are explained also where standard error is no terminal.
@@ -26,6 +28,7 @@ pub(crate) fn dump_command<'a>(alloc: Global) -> Result<Command<'a>, Error> {
     let space = "Prints the pairs of this key space alone, 0 to 65535";
     let prefix =
         "Prints the pairs alone whose key's own bytes begin with those of the word, which is written as a value is printed";
+    let point = "Prints the pairs of this point, 1 to 65535, instead of all that was recovered";
     let damaged = "Prints also where a part was skipped, or the log is missing or damaged";
     let about = "Prints the pairs that a folder's files are worth, a line for each";
     let said = [
@@ -33,6 +36,7 @@ pub(crate) fn dump_command<'a>(alloc: Global) -> Result<Command<'a>, Error> {
         Said::number("space", "N", 0, 65_535, space),
         Said::value("prefix", "WORD", prefix),
         json_option(),
+        Said::number("point", "N", 1, 65_535, point).excludes("damaged"),
         Said::flag("damaged", damaged),
         explain_option(),
     ];
@@ -50,6 +54,7 @@ pub(crate) fn dump_options_of<'a>(matches: &ArgMatches<'a>) -> Option<DumpOption
         space: matches.get_one::<u16>("space"),
         prefix: matches.get_str("prefix"),
         is_json: matches.get_flag("json"),
+        point: matches.get_one::<u16>("point"),
         accepts_damage: matches.get_flag("damaged"),
         is_explained: matches.get_flag("explain"),
     })
