@@ -28,7 +28,7 @@ use Rattle.serde_json.proofs.Numbers.{number_of-decimal}
 use Rattle.serde_json.proofs.Texts.{print-outline}
 use Rattle.serde_json.specs.declared.value.Value.{Value, the_lemmas}
 use Rattle.serde_json.specs.declared.value.Value.TheVariants as variant
-use Rattle.pc_json.specs.JsonLines.{json_of, json_pair, json_text, pair_in, with_bytes}
+use Rattle.pc_json.specs.JsonLines.{json_of, json_pair, json_text, object_pair, with_bytes}
 
 pub view_string : (s : String Global) → view (variant.String s) ≡ string (string_bytes s)
 view_string s = search (rules, the_lemmas)
@@ -58,24 +58,24 @@ as_base64 name name64 bytes text members same utf8 =
 -- ---- lines
 
 pub no_line : (line : List ℕ) → ¬ IsUtf8 line → None ≡ json_pair line
-no_line line other = sym (ap (λ x. if x then option_and_then pair_in (read line) else None) (not_utf8 line other))
+no_line line other = sym (ap (λ x. if x then option_and_then object_pair (read line) else None) (not_utf8 line other))
 
-pub line_is : (line text : List ℕ) (found : Option Data) → text ≡ line → IsUtf8 line → read text ≡ found → json_pair line ≡ option_and_then pair_in found
+pub line_is : (line text : List ℕ) (found : Option Data) → text ≡ line → IsUtf8 line → read text ≡ found → json_pair line ≡ option_and_then object_pair found
 line_is line text found same utf8 is =
-    ap (λ x. if x then option_and_then pair_in (read line) else None) (is_utf8-from_IsUtf8 line utf8) ∙ ap (λ t. option_and_then pair_in (read t)) (sym same) ∙ ap (option_and_then pair_in) is
+    ap (λ x. if x then option_and_then object_pair (read line) else None) (is_utf8-from_IsUtf8 line utf8) ∙ ap (λ t. option_and_then object_pair (read t)) (sym same) ∙ ap (option_and_then object_pair) is
 
 decoded_again : (bytes : List ℕ) → IsBytes bytes → result_ok (decode_of standard (encode_of standard bytes)) ≡ Some bytes
 decoded_again bytes fit = ap result_ok (decode_of-encode_of standard bytes refl fit)
 
 -- a pair's object gives the pair
-pub pair_again : (space : ℕ) (own worth : List ℕ) → space < 65536 → IsBytes own → IsBytes worth → pair_in (json_of space own worth) ≡ Some (space, own, worth)
+pub pair_again : (space : ℕ) (own worth : List ℕ) → space < 65536 → IsBytes own → IsBytes worth → object_pair (json_of space own worth) ≡ Some (space, own, worth)
 pair_again space own worth small own_fits worth_fits = by (is_utf8 worth) (is_utf8 own) (space == 0) refl
   where
     within : nat_lt space 65536 ≡ true
     within = grind (arith, nat_tests)
 
     by : (a b none : Bool) → (space == 0) ≡ none →
-        pair_in (object (
+        object_pair (object (
         let first : Members = if b then put (codes "key") (string own) no_members else put (codes "key64") (string (encode_of standard own)) no_members in
         let second : Members = if none then first else put (codes "space") (number (unsigned space)) first in
         if a then put (codes "value") (string worth) second else put (codes "value64") (string (encode_of standard worth)) second)) ≡ Some (space, own, worth)

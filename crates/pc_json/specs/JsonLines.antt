@@ -16,8 +16,8 @@ abbrev pub Pair : Type 0
 Pair = ℕ × List ℕ × List ℕ
 
 -- the pair that was read
-abbrev pub pair_of : JsonPair → Pair
-pair_of pair = (pair.space, pair.own.items, pair.value.items)
+abbrev pub read_pair : JsonPair → Pair
+read_pair pair = (pair.space, pair.own.items, pair.value.items)
 
 -- ---- how a pair is written
 
@@ -46,13 +46,13 @@ bytes_in None (Some text) = result_ok (decode_of standard text)
 bytes_in plain encoded = None
 
 -- a number of at most 65,535
-abbrev pub space_within : ℕ → Option ℕ
-space_within n = if nat_lt n 65536 then Some n else None
+abbrev pub space_number : ℕ → Option ℕ
+space_number n = if nat_lt n 65536 then Some n else None
 
 -- the number of a space; 0 where there is no member of it
-abbrev pub space_in : Option Data → Option ℕ
-space_in None = Some 0
-space_in (Some found) = option_and_then space_within (option_and_then as_u64 (as_number found))
+abbrev pub space_member : Option Data → Option ℕ
+space_member None = Some 0
+space_member (Some found) = option_and_then space_number (option_and_then as_u64 (as_number found))
 
 -- how many members there may be: a key, a value and, where there is one, a space
 abbrev pub most : Option Data → ℕ
@@ -64,9 +64,9 @@ abbrev pub member_count : Data → ℕ
 member_count found = unwrap_or (option_map members_len (as_object found)) 0
 
 -- all three, where all are there
-abbrev pub all_of : Option ℕ → Option (List ℕ) → Option (List ℕ) → Option Pair
-all_of (Some space) (Some own) (Some value) = Some (space, own, value)
-all_of space own value = None
+abbrev pub whole_pair : Option ℕ → Option (List ℕ) → Option (List ℕ) → Option Pair
+whole_pair (Some space) (Some own) (Some value) = Some (space, own, value)
+whole_pair space own value = None
 
 -- the text of the member of this name
 abbrev pub text_under : List ℕ → Data → Option (List ℕ)
@@ -77,11 +77,11 @@ abbrev pub bytes_under : List ℕ → List ℕ → Data → Option (List ℕ)
 bytes_under name name64 found = bytes_in (text_under name found) (text_under name64 found)
 
 -- the pair of an object
-abbrev pub pair_in : Data → Option Pair
-pair_in found =
+abbrev pub object_pair : Data → Option Pair
+object_pair found =
     let space = get (codes "space") found in
-    if member_count found == most space then all_of (space_in space) (bytes_under (codes "key") (codes "key64") found) (bytes_under (codes "value") (codes "value64") found) else None
+    if member_count found == most space then whole_pair (space_member space) (bytes_under (codes "key") (codes "key64") found) (bytes_under (codes "value") (codes "value64") found) else None
 
 -- the pair of a line, which is JSON in UTF-8
 abbrev pub json_pair : List ℕ → Option Pair
-json_pair line = if is_utf8 line then option_and_then pair_in (read line) else None
+json_pair line = if is_utf8 line then option_and_then object_pair (read line) else None

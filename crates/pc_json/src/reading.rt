@@ -2,7 +2,7 @@
 ghost use Rattle.std.specs.Prelude.{◌≡◌, Some, None, IfOk, option_map, codes};
 ghost use Rattle.serde_json.specs.Find.{get};
 ghost use Rattle.serde_json.specs.View.{view};
-ghost use Rattle.pc_json.specs.JsonLines.{bytes_in, bytes_under, json_pair, member_count, most, pair_in, pair_of, space_in, space_within, text_under};
+ghost use Rattle.pc_json.specs.JsonLines.{bytes_in, bytes_under, json_pair, member_count, most, object_pair, read_pair, space_member, space_number, text_under};
 
 use base64::DecodeAllocError;
 use base64::engine::general_purpose::STANDARD;
@@ -21,13 +21,13 @@ pub struct JsonPair {
 /// The pair of a line, without the line's end. `None` where the line is no JSON in UTF-8, nor an object that has just a key, a value
 /// and, where it has one, a space from 0 to 65,535.
 pub fn read_json(alloc: Global, line: &[u8]) -> Result<Option<JsonPair>, AllocError>
-    ensures { IfOk result (λ found. option_map pair_of found ≡ json_pair line.now) }
+    ensures { IfOk result (λ found. option_map read_pair found ≡ json_pair line.now) }
 {
     let Ok(text) = str::from_utf8(line) else {
         return Ok(None);
     };
     match Value::from_str(alloc, text) {
-        Ok(value) => pair_in(alloc, &value),
+        Ok(value) => object_pair(alloc, &value),
         Err(why) => match why.classify() {
             Category::Memory => Err(AllocError),
             _ => Ok(None),
@@ -36,15 +36,15 @@ pub fn read_json(alloc: Global, line: &[u8]) -> Result<Option<JsonPair>, AllocEr
 }
 
 // The pair of an object.
-fn pair_in(alloc: Global, found: &Value) -> Result<Option<JsonPair>, AllocError>
-    ensures { IfOk result (λ pair. option_map pair_of pair ≡ pair_in (view found.now)) }
+fn object_pair(alloc: Global, found: &Value) -> Result<Option<JsonPair>, AllocError>
+    ensures { IfOk result (λ pair. option_map read_pair pair ≡ object_pair (view found.now)) }
 {
     if member_count(found) != most(found) {
         return Ok(None);
     }
     let own = bytes_under(alloc, found, "key", "key64")?;
     let value = bytes_under(alloc, found, "value", "value64")?;
-    match (space_in(found), own, value) {
+    match (space_member(found), own, value) {
         (Some(space), Some(own), Some(value)) => Ok(Some(JsonPair { space, own, value })),
         _ => Ok(None),
     }
@@ -71,17 +71,17 @@ fn most(found: &Value) -> usize
 }
 
 // The number of a space.
-fn space_in(found: &Value) -> Option<u16>
-    ensures { result ≡ space_in (get (codes "space") (view found.now)) }
+fn space_member(found: &Value) -> Option<u16>
+    ensures { result ≡ space_member (get (codes "space") (view found.now)) }
 {
     match found.get("space") {
-        Some(space) => space_within(space.as_u64()?),
+        Some(space) => space_number(space.as_u64()?),
         None => Some(0),
     }
 }
 
-fn space_within(number: u64) -> Option<u16>
-    ensures { result ≡ space_within number }
+fn space_number(number: u64) -> Option<u16>
+    ensures { result ≡ space_number number }
 {
     u16::try_from(number).ok()
 }
