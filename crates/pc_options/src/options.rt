@@ -19,7 +19,7 @@ use pc_types::{MOST_KEYS, MOST_SESSIONS};
 use std::alloc::{AllocError, Global};
 
 /// What `pcalc --version` prints behind the program's name.
-const VERSION: &str = "0.1.0, formats 01 and 02";
+const VERSION: &str = "1.0.0, formats 01 and 02";
 
 /// What `pcalc step` is asked to do.
 #[derive(Drop)]
