@@ -161,9 +161,9 @@ def telling_cases(folder):
     yield Case("a report to a full output", ("run", "one.pcw", "--report"), 1, output=FULL)
 
 
-def is_spread(points, every):
-    """Whether a log has so many points, and each has begun behind so many commits for it and for each one before, or behind the last commit of all,
-    but the first one, which has begun while clients ran."""
+def is_spread(points, every, early):
+    """Whether a log has this number of points, each begun after `every` commits for it and for each one before it, or after the last commit; the
+    first `early` ones while clients ran."""
     def is_right(text):
         commits, begun = 0, []
         try:
@@ -175,7 +175,7 @@ def is_spread(points, every):
                 commits += 1
             elif entry[1] == "prepare":
                 begun.append(commits)
-        return len(begun) == points and begun[0] < commits and all(at >= every * number or at == commits for number, at in enumerate(begun, 1))
+        return len(begun) == points and begun[early - 1] < commits and all(at >= every * number or at == commits for number, at in enumerate(begun, 1))
     return is_right
 
 
@@ -184,9 +184,9 @@ def pace_cases(folder):
     written(folder, "four.pcw", FOUR)
     written(folder, "one.pcw", ONE)
     written(folder, "again.pcw", AGAIN)
-    for place, every, more in (("spread", 10_000, ()), ("spread18", 18_000, ("--every", "18000", "--workers", "1"))):
+    for place, every, early, more in (("spread", 10_000, 1, ()), ("spread18", 18_000, 2, ("--every", "18000", "--workers", "1"))):
         words = ("run", "again.pcw", "--dir", new_folder(folder, place), *more)
-        yield Case(f"8 points, each {every} commits behind the one before", words, 0, AGAIN_TOLD, checks={f"{place}/log.pcl": is_spread(8, every)})
+        yield Case(f"8 points, each {every} commits behind the one before", words, 0, AGAIN_TOLD, checks={f"{place}/log.pcl": is_spread(8, every, early)})
     for number, more in enumerate((("--lag", "0"), ("--lag", "1"), ("--sync",), ("--every", "1"), ("--every", "1000000000"), ("--capacity", "4000"))):
         words = ("run", "four.pcw", "--dir", new_folder(folder, f"paced{number}"), *more)
         yield Case("four clients", words, 0, FOUR_TOLD, files={f"paced{number}/base.pcb": EMPTY, f"paced{number}/base.pcb.new": None, f"paced{number}/part-00008.pcp.new": None})
