@@ -4,7 +4,7 @@ use Rattle.pc_board.specs.declared.calls.CallKind.TheVariants.{Claim, Publish, L
 use Rattle.pc_board.specs.declared.calls.Call.{Call}
 use Rattle.pc_board.specs.Calls.{AreLegalCalls}
 
--- the two calls stand among the calls in this order
+-- the two calls are among the calls in this order
 abbrev pub StandIn : List Call → Call → Call → Type 0
 StandIn calls earlier later = (before : List Call) × (between : List Call) × (after : List Call) × (calls ≡ before ++ earlier ∷ (between ++ later ∷ after))
 

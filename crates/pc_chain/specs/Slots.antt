@@ -5,7 +5,7 @@ pub record Slots (T : Type 0) : Type 0 where
   pub items : List (Option T)
   pub links : List (Option ℕ)
 
--- what stands at a slot; None where there is no such slot
+-- the record of a slot; `None` if there is no such slot
 abbrev pub at : {X : Type 0} → List (Option X) → ℕ → Option X
 at xs id = slice_index_or xs id None
 

@@ -13,7 +13,7 @@ pub trait Links<K> {
     /// What the id's link leads to.
     ghost next_of: { Self → Self.Id → Option Self.Id };
 
-    /// All that the first keeps beside the links of this word is in the second as it was.
+    /// All that the first keeps besides the links of this word is in the second as it was.
     ghost beside: { Self → Self → Type 0 };
 
     /// What the id's link leads to.
@@ -21,7 +21,7 @@ pub trait Links<K> {
         requires { has self.now id }
         ensures { result ≡ next_of self.now id };
 
-    /// Sets the id's link. What is set is read; all other links stay, and so does all that is kept beside them.
+    /// Sets the id's link. What is set is read; all other links stay, and so does all that is kept besides them.
     fn set_next(&mut self, id: Self::Id, next: Option<Self::Id>)
         requires { has self.old id }
         ensures set { next_of self.new id ≡ next }
@@ -29,7 +29,7 @@ pub trait Links<K> {
         ensures has { (other : Self.Id) → has self.old other → has self.new other }
         ensures beside { beside self.old self.new };
 
-    /// Where nothing changed, all is as it was.
+    /// If nothing changed, all is as it was.
     ghost beside_same: { (a : Self) → beside a a };
 
     /// What stayed twice has stayed.

@@ -5,10 +5,10 @@ ghost use Rattle.pc_chain.specs.Stacks.{IsStack, TakesOut};
 
 use crate::links::Links;
 
-/// A list of ids, each linked to the one behind it, that is entered at its front. It has its first id alone, half of what a
+/// A list of ids, each linked to the one after it, that is entered at its front. It has its first id alone, half of what a
 /// chain has; an id that is taken out is looked for from the front. As with a chain the links are kept by whoever is given at
-/// each call, several stacks and chains may stand over the same word as long as no id is in two of them, and whatever else the
-/// keeper has stays. No call takes memory, and each succeeds.
+/// each call, several stacks and chains may share a word as long as no id is in two of them, and whatever else the keeper has
+/// stays. No call takes memory, and each succeeds.
 #[derive(Clone, Copy)]
 pub struct Stack<I> {
     first: Option<I>,
@@ -63,7 +63,7 @@ impl<I: Copy + PartialEq> Stack<I> {
         }
     }
 
-    // The id before this one, which is in the list; None where it is the first.
+    // The id before this one, which is in the list; `None` if it is the first.
     fn before<K, L: Links<K, Id = I>>(&self, links: &L, id: I) -> Option<I>
         requires told { (x y : I) → IsTrue (I.eq x y) ↔ (x ≡ y) }
         requires stands { (before rest : List I) × IsStack (L.has links.now) (L.next_of links.now) self.now (before ++ id ∷ rest) × (length (before ++ id ∷ rest) < 2 ^ 64) }

@@ -26,7 +26,7 @@ hand_files hand = together (map files_of hand.pairs.items)
 abbrev pub dealt_files : {G : Type 0} → List (Dealt G) → List File
 dealt_files hands = together (map hand_files hands)
 
--- the files become others that are worth them, or there is a cause why not
+-- the files become others that represent them, or there is a cause why not
 abbrev pub Become : List File → Result (Vec File Global) Refusal → Type 0
 Become files result = MatchResult result (λ left. AreWorth files left.items) (IsCauseFor files)
 

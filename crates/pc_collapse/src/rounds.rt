@@ -17,11 +17,11 @@ use std::thread;
 use std::thread::Threads;
 
 /// The join of all the parts, as `fold` gives it, in rounds, by 1 to 64 collapsers: in each round the neighbours (1, 2),
-/// (3, 4), .. are dealt to the collapsers in turn, each on a thread of its own, which joins its pairs one after the other
-/// and passes `Pair` with its number (from 0) at the gate before each; an odd last file goes on unchanged. What the
-/// collapsers give back, those of the first one first, are the files of the next round. The work of a thread that can't be
-/// started is done by the caller. The parts stay as they are; none of them is copied, unless it is the only one. The result
-/// is the same for every number of collapsers. Refuses as `fold` does.
+/// (3, 4), .. are dealt to the collapsers in turn, each on a thread of its own, which joins its pairs in order and passes
+/// `Pair` with its number (from 0) at the gate before each; an odd last file goes on unchanged. What the collapsers give
+/// back, those of the first one first, are the files of the next round. The work of a thread that can't be started is done
+/// by the caller. The parts stay as they are; none of them is copied, unless it is the only one. The result is the same for
+/// every number of collapsers. Refuses as `fold` does.
 pub fn collapse_rounds<E: Gate + Sync, R: Threads + Wait + Sync>(
     rt: &R,
     alloc: Global,
@@ -51,8 +51,8 @@ pub fn collapse_rounds_owned<E: Gate + Sync, R: Threads + Wait + Sync>(
     rounds::<Brand, E, R>(rt, alloc, &[], parts, workers, gate)
 }
 
-// The join of parts that are lent and others that are handed over. Each round halves them, so that there are no more rounds
-// than bits in their number.
+// The join of parts that are borrowed and others that are handed over. Each round halves them, so that there are no more
+// rounds than bits in their number.
 fn rounds<G: Given + Send + Sync, E: Gate + Sync, R: Threads + Wait + Sync>(
     rt: &R,
     alloc: Global,
@@ -129,7 +129,7 @@ fn deal<G: Given>(
     Ok(all)
 }
 
-// So many collapsers, to which nothing has been dealt.
+// The given number of collapsers, to which nothing has been dealt.
 fn empty_hands<G: Given>(alloc: Global, workers: u8) -> Result<Vec<Dealt<G>>, AllocError>
     ensures len { IfOk result (λ all. vec_len all ≡ workers) }
     ensures none { IfOk result (λ all. dealt_files all.items ≡ []) }
@@ -142,7 +142,7 @@ fn empty_hands<G: Given>(alloc: Global, workers: u8) -> Result<Vec<Dealt<G>>, Al
     Ok(all)
 }
 
-// Gives the neighbours to the collapser of this number.
+// Returns the neighbours to the collapser of this number.
 fn give<G: Given>(
     all: &mut [Dealt<G>],
     number: usize,

@@ -1,4 +1,4 @@
-//! The rule of the bag: what it and the collapsers' hands hold together is worth the given files.
+//! The rule of the bag: the files in it and in the collapsers' hands together represent the given files.
 use crate::piece::{Given, Piece};
 use crossbeam_queue::RuledArrayQueue;
 use crossbeam_queue::protocol::{Join, Lesson, Outcome, Protocol, Split};
@@ -25,7 +25,7 @@ impl<G: Given> Protocol<Piece<G>, Hand> for InBag<G> {
     ghost first = { hand all_parts G.files };
 }
 
-// A collapser gets its hand, and gives it back.
+// A collapser gets its hand, and returns it back.
 pub(crate) struct Shares;
 
 impl Split<Hand> for Shares {

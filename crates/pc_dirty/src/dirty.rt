@@ -70,7 +70,7 @@ impl Dirty {
         self.closed.contains(links, SideSlot { slot, side })
     }
 
-    /// Adds a slot at the end of the open set; where the set has it, all stays as it is. It looks for the slot along the set
+    /// Adds a slot at the end of the open set; if the set has it, all stays as it is. It looks for the slot along the set
     /// (`in_open`); `add_new` doesn't.
     pub fn add<K, L: Links<K, Id = SideSlot>>(&mut self, links: &mut L, slot: SlotId)
         requires has { L.has links.old (place_of self.old.side slot) }
@@ -114,7 +114,7 @@ impl Dirty {
         self.side = self.side.other();
     }
 
-    /// The first slot of the closed set; None where the set is empty.
+    /// The first slot of the closed set; `None` if the set is empty.
     pub fn first_closed<K, L: Links<K, Id = SideSlot>>(&self, links: &L) -> Option<SlotId>
         ensures { (opened closed : List ℕ) → AreSets (L.has links.now) (L.next_of links.now) self.now opened closed → result ≡ first_of closed }
     {
@@ -122,7 +122,7 @@ impl Dirty {
         Some(place.slot)
     }
 
-    /// Takes the first slot out of the closed set and gives it; None where the set is empty. No link changes.
+    /// Takes the first slot out of the closed set and returns it; `None` if the set is empty. No link changes.
     pub fn pop_closed<K, L: Links<K, Id = SideSlot>>(&mut self, links: &L) -> Option<SlotId>
         requires { (opened closed : List ℕ) × AreSets (L.has links.now) (L.next_of links.now) self.old opened closed }
         ensures given { (opened closed : List ℕ) → AreSets (L.has links.now) (L.next_of links.now) self.old opened closed → result ≡ first_of closed }

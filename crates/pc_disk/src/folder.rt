@@ -38,7 +38,7 @@ pub struct ReadFolder<'a> {
     pub causes: &'a Causes,
 }
 
-/// What the folder has for recovery. It is an error only where memory ran out.
+/// What the folder has for recovery. It is an error only if an allocation failed.
 pub fn open_folder<'a>(dir: ReadFolder<'a>) -> Result<FoundFolder<'a>, AllocError> {
     let mut unopened = Vec::new(dir.rt.alloc());
     let base = open_named(dir, BASE)?;
@@ -144,8 +144,8 @@ fn late_files<'a>(
     Ok(files)
 }
 
-// Whether what has a part's name is none: a folder; or a pipe, a socket or a device, also where a link leads to it, which might be
-// read for ever.
+// Whether what has a part's name is none: a folder; or a pipe, a socket or a device, also if a link leads to it, which might be read
+// for ever.
 fn is_passed_by(rt: &HostRuntime, path: &str) -> bool {
     if let Ok(found) = fs::symlink_metadata(rt, path) {
         if found.is_dir() {

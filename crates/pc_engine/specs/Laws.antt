@@ -1,4 +1,4 @@
--- What holds of every world that stands after a history, whatever calls led there.
+-- The laws of every world that represents a history, whatever calls led there.
 use Rattle.std.specs.Prelude.{ℕ, List}
 use Rattle.pc_model.specs.History.{History}
 use Rattle.pc_model.specs.Queues.{IsLegalQueue}

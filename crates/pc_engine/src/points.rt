@@ -15,7 +15,7 @@ use pc_types::{FileNo, Key, MOST_FILES, Phase, Refusal, Reply, Value};
 use std::alloc::{AllocError, Global};
 
 impl World {
-    // The phase changes by this word of the checkpointer, and its token is logged, once nothing holds that back. Behind the seal
+    // The phase changes by this word of the checkpointer, and its token is logged, once nothing holds that back. After the seal
     // nothing was taken yet.
     pub(crate) fn advance(&mut self, change: Change) -> Reply
         requires { LeavesShelf change }

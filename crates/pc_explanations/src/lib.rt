@@ -1,4 +1,5 @@
-//! What is told behind the line of a fault: the file, what was done with it, the place in it, and what the system said.
+//! The explanation after the line of a fault: the file, what was done with it, the place in it, and what the system
+//! said.
 #![tactic(auto)]
 
 mod damage;

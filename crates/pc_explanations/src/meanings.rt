@@ -1,4 +1,4 @@
-//! What the words mean by which a fault is told.
+//! The meanings of the words that report faults.
 
 /// What the word means, as the end of a sentence about a file or a call; none of a word that tells of the system alone.
 pub fn meaning_of(word: &[u8]) -> Option<&'static [u8]> {

@@ -18,13 +18,13 @@ pub enum TextKind {
 pub struct TextFault {
     /// What the bytes are refused with.
     pub why: Refusal,
-    /// With the last of so many bytes the fault is seen: fewer are only too few. It is the number of all bytes where they are too
-    /// few, and where a text has ended before the last of them it is that of the text's bytes.
+    /// The number of bytes with whose last one the fault is seen: fewer are only too few. It is the number of all bytes if they are
+    /// too few, and if a text has ended before the last of them it is that of the text's bytes.
     pub bytes: usize,
 }
 
-/// The fault that the bytes are refused with, read as a text of this kind, and where it is seen; none where they are such a text. It
-/// reads the text once for each time that the number of its bytes can be halved. It is an error only where memory ran out.
+/// The fault that the bytes are refused with, read as a text of this kind, and where it is seen; `None` if they are such a text. It
+/// reads the text once for each time that the number of its bytes can be halved. It is an error only if an allocation failed.
 pub fn locate(alloc: Global, kind: TextKind, bytes: &[u8]) -> Result<Option<TextFault>, AllocError>
     ensures { IfOk result (λ found. MatchOption found (fault_at kind bytes.now ≡ None) (λ fault. IsFaultOf kind bytes.now fault.bytes fault.why)) }
 {

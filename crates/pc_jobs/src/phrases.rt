@@ -11,12 +11,12 @@ use pc_lines::{
 use pc_types::{Key, MOST_SESSIONS, Refusal, SessionNo, Value};
 use std::alloc::Global;
 
-/// What a line of a workload spells by itself, wherever it stands.
+/// The meaning of a line of a workload by itself, wherever it is.
 #[derive(Drop)]
 pub enum Phrase {
     /// No words, or a `#` first: it says nothing.
     Silent,
-    /// So many points are to be taken, 0 to 1,000.
+    /// The number of points to take, 0 to 1,000.
     Points(u32),
     /// What follows is the work of this session, 1 to 64.
     Client(SessionNo),
@@ -32,10 +32,10 @@ pub enum Phrase {
     Malformed,
 }
 
-/// A workload asks for at most so many points.
+/// The most points that a workload asks for.
 pub const MOST_RUN_POINTS: u32 = 1_000;
 
-/// A fill has at least one transaction, and at most so many.
+/// The most transactions of a fill, which has at least one.
 pub const MOST_FILL: u32 = 1_000_000;
 
 /// What the line, without its end, spells. Refuses only with `OutOfMemory`.
@@ -202,7 +202,7 @@ fn fill_line(alloc: Global, prefix: &[u8], count: &[u8], value: &[u8]) -> Result
     }
 }
 
-// The number that a word writes, where it is within the limits.
+// The number that a word writes, if it is within the limits.
 fn number_within(least: u32, most: u32, word: &[u8]) -> Option<u32>
     ensures { result ≡ number_within least most word.now }
 {

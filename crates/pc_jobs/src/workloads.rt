@@ -14,7 +14,7 @@ use bstr::ByteSlice;
 use pc_types::{Items, Refusal, SessionNo};
 use std::alloc::{AllocError, Global};
 
-/// What the text of a workload is worth.
+/// The meaning of the text of a workload.
 #[derive(Drop)]
 pub enum WorkloadReading {
     /// No line is bad: this is to be run.
@@ -106,7 +106,7 @@ fn first_bad(lines: &[Phrase]) -> Option<usize>
     None
 }
 
-// Whether a line is bad, by what stands before it and behind it.
+// Whether a line is bad, by the lines before it and after it.
 fn is_bad(seen: Seen, before: &[Phrase], line: &Phrase, behind: &[Phrase]) -> bool
     requires { seen ≡ seen_in before.now }
     ensures { result ≡ is_bad before.now line.now behind.now }
@@ -137,7 +137,7 @@ fn is_client_of(session: SessionNo, line: &Phrase) -> bool
     }
 }
 
-// Whether a transaction is ended by the lines behind its begin, or comes to a line that is bad by itself.
+// Whether a transaction is ended by the lines after its begin, or comes to a line that is bad by itself.
 fn closes(lines: &[Phrase]) -> bool
     ensures { result ≡ closes lines.now }
 {
@@ -149,7 +149,7 @@ fn closes(lines: &[Phrase]) -> bool
     false
 }
 
-// What is told by a line: nothing within a transaction.
+// The item of a line: none within a transaction.
 fn closing(line: &Phrase) -> Option<bool>
     ensures { result ≡ closing line.now }
 {
@@ -160,7 +160,7 @@ fn closing(line: &Phrase) -> Option<bool>
     }
 }
 
-// What was gathered of the lines behind one, the last first.
+// What was gathered of the lines after one, the last first.
 #[derive(Drop)]
 struct Gathered {
     points: u32,

@@ -11,7 +11,7 @@ pub enum Op {
     Put(Key, Value),
     /// Removes the key.
     Del(Key),
-    /// Adds this to the number that the key has, or to 0 where it has no value.
+    /// Adds this to the number that the key has, or to 0 if it has no value.
     Add(Key, i64),
 }
 
@@ -21,7 +21,7 @@ pub struct Job {
     pub ops: Items<Op>,
 }
 
-/// Many transactions, each of which sets one key to the same value. The keys are the prefix with the numbers from 0 behind it,
+/// Many transactions, each of which sets one key to the same value. The keys are the prefix with the numbers from 0 after it,
 /// in six digits.
 #[derive(Drop)]
 pub struct Fill {

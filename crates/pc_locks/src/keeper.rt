@@ -11,10 +11,10 @@ pub trait QueueEnds<K> {
     /// The slot has ends here.
     ghost has: { Self → ℕ → Type 0 };
 
-    /// The ends of the slot's queue; where the slot has none here, those of an empty one.
+    /// The ends of the slot's queue; if the slot has none here, those of an empty one.
     ghost ends_of: { Self → ℕ → Chain ℕ };
 
-    /// All that the first keeps beside ends is in the second as it was, and the same slots have ends.
+    /// All that the first keeps besides ends is in the second as it was, and the same slots have ends.
     ghost beside: { Self → Self → Type 0 };
 
     /// The ends of the slot's queue.
@@ -30,12 +30,12 @@ pub trait QueueEnds<K> {
         ensures others { (other : ℕ) → other ≢ slot → ends_of self.new other ≡ ends_of self.old other }
         ensures beside { beside self.old self.new };
 
-    /// Where nothing changed, all is as it was.
+    /// If nothing changed, all is as it was.
     ghost beside_same: { (a : Self) → beside a a };
 
     /// What stayed twice has stayed.
     ghost beside_then: { (a b c : Self) → beside a b → beside b c → beside a c };
 
-    /// Where all beside them stayed, the same slots have ends.
+    /// If everything besides them stayed, the same slots have ends.
     ghost beside_has: { (a b : Self) (slot : ℕ) → beside a b → has a slot ↔ has b slot };
 }

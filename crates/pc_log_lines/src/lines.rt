@@ -128,7 +128,7 @@ fn put_later<W: io::Write>(out: &mut Tally<W>, writes: &[Write]) -> Result<(), R
     Ok(())
 }
 
-// A write, and what stands before it.
+// A write, and the text before it.
 fn put_write<W: io::Write>(out: &mut Tally<W>, before: &[u8], write: &Write) -> Result<(), Refusal>
     ensures { Puts W.contents out.old out.new result (before.now ++ write_words write.now) }
 {

@@ -11,7 +11,7 @@ pub fn given_grows()
     ensures { GivenGrows }
 {}
 
-/// A cause of a refusal that stands by what is left of inputs stands by the inputs.
+/// A cause of a refusal that follows from what is left of inputs follows from the inputs.
 pub fn causes_stand()
     ensures { CausesStand }
 {}

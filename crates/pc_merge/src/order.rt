@@ -13,7 +13,7 @@ pub(crate) fn compare(one: &EntryText, other: &EntryText) -> Ordering
     one.key().cmp(&other.key())
 }
 
-// Whether the key of the one entry is less than that of the other: as their heads are where they differ, and else by the keys.
+// Whether the key of the one entry is less than that of the other: as their heads are if they differ, and else by the keys.
 #[inline(always)]
 #[tactic(auto, using(pc_part::proofs::LentLaws::heads_tell))]
 pub(crate) fn precedes(one: &EntryText, other: &EntryText) -> bool

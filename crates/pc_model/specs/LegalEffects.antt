@@ -18,7 +18,7 @@ use Rattle.pc_model.specs.Files.{numbers_to}
 abbrev pub some_active : Setting → History → Bool
 some_active st history = list_any (λ s. is_open s history) (numbers_to st.sessions)
 
--- a legal change of the phase: which phase stood before, and the point
+-- a legal change of the phase: the phase before, and the point
 abbrev pub FitsMove : History → Phase → ℕ → Type 0
 FitsMove h Rest n = (phase_of h ≡ Complete) × (n ≡ point_of h)
 FitsMove h Prepare n = (phase_of h ≡ Rest) × (n ≡ point_of h + 1)

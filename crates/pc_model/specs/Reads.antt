@@ -19,7 +19,7 @@ abbrev pub HasReadFrom : Database → ℕ → History → Type 0
 HasReadFrom db s [] = ⊤
 HasReadFrom db s (step ∷ history) = ReadBy s db (effect step) history (HasReadFrom db s history)
 
--- where this effect is a commit, its transaction has read from and added to the database right before it
+-- if this effect is a commit, its transaction has read from and added to the database right before it
 abbrev pub RightBy : Database → Effect → History → Type 0
 RightBy base (Commits s) history = HasReadFrom (contents base history) s history
 RightBy base other history = ⊤

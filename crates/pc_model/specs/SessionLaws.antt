@@ -24,15 +24,15 @@ abbrev pub HasNoJoins : History → Type 0
 HasNoJoins [] = ⊤
 HasNoJoins (step ∷ history) = IsNoJoin step.event × HasNoJoins history
 
--- A beginning of a legal history is legal.
+-- A prefix of a legal history is legal.
 abbrev pub BeginningsAreLegal : Type 0
 BeginningsAreLegal = (st : Setting) (early late : History) → IsLegalHistory st late → IsBeginning early late → IsLegalHistory st early
 
--- What a session has written is told by its own calls.
+-- A session's own calls determine what it has written.
 abbrev pub WritesAreOwnCalls : Type 0
 WritesAreOwnCalls = (s : ℕ) (history : History) → writes_of s (calls_of s history) ≡ writes_of s history
 
--- What a session keeps is told by its own calls.
+-- A session's own calls determine what it keeps.
 abbrev pub OwnIsOfOwnCalls : Type 0
 OwnIsOfOwnCalls = (s : ℕ) (history : History) → own_of s (calls_of s history) ≡ own_of s history
 
@@ -48,11 +48,11 @@ ReceiptsAreExact = (st : Setting) (s : ℕ) (history : History) → IsLegalHisto
 abbrev pub LegalRepliesFit : Type 0
 LegalRepliesFit = (st : Setting) (history : History) (event : Event) (reply : Reply) → IsLegal st history event reply → IsReplyTo event reply
 
--- The log of a beginning is a beginning of the log.
+-- The log of a beginning is a prefix of the log.
 abbrev pub LogsGrow : Type 0
 LogsGrow = (early late : History) → IsBeginning early late → (more : List Entry) × (log_of late ≡ log_of early ++ more)
 
--- What is the file of its points by a beginning of a legal history is so by all of it.
+-- What is the file of its points by a prefix of a legal history is so by all of it.
 abbrev pub FilesStay : Type 0
 FilesStay = (st : Setting) (early late : History) (file : File) → IsLegalHistory st late → IsBeginning early late →
     IsOfItsPoints st.run st.base (log_of early) file → IsOfItsPoints st.run st.base (log_of late) file

@@ -41,6 +41,6 @@ module _ (well : FilesFoldWell) (are_right : FilesOfTheirPointsAreRight) (st : S
       let of = of_all well base log some is.collapsed parts is.folded in
       record { collapsed = is.collapsed; of_all = of; summary = is.summary; right = is.right.1 (right_with some is.collapsed of) }
 
-  -- where some of the files were folded
+  -- if some of the files were folded
   pub legacy_of : (n : ℕ) (left : StoreReport) → IsStoreReport base log files (drop n files) left → IsLegacy base log (drop n files) left
   legacy_of n left = legacy (drop n files) left (All-drop (IsOfItsPoints base.run base.pairs log) n files worth)

@@ -36,7 +36,7 @@ written_more keys (Commit s ws ∷ log) few =
     omega (arith, own, one, rest)
 written_more keys (Token phase point ∷ log) few = let rest = written_more keys log (All-tail HasFewWrites (Token phase point) log few) in omega (arith, rest)
 
--- and fewer where one of them is a token
+-- and fewer if one of them is a token
 pub token_writes_none : (n : ℕ) (keys : List (List ℕ)) (log : List Entry) → All HasFewWrites log → has_token n log ≡ true → length (with_written keys log) + MOST_WRITES ≤ length keys + MOST_WRITES * length log
 token_writes_none n keys [] few there = absurd (let bad : false ≡ true = there in cc)
 token_writes_none n keys (Commit s ws ∷ log) few there =

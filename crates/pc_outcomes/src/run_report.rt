@@ -24,7 +24,7 @@ pub struct RunReport {
 /// What a closed store left.
 #[derive(Drop)]
 pub struct StoreReport {
-    /// The file of all points, where there are any.
+    /// The file of all points, if there are any.
     pub collapsed: Option<Collapsed>,
     /// Whether each file of all points from the first on is right by the log.
     pub is_right: bool,
@@ -33,11 +33,11 @@ pub struct StoreReport {
 /// The file of all points.
 #[derive(Drop)]
 pub struct Collapsed {
-    /// Its points, which rise.
+    /// Its points, which ascend.
     pub points: Items<Point>,
     /// How many entries it has.
     pub entries: u64,
-    /// How many pairs the base has with the file laid on it.
+    /// How many pairs the base has with the file applied to it.
     pub pairs: usize,
 }
 

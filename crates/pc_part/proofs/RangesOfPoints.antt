@@ -25,7 +25,7 @@ pub by_recursion : {X : Type 0} (P : X → Type 0) (xs : List X) → All P xs �
 by_recursion P [] h = tt
 by_recursion P (x ∷ xs) h = (h 0 x (omega arith), by_recursion P xs (λ k d lt. h (suc k) d (omega (arith, lt))))
 
--- points that rise from this one on, up to 65,535
+-- points that ascend from this one on, up to 65,535
 abbrev PointsFrom : ℕ → List ℕ → Type 0
 PointsFrom least [] = Unit {0}
 PointsFrom least (p ∷ points) = (least ≤ p) × (p ≤ 65535) × PointsFrom (p + 1) points

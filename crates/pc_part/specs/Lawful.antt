@@ -28,7 +28,7 @@ pub record IsPartEntry (points : Set number_order) (entry : List ℕ × AtPoint)
 abbrev pub HasLimits : Triple → Type 0
 HasLimits triple = IsKey triple.key × IfSome triple.content IsValue
 
--- a part file: its run fits, it stands for at least one point, and it has at most 4,294,967,295 entries
+-- a part file: its run is within the limits, it covers at least one point, and it has at most 4,294,967,295 entries
 pub record IsPartFile (file : File) : Type 0 where
   pub run : file.run < 2 ^ 64
   pub some : 1 ≤ set.len file.points

@@ -89,7 +89,7 @@ impl Counts {
         }
     }
 
-    /// The session's transaction was refused for this; where it is given up before a further one begins, that is the cause.
+    /// The session's transaction was refused for this; if it is given up before a further one begins, that is the cause.
     pub fn note_refusal(&self, session: SessionNo, why: Refusal) {
         self.causes.note_refusal(session, why);
     }
@@ -111,7 +111,7 @@ impl Counts {
         }
     }
 
-    // The session's client waits for the log: where no transaction is open, from now on.
+    // The session's client waits for the log: if no transaction is open, from now on.
     fn fall_behind(&self, session: SessionNo, now: u64) {
         if let Some(passed) = self.passed.get(session.0 as usize) {
             let _ = passed.compare_exchange(0, now, Ordering::SeqCst, Ordering::SeqCst);
@@ -159,7 +159,7 @@ impl Counts {
         }
     }
 
-    /// How long ago the run has begun; none where it has not.
+    /// How long ago the run has begun; `None` if it has not.
     pub fn age(&self, now: u64) -> Option<u64> {
         match self.begun.load(Ordering::SeqCst) {
             0 => None,
@@ -167,7 +167,7 @@ impl Counts {
         }
     }
 
-    /// How long the run took, from its first place to the last commit, change of the phase or writing of the log; none where it
+    /// How long the run took, from its first place to the last commit, change of the phase or writing of the log; `None` if it
     /// passed no place.
     pub fn length(&self) -> Option<u64> {
         let begun = self.begun.load(Ordering::SeqCst);

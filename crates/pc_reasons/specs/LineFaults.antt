@@ -42,7 +42,7 @@ first_of None other = other
 abbrev pub pair_fault : WordKind → WordKind → List ℕ → List ℕ → Option LineFault
 pair_fault first second word other = first_of (word_fault place.Second first word) (word_fault place.Third second other)
 
--- the fault of the words behind a command that takes none
+-- the fault of the words after a command that takes none
 abbrev pub no_word : List (List ℕ) → Option LineFault
 no_word [] = None
 no_word words = Some line.TooManyWords
@@ -72,7 +72,7 @@ three_words first second third words = Some line.TooManyWords
 abbrev pub ends_with_cr : List ℕ → Bool
 ends_with_cr line = slice_index line (length line - 1) == 13
 
--- what is told of a line with this fault: of one that ends with a CR, that
+-- the reason for a line with this fault: for one that ends with a CR, that
 abbrev pub told_of : List ℕ → Option LineFault → Option LineFault
 told_of text None = None
 told_of text (Some fault) = if ends_with_cr text then Some line.CarriageReturn else Some fault

@@ -1,4 +1,4 @@
-//! What is wrong with a line by itself, and how it is told.
+//! What is wrong with a line by itself, and its reason in words.
 ghost use Rattle.std.specs.Prelude.{◌≡◌, ◌++◌, codes};
 ghost use Rattle.pc_types.specs.Tallies.{Puts};
 ghost use Rattle.pc_reasons.specs.Sentences.{place_name, kind_name, fault_sentence};
@@ -6,7 +6,7 @@ ghost use Rattle.pc_reasons.specs.Sentences.{place_name, kind_name, fault_senten
 use pc_types::{Refusal, Tally};
 use std::io::Write;
 
-/// The place of a word in its line, behind the first.
+/// The place of a word in its line, after the first.
 #[derive(Clone, Copy, Debug, PartialEq, Eq)]
 pub enum WordPlace {
     Second,
@@ -41,7 +41,7 @@ pub enum WordKind {
     FillCount,
 }
 
-/// What is wrong with a line, wherever it stands.
+/// What is wrong with a line, wherever it is.
 #[derive(Clone, Copy, Debug, PartialEq, Eq)]
 pub enum LineFault {
     /// Its first word names no command.
@@ -57,7 +57,7 @@ pub enum LineFault {
 }
 
 impl LineFault {
-    /// Writes it in words. `Device` is answered exactly where the writer failed in this call.
+    /// Writes it in words. Returns `Device` if and only if the writer failed in this call.
     pub fn put<W: Write>(&self, out: &mut Tally<W>) -> Result<(), Refusal>
         ensures { Puts W.contents out.old out.new result (fault_sentence self.now) }
     {

@@ -21,7 +21,7 @@ pub struct BadLine {
     pub fault: LineFault,
 }
 
-/// The faults of at most so many lines are told.
+/// The most lines whose faults are reported.
 pub const MOST_TOLD: usize = 20;
 
 /// Tells of the first 20 lines, and how many more there are.
@@ -65,7 +65,7 @@ fn put_bad_line<W: Write>(name: &[u8], line: &BadLine, out: &mut Tally<W>) -> Re
     put_fault_line(line.fault, out)
 }
 
-/// The name of the file and the number of the line, and what stands before the reason.
+/// The name of the file and the number of the line, and the text before the reason.
 pub(crate) fn put_place<W: Write>(
     name: &[u8],
     number: usize,

@@ -1,4 +1,4 @@
--- What the records of keys are seen as: rows that rise by key, each with what is kept of the key.
+-- What the records of keys are seen as: rows that ascend by key, each with what is kept of the key.
 use Rattle.std.specs.Prelude.{ℕ, ◌||◌, not, Bool, false, List, [], Option, Some, None, is_some}
 use Rattle.std.specs.FinMap.{find}
 use Rattle.pc_model.specs.Database.{key_cmp}
@@ -19,7 +19,7 @@ pub record Record : Type 0 where
 abbrev pub Row : Type 0
 Row = List ℕ × Record
 
--- the records, rising by key, and how many there may be
+-- the records, ascending by key, and how many there may be
 pub record Kept : Type 0 where
   pub capacity : ℕ
   pub rows : List Row

@@ -24,9 +24,9 @@ pub record WorldCameBack (w : Store) (base : List ℕ) (parts : List (List ℕ))
   pub base_fits : IsBaseFile w.base
   pub parts_are : All (λ bytes. IsTextOfShelf w.shelf bytes ⊎ IsForeign w.base.run bytes) parts
 
--- Any beginning of the log of a world that stands after a history, in a format that has its text, is recovered from, with whatever
--- of its files came back: what is recovered is the database after the first entries, as far as those that are whole go, or the
--- recovered point's token where that is further.
+-- Any prefix of the log of a world that represents a history, in a format that has its text, is recovered from, with whatever of
+-- its files came back: what is recovered is the database after the first entries, as far as those that are whole go, or the
+-- recovered point's token if that is further.
 abbrev pub EveryCutOfAWorldIsRecovered : Type 0
 EveryCutOfAWorldIsRecovered =
     (format : Format) (w : Store) (history : History) (base : List ℕ) (parts : List (List ℕ)) (c : ℕ) → Stands w history → HasLog format w.log → WorldCameBack w base parts →

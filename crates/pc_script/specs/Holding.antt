@@ -35,6 +35,6 @@ abbrev pub IsSaid : Setup → Made → Line → Made → (List ℕ → Type 0) �
 IsSaid setup old l new Known =
     (stage : ScriptStage) → StageHolds setup old stage → (said : LineAnswer) × (next : ScriptStage) × StageHolds setup new next × AnswersAtStage setup stage l said next × Known (answer_text said)
 
--- the same where the text didn't go out whole
+-- the same if the text didn't go out whole
 abbrev pub IsSaidInPart : Setup → Made → Line → (List ℕ → Type 0) → Type 0
 IsSaidInPart setup old l Known = (stage : ScriptStage) → StageHolds setup old stage → (said : LineAnswer) × (next : ScriptStage) × AnswersAtStage setup stage l said next × Known (answer_text said)

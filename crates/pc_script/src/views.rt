@@ -31,7 +31,7 @@ pub(crate) fn answer_view(alloc: Global, world: &World, view: View) -> LineAnswe
     }
 }
 
-// The base with the file laid on it.
+// The base with the file applied to it.
 fn shown_state(alloc: Global, base: &Base, file: &Part) -> LineAnswer
     ensures { ShowsState base.now result file.now }
 {

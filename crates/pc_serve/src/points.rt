@@ -7,7 +7,7 @@ use pc_types::{Point, Refusal, Tally};
 use std::fs::File;
 use std::io::{BufWriter, Write};
 
-/// How many bytes of a file are written at once.
+/// How many bytes of a file are written at a time.
 const ROOM: usize = 65_536;
 
 /// The folder of a generation, in which each point has a file, which has its name once it is whole.

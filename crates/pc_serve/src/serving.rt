@@ -30,7 +30,7 @@ use std::string::String;
 /// The status of a process that failed before its input ended.
 const FAILED: u8 = 1;
 
-/// How many bytes of lines are read at once at most, so that a turn has no more.
+/// How many bytes of lines are read at most at a time, so that a turn has no more.
 const ROOM: usize = 65_536;
 
 /// The greatest number of a run that is drawn.
@@ -62,7 +62,7 @@ pub fn serve_folder<'a>(rt: &'a HostRuntime, options: &'a ServeOptions<'a>) -> i
 struct Drawn {
     // The seed of the hashes of its stores.
     seed: RandomState,
-    // The number of the run of a first generation; it is drawn where none was asked for.
+    // The number of the run of a first generation; it is drawn if none was asked for.
     run: u32,
 }
 
@@ -108,7 +108,7 @@ pub struct Store<'a> {
     pub options: &'a ServeOptions<'a>,
     drawn: Drawn,
     latest: Option<u32>,
-    // The folder from whose state it starts; its path is empty where there is none.
+    // The folder from whose state it starts; its path is empty if there is none.
     from: &'a RecoveredFolder,
 }
 
@@ -140,7 +140,7 @@ fn serve_told<'a>(store: Store<'a>) -> io::Result<u8> {
 }
 
 // The folder from whose state the store starts: that of the generation that counts, or else the one that is imported; without a path
-// where there is neither.
+// if there is neither.
 fn start_of(
     dir: ReadFolder<'_>,
     options: &ServeOptions<'_>,
@@ -206,7 +206,7 @@ fn serve_from<E: Write>(store: &Store<'_>, errors: &mut Tally<E>) -> io::Result<
     }
 }
 
-// The base from which the store starts: what the folder is worth from whose state it does, or no pairs.
+// The base from which the store starts: the state recovered from the given folder, or no pairs.
 fn base_of<'a, E: Write>(
     store: &Store<'a>,
     errors: &mut Tally<E>,
@@ -231,7 +231,7 @@ fn base_of<'a, E: Write>(
     recover_base(alloc, folder, store.options.accepts_damage, errors)
 }
 
-/// Opens a store over its base, and begins the generation behind the one that counts.
+/// Opens a store over its base, and begins the generation after the one that counts.
 pub fn open(store: &Store<'_>, latest: Option<u32>, base: Base) -> Result<OpenedStore, Refusal>
     requires { base.point ≡ 0 }
     ensures { IfOk result (λ opened. Stands opened.world []) }

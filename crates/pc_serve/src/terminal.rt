@@ -13,10 +13,10 @@ use std::alloc::Global;
 use std::io;
 use std::io::{IsTerminal, Read, Write};
 
-/// What stands on standard error before each line that is typed.
+/// The prompt on standard error before each line that is typed.
 const PROMPT: &[u8] = b"> ";
 
-/// Standard input. Where it is a terminal a prompt stands on standard error before each line, and behind a bad line why it is one;
+/// Standard input. If it is a terminal a prompt is printed on standard error before each line, and after a bad line why it is one;
 /// else nothing does.
 #[derive(Drop)]
 pub struct Typed<'a, R> {
@@ -38,7 +38,7 @@ impl<'a, R> Typed<'a, R> {
         }
     }
 
-    // Shows the prompt, where a line begins, and before it why the last one is bad, if it is. All of its answers were sent before.
+    // Shows the prompt, when a line begins, and before it why the last one is bad, if it is. All of its answers were sent before.
     fn prompt(&mut self) {
         if !self.line.is_empty() && self.line.last() != Some(&b'\n') {
             return;

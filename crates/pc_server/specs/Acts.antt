@@ -42,7 +42,7 @@ commits_in [] = 0
 commits_in (Commit session writes ∷ log) = commits_in log + 1
 commits_in (Token phase point ∷ log) = commits_in log
 
--- how many bytes the log's text has, or the greatest number of 64 bits, where it has more
+-- how many bytes the log's text has, or the greatest number of 64 bits, if it has more
 abbrev pub log_size : ℕ → List Entry → ℕ
 log_size run log = min (length (log_text run log)) (2 ^ 64 - 1)
 
@@ -66,7 +66,7 @@ AnswersRequest st before request.Run text after = (text ≡ run_line st.run) × 
 AnswersRequest st before request.Stats text after = (text ≡ stats_of st before) × (after ≡ before)
 AnswersRequest st before request.Quit text after = (text ≡ []) × (after ≡ before)
 
--- the acts, of which the last stands first, lead from the one history to the other
+-- the acts, of which the last comes first, lead from the one history to the other
 abbrev pub Lead : Setting → History → List Act → History → Type 0
 Lead st before [] after = after ≡ before
 Lead st before (Answered line text ∷ acts) after = (between : History) × Lead st before acts between × AnswersRequest st between (request_of line) text after

@@ -21,7 +21,7 @@ use Rattle.pc_server.specs.Inputs.{AreFirstLines}
 abbrev pub committed_line : ℕ → List ℕ
 committed_line number = reply_text (told.Committed number) ++ codes "\n"
 
--- that line went out whole: behind the answers of some first acts the bytes that were sent go on with it
+-- that line went out whole: after the answers of some first acts the bytes that were sent go on with it
 abbrev pub IsAnswered : List Act → List ℕ → ℕ → Type 0
 IsAnswered acts sent number = (later earlier : List Act) × (rest : List ℕ) × (acts ≡ later ++ earlier) × (sent ≡ answers_of earlier ++ (committed_line number ++ rest))
 

@@ -38,7 +38,7 @@ AreAllLines (Some text) lines = whole_lines text ≡ lines
 abbrev pub AskForEnd : List (List ℕ) → Type 0
 AskForEnd lines = (front : List (List ℕ)) × (line : List ℕ) × (lines ≡ front ++ line ∷ []) × (is_quit (request_of line) ≡ true)
 
--- nothing more is to be answered behind these lines of the input
+-- nothing more is to be answered after these lines of the input
 abbrev pub IsEnd : Option (List ℕ) → List (List ℕ) → Type 0
 IsEnd input lines = AreFirstLines input lines × (AreAllLines input lines ⊎ AskForEnd lines)
 
@@ -76,7 +76,7 @@ abbrev pub ServesLine : {T U : Type 0} → (T → Option (List ℕ)) → (T → 
 ServesLine written keeps contents log out input st lag left files service true = ServesOn written keeps contents log out input st lag left files service
 ServesLine written keeps contents log out input st lag left files service false = HasServed written keeps contents log out input st lag files service
 
--- what is left where no more lines are answered
+-- what is left if no more lines are answered
 abbrev pub StopsAt : {T U : Type 0} → (T → Option (List ℕ)) → (T → Option (List ℕ)) → (U → Option (List ℕ)) → Option (List ℕ) → Option (List ℕ) → Option (List ℕ) → Setting → ℕ → Option (List ℕ) → List File → Service T U → Stopped → Type 0
 StopsAt written keeps contents log out input st lag left files service stopped.Ended = HasServed written keeps contents log out input st lag files service
 StopsAt written keeps contents log out input st lag left files service stopped.Filled = ServesOn written keeps contents log out input st lag left files service

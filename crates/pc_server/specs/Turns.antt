@@ -11,7 +11,7 @@ use Rattle.pc_server.specs.Acts.{Act, Lead, answers_of, commits_in, log_size}
 use Rattle.pc_server.specs.declared.counts.Counts.{Counts}
 use Rattle.pc_server.specs.declared.server.Server.{Server}
 
--- the pace behind a line, which has made a commit where the log has more entries than before
+-- the pace after a line, which has made a commit if the log has more entries than before
 abbrev pub paced : Pace → ℕ → ℕ → Pace
 paced pace before after = if nat_lt before after then record pace { commits = min (pace.commits + 1) (2 ^ 64 - 1) } else pace
 
@@ -19,7 +19,7 @@ paced pace before after = if nat_lt before after then record pace { commits = mi
 abbrev pub AreCounts : ℕ → List Entry → Counts → Type 0
 AreCounts run log counts = (counts.commits ≡ min (commits_in log) (2 ^ 64 - 1)) × (counts.bytes ≡ log_size run log)
 
--- the entry that the log has behind its first so many was counted, if there is one: a commit, or else a token
+-- the entry that the log has after that many first ones was counted, if there is one: a commit, or else a token
 pub record IsNoted (commits : Bool) (log : List Entry) (before : ℕ) (old new : Counts) : Type 0 where
   pub none : length log ≤ before → new ≡ old
   pub some : (entry : Entry) → slice_get log before ≡ Some entry → new ≡ record { commits = if commits then min (old.commits + 1) (2 ^ 64 - 1) else old.commits; bytes = min (old.bytes + length (entry_text entry)) (2 ^ 64 - 1) }

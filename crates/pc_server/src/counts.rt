@@ -26,7 +26,7 @@ impl Counts {
         }
     }
 
-    /// Counts the entry that the log has behind its first `before`, if it has one: a commit, or else a token. A count stays at the
+    /// Counts the entry that the log has after its first `before`, if it has one: a commit, or else a token. A count stays at the
     /// greatest of 64 bits.
     pub fn note(&mut self, log: &Log, before: usize, commits: bool)
         ensures { IsNoted commits (entries_of log.now) before self.old self.new }

@@ -130,7 +130,7 @@ impl Server {
         self.note_pace(before);
     }
 
-    // Counts a commit towards the next point where the log has more entries than before a line.
+    // Counts a commit towards the next point if the log has more entries than before a line.
     fn note_pace(&mut self, before: usize)
         ensures { self.new ≡ record self.old { pace = paced self.old.pace before (length self.old.served.world.log) } }
     {
@@ -174,8 +174,8 @@ impl Server {
         put_stats(numbers, &self.counts, &mut self.answers)
     }
 
-    /// Asks the next event of the point's cycle, where one is due, as `Pace::go_on` does, and tells of a file exactly where its reply
-    /// put one on the shelf. No client is answered by it.
+    /// Asks the next event of the point's cycle, if one is due, as `Pace::go_on` does, and reports a file if and only if its reply put
+    /// one on the shelf. No client is answered by it.
     pub fn go_on(&mut self) -> Result<Turned, Refusal>
         ensures went { (st : Setting) (gone turn : List Act) (at history : History) → Stays st gone at turn history self.old
             → (Stays st gone at turn history self.new × (result ≡ Ok turned.Nothing)) ⊎ ((step : Step) × Stays st gone at (WentOn step ∷ turn) (step ∷ history) self.new × IsShelvedAs step.reply result) }
@@ -225,8 +225,8 @@ impl Server {
         world
     }
 
-    /// The turn ends, as `pc_turn` `end_turn` says: what the log has more than was kept goes out, where it is more than this lag, which
-    /// is at most the server's own, and is kept; and then the answers of the turn are sent.
+    /// The turn ends, as `pc_turn` `end_turn` says: what the log has more than was kept goes out, if it is more than this lag, which is
+    /// at most the server's own, and is kept; and then the answers of the turn are sent.
     pub fn end_turn<L: LogDevice, W: Write>(
         &mut self,
         alloc: Global,

@@ -55,7 +55,7 @@ numbered st s h few waits = by_session (no_session st s) refl waits
     by_session true e waits = cc
     by_session false e waits = grind (arith, nat_tests, few, e)
 
--- who was told to wait, or is told so now, and waits
+-- who was answered that it waits, or is answered so now, and waits
 still_waits : (there wait number own waits : Bool) → (waits ≡ true → own ≡ true → number ≡ true) → ((there || (wait && (number && own))) && waits) ≡ (waits && ((wait && own) || there))
 still_waits there wait number own false known = none (there || (wait && (number && own)))
   where
@@ -83,13 +83,13 @@ still_waits there wait number own true known = all (there || (wait && (number &&
     by_own false e =
         ap (λ b. there || (wait && (number && b))) e ∙ (ap (λ b. there || (wait && b)) (none number) ∙ (turned there (wait && false) ∙ ap (λ b. (wait && b) || there) (sym e)))
 
--- what is so where the test is true
+-- what is so if the test is true
 asked_by : (Then Else : Type 0) (b : Bool) → b ≡ true → Then → MatchBool b Then Else
 asked_by Then Else true e so = so
 asked_by Then Else false e so = cc
 
 module _ {T : Type 0} (contents : T → Option (List ℕ)) where
-  -- a text that went out, and then one that is told
+  -- a text that went out, and then one that is printed
   pub told_then : (a b c : Tally T) (result : Result (Unit {0}) Refusal) (x y : List ℕ) → Puts contents a b (Ok tt) x → IsTold contents b c result y → IsTold contents a c result (x ++ y)
   told_then a b c (Ok u) x y p q = puts_then contents a b c (Ok tt) x y p q
   told_then a b c (Err e) x y p q = (q.0, omega (arith, q.1, p.1))

@@ -5,7 +5,7 @@ use Rattle.pc_lines.specs.Lines.{spelled}
 use Rattle.pc_serving.specs.declared.request.Request.{Request}
 use Rattle.pc_serving.specs.declared.request.Request.TheVariants as request
 
--- what the line asks: a word of serving that stands alone, or else what the same line of a script spells
+-- the request of the line: a word of serving that is alone in it, or else what the same line of a script spells
 abbrev pub request_of : List ℕ → Request
 request_of text =
     if bytes_eq text (codes "quit") then request.Quit

@@ -19,7 +19,7 @@ pub enum Request {
     Line(Line),
 }
 
-/// What the line, without its end, asks; the words of serving stand alone in theirs. Refuses only with `OutOfMemory`.
+/// The request of the line, without its end; the words of serving are alone in theirs. Refuses only with `OutOfMemory`.
 pub fn read_request(alloc: Global, text: &[u8]) -> Result<Request, Refusal>
     ensures request { IfOk result (λ request. request ≡ request_of text.now) }
     ensures refusals { IfErr result (λ e. e ≡ Refusal.OutOfMemory) }

@@ -11,13 +11,13 @@ use pc_types::{SlotId, Value};
 /// What is kept of a key, but its requests.
 #[derive(Drop)]
 pub struct Cell {
-    /// What stands in the key's place, a value or absence: what an open transaction has written last, or else what is
+    /// The content of the key's place, a value or absence: what an open transaction has written last, or else what is
     /// committed.
     pub live: Option<Value>,
-    /// What an open transaction or a point needs beside that; none while nothing does.
+    /// What an open transaction or a point needs besides that; none while nothing does.
     pub(crate) aside: Option<Box<Aside>>,
-    /// The slots that the links of the two sides lead to, where they lead to one. From here on small fields stand side by side,
-    /// so that all of them and the ends of the queue take 32 bytes.
+    /// The slots that the links of the two sides lead to, if they lead to one. From here on small fields are side by side, so
+    /// that all of them and the ends of the queue take 32 bytes.
     pub(crate) first_next: SlotId,
     pub(crate) second_next: SlotId,
     /// What else the slot has on each side.
@@ -34,8 +34,8 @@ impl Cell {
     ghost use Rattle.std.specs.Prelude.{◌≡◌};
     ghost use Rattle.pc_slots.specs.Words.{is_marked, with_mark};
 
-    /// Whether the slot is in the set on the side: in the open set, where a commit since the last resolve token, or since the
-    /// start, wrote its key; in the closed set, where its key is of the point, and not taken yet.
+    /// Whether the slot is in the set on the side: in the open set, if a commit since the last resolve token, or since the
+    /// start, wrote its key; in the closed set, if its key is of the point, and not taken yet.
     pub(crate) fn is_in(&self, side: Side) -> bool
         ensures { result ≡ is_marked side self.now }
     {

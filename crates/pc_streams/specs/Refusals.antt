@@ -15,6 +15,6 @@ IsTextFault Trailing = ⊤
 IsTextFault NotCovered = ⊤
 IsTextFault why = ⊥
 
--- memory ran out, a device failed, or the text has a fault
+-- an allocation failed, a device failed, or the text has a fault
 abbrev pub IsReadRefusal : Refusal → Type 0
 IsReadRefusal why = (why ≡ OutOfMemory) ⊎ (why ≡ Device) ⊎ IsTextFault why

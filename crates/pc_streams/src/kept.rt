@@ -5,7 +5,7 @@ ghost use Rattle.pc_streams.specs.Refusals.{IsReadRefusal};
 use pc_types::Refusal;
 use std::marker::Model;
 
-// A refusal of a reader: memory ran out, its device failed, or its text has a fault. A contract sees which.
+// A refusal of a reader: an allocation failed, its device failed, or its text has a fault. A contract sees which.
 #[derive(Drop)]
 pub(crate) struct KeptRefusal {
     why: Refusal,

@@ -46,7 +46,7 @@ impl Headed {
         &self.key
     }
 
-    /// How the keys are ordered: as their heads are where these differ, and else byte by byte.
+    /// How the keys are ordered: as their heads are if these differ, and else byte by byte.
     pub(crate) fn compare(&self, other: &Headed) -> Ordering
         ensures { result ≡ slice_cmp nat_cmp self.now other.now }
     {

@@ -1,4 +1,4 @@
-//! Two passes over rising entries, gone through together. Each step is a few instructions, which go into the loop.
+//! Two passes over ascending entries, gone through together. Each step is a few instructions, which go into the loop.
 ghost use Rattle.std.specs.Prelude.{◌≡◌, ◌++◌, slice_get, OnOk, if◌then◌else◌};
 ghost use Rattle.std.specs.Option.{option_to_list};
 ghost use Rattle.pc_model.specs.Files.{same_content};
@@ -34,7 +34,7 @@ pub fn side_of(first: &Pass, second: &Pass) -> Option<Side>
     }
 }
 
-/// Goes on behind the least key.
+/// Goes on after the least key.
 #[inline(always)]
 pub fn go_on(side: Side, first: &mut Pass, second: &mut Pass)
     ensures first { first.new ≡ first_behind side first.old }

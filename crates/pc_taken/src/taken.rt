@@ -14,7 +14,7 @@ use std::marker::Model;
 use std::mem;
 
 /// What was taken of a point: each key once, with what it had there, a value or nothing. A contract sees it as the list of
-/// these entries, which rise strictly by key. A put of a key above all others costs one comparison; another one costs a
+/// these entries, which ascend strictly by key. A put of a key above all others costs one comparison; another one costs a
 /// logarithm of how many keys there are.
 #[derive(Drop)]
 pub struct Taken {
@@ -39,7 +39,7 @@ impl Model for Taken {
 }
 
 impl Taken {
-    /// Nothing yet. It takes no memory.
+    /// Nothing yet. It allocates no memory.
     pub fn new(alloc: Global) -> Taken
         ensures { result ≡ [] }
     {
@@ -58,7 +58,7 @@ impl Taken {
     }
 
     /// Puts the key in its place, with what it had at the point; what was there of the same key is replaced. It fails only
-    /// where memory ran out, and then nothing has changed.
+    /// if an allocation fails, and then nothing has changed.
     pub fn put(&mut self, key: Key, content: Option<Value>) -> Result<(), AllocError>
         ensures put { OnOk result (self.new ≡ put_entry key_cmp key content self.old) }
         ensures kept { OnErr result (self.new ≡ self.old) }
@@ -76,7 +76,7 @@ impl Taken {
         Ok(())
     }
 
-    /// All that was taken, as it stands; nothing is left then. It takes a constant time and no memory.
+    /// Moves all captured entries out; nothing is left then. It takes a constant time and no memory.
     pub fn move_out(&mut self) -> Taken
         ensures taken { result ≡ self.old }
         ensures rise { KeysRise result }
@@ -86,7 +86,7 @@ impl Taken {
         mem::replace(self, nothing)
     }
 
-    // The entries as triples of the point, one after the other.
+    // The entries as triples of the point, in order.
     pub(crate) fn pass(&self, point: Point) -> TakenPass<'_>
         ensures { result ≡ map (triple_at point) self.now }
     {

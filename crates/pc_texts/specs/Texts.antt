@@ -30,7 +30,7 @@ abbrev pub printed : List ℕ → List ℕ
 printed [] = codes "-"
 printed (b ∷ bytes) = if bytes_eq (b ∷ bytes) (codes "-") then 92 ∷ 120 ∷ 50 ∷ 100 ∷ [] else flat_map printed_byte (b ∷ bytes)
 
--- what stands before a key's own bytes: nothing in space 0, else `\sN:` of its space
+-- the prefix of a key's own bytes: nothing in space 0, else `\sN:` of its space
 abbrev pub printed_space : ℕ → List ℕ
 printed_space zero = []
 printed_space (suc n) = codes "\\s" ++ (decimal (suc n) ++ codes ":")

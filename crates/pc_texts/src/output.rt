@@ -7,8 +7,8 @@ ghost use Rattle.pc_texts.specs.Outputs.{IsUnprinted};
 use pc_types::{Refusal, Tally};
 use std::io::Write;
 
-/// Ends what a command prints: what was put goes out of whatever keeps it. It is what the put gave, where that was refused, or where
-/// all has gone out; else the device has failed now.
+/// Ends what a command prints: what was put goes out of whatever keeps it. It is what the put gave, if that was refused, or if all
+/// has gone out; else the device has failed now.
 pub fn end_output<T: Copy, W: Write>(
     put: Result<T, Refusal>,
     out: &mut Tally<W>,

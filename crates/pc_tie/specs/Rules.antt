@@ -63,8 +63,8 @@ abbrev pub dealt_in : List Sight → ℕ
 dealt_in [] = 0
 dealt_in (v ∷ vs) = dealt_of v
 
--- what is seen is a beginning of the history; and where n is no witness's number, it was dealt, the seat owns it, and has seen
--- all of its calls
+-- what is seen is a prefix of the history; and if n is no witness's number, it was dealt, the seat owns it, and has seen all of
+-- its calls
 abbrev pub Knows : History → ℕ → (ℕ → ℕ) → ℕ → ℕ → History → Type 0
 Knows history dealt owner id n seen = IsBeginning seen history × (Speaks n → (n < dealt) × (owner n ≡ id) × (calls_of n history ≡ calls_of n seen))
 
@@ -109,7 +109,7 @@ abbrev pub told : Option Step → (Step → Type 0) → Type 0
 told none P = Unit {0}
 told (some s) P = P (said_step s)
 
--- the first seat that was taken in knew a beginning of the history, and all calls of its number where it is no witness's
+-- the first seat that was taken in knew a prefix of the history, and all calls of its number if it is no witness's
 abbrev pub KnewFirst : History → List Sitting → Type 0
 KnewFirst hist [] = Unit {0}
 KnewFirst hist (x ∷ xs) = IsBeginning x.seen hist × (Speaks x.number → calls_of x.number hist ≡ calls_of x.number x.seen)
@@ -158,8 +158,8 @@ after_dealing v = Whole (hist_of v) (dealt_of v + 1) (guests_of v)
 abbrev pub new_front : Sight → Sight
 new_front v = Front (dealt_of v) []
 
--- each seat that was taken in had seen a beginning of the history, with all calls of its number where it is no witness's; and
--- none but a witness's is there twice
+-- each seat that was taken in had seen a prefix of the history, with all calls of its number if it is no witness's; and none
+-- but a witness's is there twice
 abbrev pub AreTold : History → List Sitting → Type 0
 AreTold hist guests = ((k : ℕ) (x : Sitting) → get_elem? guests k ≡ some x → IsBeginning x.seen hist × (Speaks x.number → calls_of x.number hist ≡ calls_of x.number x.seen)) × AreGuestsApart guests
 

@@ -259,7 +259,7 @@ impl<N: StoreName> Keeper<N> {
         self.note_at(tie, &mut checkpointer.badge, before, after, step);
     }
 
-    /// Compares the history with what the checkpointer has seen: a beginning of it, with all calls of the checkpointer.
+    /// Compares the history with what the checkpointer has seen: a prefix of it, with all calls of the checkpointer.
     pub fn compare_own(&mut self, tie: &Tie<N>, checkpointer: &mut CheckpointerSeat<N>)
         requires alone { self.old.guests ≡ [] }
         ensures same { (self.new ≡ self.old) × (checkpointer.new ≡ checkpointer.old) }
@@ -296,7 +296,7 @@ impl<N: StoreName> Keeper<N> {
         witness.badge = self.show(tie);
     }
 
-    // Compares the history with what the witness has seen: a beginning of it.
+    // Compares the history with what the witness has seen: a prefix of it.
     fn compare_witness(&mut self, tie: &Tie<N>, witness: &mut Witness<N>)
         requires alone { self.old.guests ≡ [] }
         ensures same { (self.new ≡ self.old) × (witness.new ≡ witness.old) }
@@ -308,8 +308,8 @@ impl<N: StoreName> Keeper<N> {
         witness.badge = self.leave(tie);
     }
 
-    /// Compares the history with what the milestone has seen: a beginning of it. False where its witness isn't there, since
-    /// somebody else just compares it; then nothing is told.
+    /// Compares the history with what the milestone has seen: a prefix of it. False if its witness isn't there, since somebody
+    /// else just compares it; then nothing is learnt.
     pub fn compare_milestone(&mut self, tie: &Tie<N>, milestone: &Milestone<N>) -> bool
         requires alone { self.old.guests ≡ [] }
         ensures same { self.new ≡ self.old }
@@ -335,7 +335,7 @@ impl<N: StoreName> Keeper<N> {
         self.enter(tie, badge);
     }
 
-    /// Gives back the seat that was taken in last, which is the one of the session of this number.
+    /// Returns back the seat that was taken in last, which is the one of the session of this number.
     pub fn give_back(&mut self, tie: &Tie<N>, number: SessionNo) -> SessionSeat<N>
         requires first { first_number self.old.guests ≡ number }
         requires session { All (IsSession N.name.setting) self.old.guests }
@@ -351,7 +351,7 @@ impl<N: StoreName> Keeper<N> {
         }
     }
 
-    /// Compares the history with what the seats that were taken in had seen: each a beginning of it, with all of its session's
+    /// Compares the history with what the seats that were taken in had seen: each a prefix of it, with all of its session's
     /// calls; and no two are of one session.
     pub fn compare(&mut self, tie: &Tie<N>)
         ensures same { self.new ≡ self.old }

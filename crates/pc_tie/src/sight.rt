@@ -14,7 +14,7 @@ pub struct Sitting {
 pub enum Sight {
     /// As the keeper: the whole history, how many seats were dealt, and those that were taken in.
     Whole(LinkedList<Step>, u64, LinkedList<Sitting>),
-    /// As the seat of this number: a beginning of the history.
+    /// As the seat of this number: a prefix of the history.
     Front(u64, LinkedList<Step>),
     /// As the seat of this number beside that of a witness: what it has seen, and what the witness has.
     Beside(u64, LinkedList<Step>, LinkedList<Step>),

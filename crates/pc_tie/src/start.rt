@@ -26,7 +26,7 @@ impl Model for Start {
 }
 
 impl Start {
-    /// The start from this base, with so many sessions and this capacity. Of the base nothing is copied.
+    /// The start from this base, with this number of sessions and this capacity. Of the base nothing is copied.
     pub fn new(base: &Base, sessions: u8, capacity: u32) -> Start
         ensures { result ≡ record { run = base.now.run; base = base.now.pairs; sessions = sessions; capacity = capacity } }
     {

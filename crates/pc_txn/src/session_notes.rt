@@ -104,7 +104,7 @@ impl SessionNotes {
     }
 }
 
-/// Makes room for one more commit, with so many reads, or answers false where memory ran out.
+/// Makes room for one more commit, with the given number of reads, or returns false if an allocation failed.
 pub fn has_room_for_commit(commits: &mut Commits, reads: usize) -> bool
     ensures same { commits.new.items ≡ commits.old.items }
     ensures room { result ≡ true → HasRoomFor commits.new reads }
@@ -112,7 +112,7 @@ pub fn has_room_for_commit(commits: &mut Commits, reads: usize) -> bool
     commits.reserve(reads).is_ok()
 }
 
-/// Makes room for one more read, or answers false where memory ran out.
+/// Makes room for one more read, or answers false if an allocation failed.
 pub fn has_room_to_read(reads: &mut ReadSet) -> bool
     ensures same { reads.new.items ≡ reads.old.items }
     ensures room { result ≡ true → 0 < reads.new.room }
@@ -130,7 +130,7 @@ fn content_at(reads: &[(Key, Option<Value>)], place: usize) -> Option<&Value>
     }
 }
 
-// Notes the read of the value, where it is the first of its key and is not of an own write.
+// Notes the read of the value, if it is the first of its key and is not of an own write.
 fn note_value(own: bool, reads: &mut ReadSet, key: Key, value: Value) -> Latest
     requires { 0 < reads.old.room }
     ensures reads { reads.new.items ≡ noting own reads.old.items key (Some value) }

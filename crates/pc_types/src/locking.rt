@@ -4,7 +4,7 @@ use crate::numbers::TxnNo;
 /// What a request asks for.
 #[derive(Clone, Copy, Debug, PartialEq, Eq)]
 pub enum Mode {
-    /// To read: any number of transactions may at once.
+    /// To read: any number of transactions may at the same time.
     Shared,
     /// To write: no other transaction may read or write.
     Exclusive,

@@ -21,7 +21,7 @@ pub(crate) fn order(a: &[u8], b: &[u8]) -> Ordering
     order_half(a, b, words * 8)
 }
 
-// How the bytes from there on are ordered; the first four are compared as one number, where both have as many.
+// How the bytes from there on are ordered; the first four are compared as one number, if both have as many.
 fn order_half(a: &[u8], b: &[u8], start: usize) -> Ordering
     requires { (start ≤ length a.now) × (start ≤ length b.now) }
     ensures { result ≡ slice_cmp nat_cmp (drop start a.now) (drop start b.now) }

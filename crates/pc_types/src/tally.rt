@@ -93,8 +93,8 @@ impl<W: Write> Write for Tally<W> {
 }
 
 impl<W: Write> Tally<W> {
-    /// Writes all of the bytes. `Device` is answered exactly where the count rose in this call; then a beginning of
-    /// them went out, and not all of them.
+    /// Writes all of the bytes. Returns `Device` if and only if the count increased in this call; then a prefix of them
+    /// went out, and not all of them.
     #[tactic(auto, using(crate::proofs::KnownBytesLaws::appends_nothing))]
     pub fn put(&mut self, bytes: &[u8]) -> Result<(), Refusal>
         ensures { Puts W.contents self.old self.new result bytes.now }
@@ -110,8 +110,8 @@ impl<W: Write> Tally<W> {
         Ok(())
     }
 
-    /// Writes the pieces in order. `Device` is answered exactly where the count rose in this call; then a beginning of
-    /// them went out, and not all of them.
+    /// Writes the pieces in order. Returns `Device` if and only if the count increased in this call; then a prefix of them
+    /// went out, and not all of them.
     pub fn put_all(&mut self, pieces: &[&[u8]]) -> Result<(), Refusal>
         ensures { Puts W.contents self.old self.new result (flat_map (λ piece. piece.now) pieces.now) }
     {
@@ -122,8 +122,8 @@ impl<W: Write> Tally<W> {
     }
 }
 
-/// Reads all that is left, to the reader's end. Refuses with `OutOfMemory`, and with `Device` exactly where the count
-/// rose in this call.
+/// Reads all that is left, to the reader's end. Refuses with `OutOfMemory`, and with `Device` if and only if the count
+/// increased in this call.
 #[tactic(auto, using(crate::proofs::KnownBytesLaws::consumes_nothing))]
 pub fn read_all<R: Read>(alloc: Global, reader: &mut Tally<R>) -> Result<Vec<u8>, Refusal>
     ensures bytes { IfOk result (λ bytes. IfSome (R.remaining (inner_of reader.old)) (λ remained. bytes.items ≡ remained)) }

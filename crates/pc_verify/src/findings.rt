@@ -55,7 +55,7 @@ impl Finding {
     }
 }
 
-/// What is found of the bytes, read as a text of this kind. It is an error only where memory ran out.
+/// What is found of the bytes, read as a text of this kind. It is an error only if an allocation failed.
 pub(crate) fn finding_of(alloc: Global, kind: FileKind, bytes: &[u8]) -> Result<Finding, AllocError>
     ensures { IfOk result (IsFinding kind bytes.now) }
 {
@@ -95,7 +95,7 @@ fn part_finding(alloc: Global, bytes: &[u8]) -> Result<Finding, AllocError>
     }
 }
 
-// The fault of bytes that are no text of this kind, unless memory ran out.
+// The fault of bytes that are no text of this kind, unless an allocation failed.
 fn fault_in(alloc: Global, kind: TextKind, bytes: &[u8]) -> Result<Finding, AllocError>
     ensures { IfOk result (λ finding. (why : Refusal) × (byte : ℕ) × (finding ≡ found.Fault why byte) × IsFaultOf kind bytes.now byte why) }
 {

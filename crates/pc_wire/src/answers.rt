@@ -15,7 +15,7 @@ use pc_types::{Key, Phase, Refusal, Reply, Value};
 pub struct Answer {
     /// What is answered, as `codes` numbers it.
     pub kind: u32,
-    /// Why a call was refused; 0 where it wasn't.
+    /// Why a call was refused; 0 if it wasn't.
     pub refusal: u32,
     /// The number of a transaction, of an entry of the log or of a point, or how many are waited for.
     pub number: u64,
@@ -66,7 +66,7 @@ pub fn refused(why: &Refusal) -> Answer
     }
 }
 
-/// The answer that shows a text of so many bytes, which is that of so many entries.
+/// The answer that shows a text of the given number of bytes and of entries.
 pub fn text_told(bytes: u64, entries: u64) -> Answer
     ensures { result ≡ text_told bytes entries }
 {
@@ -87,7 +87,7 @@ fn gap_point(why: &Refusal) -> u64
     }
 }
 
-/// What is answered where the store replies so.
+/// What is answered if the store replies so.
 pub fn told_of(reply: &Reply) -> Answer
     ensures { result ≡ told_of reply.now }
 {
@@ -188,7 +188,7 @@ fn phase_number(phase: Phase) -> u32
     }
 }
 
-/// The own bytes of the key that a reply has; none where it has no key.
+/// The own bytes of the key that a reply has; `None` if it has no key.
 pub fn key_of_reply(reply: &Reply) -> &[u8]
     ensures { result.now ≡ key_of_reply reply.now }
 {
@@ -198,7 +198,7 @@ pub fn key_of_reply(reply: &Reply) -> &[u8]
     }
 }
 
-/// The bytes of the value that a reply has; none where it has no value.
+/// The bytes of the value that a reply has; `None` if it has no value.
 pub fn value_of_reply(reply: &Reply) -> &[u8]
     ensures { result.now ≡ value_of_reply reply.now }
 {

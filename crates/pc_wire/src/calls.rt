@@ -32,9 +32,9 @@ pub struct Call {
     pub delta: i64,
 }
 
-/// The event that the call asks with these bytes of a key and of a value, or why it asks none: `BadKind` where its kind is that of no
-/// event; where its event has a key, `BadLength` for a space past 65,535 and `KeyLength` for bytes that are no key's; and
-/// `ValueLength` for bytes of a put that are no value's. Where none of these stands, in this order, it refuses only with `OutOfMemory`.
+/// The event that the call asks with these bytes of a key and of a value, or why it asks none: `BadKind` if its kind is that of no
+/// event; if its event has a key, `BadLength` for a space past 65,535 and `KeyLength` for bytes that are no key's; and `ValueLength`
+/// for bytes of a put that are no value's. If none of these applies, checked in this order, it refuses only with `OutOfMemory`.
 pub fn event_of(alloc: Global, call: &Call, key: &[u8], value: &[u8]) -> Result<Event, Refusal>
     ensures asked { IfOk result (λ event. event_asked call.now key.now value.now ≡ Ok event) }
     ensures refused { IfErr result (λ why. (event_asked call.now key.now value.now ≡ Err why) ⊎ ((why ≡ OutOfMemory) × IsOk (event_asked call.now key.now value.now))) }
@@ -95,7 +95,7 @@ fn value_fault(kind: u32, bytes: &[u8]) -> Option<Refusal>
     }
 }
 
-// The event of a call without a fault; none where memory ran out.
+// The event of a call without a fault; `None` if an allocation failed.
 fn made(alloc: Global, call: &Call, key: &[u8], value: &[u8]) -> Option<Event>
     ensures { IfSome result (λ event. event ≡ event_at call.now key.now value.now) }
 {
@@ -118,7 +118,7 @@ fn made(alloc: Global, call: &Call, key: &[u8], value: &[u8]) -> Option<Event>
     }
 }
 
-// A put of these bytes; none where memory ran out.
+// A put of these bytes; `None` if an allocation failed.
 fn put_of(alloc: Global, call: &Call, own: &[u8], bytes: &[u8]) -> Option<Event>
     ensures { IfSome result (λ event. event ≡ asked.Put call.now.session (key_of call.now.space own.now) bytes.now) }
 {
@@ -127,7 +127,7 @@ fn put_of(alloc: Global, call: &Call, own: &[u8], bytes: &[u8]) -> Option<Event>
     Some(Event::Put(SessionNo(call.session), key, value))
 }
 
-// The key of these bytes in the space; none where memory ran out.
+// The key of these bytes in the space; `None` if an allocation failed.
 fn key_of(alloc: Global, space: u32, own: &[u8]) -> Option<Key>
     ensures { IfSome result (λ key. key ≡ key_of space own.now) }
 {

@@ -12,7 +12,7 @@ use std::alloc::{AllocError, Global};
 use std::io::{Read, Write};
 use std::{fs, io};
 
-/// The status where a file or a folder isn't whole.
+/// The status if a file or a folder isn't whole.
 const LACKING: u8 = 4;
 
 /// Tells of each of the files and folders whether it is whole, as the options say; the status.
@@ -54,7 +54,7 @@ fn verify_all<E: Write>(
     }
 }
 
-// Whether all of them are whole. Where memory runs out, the error writer gets the path that it was needed for.
+// Whether all of them are whole. If an allocation fails, the error writer gets the path that it was needed for.
 fn verify_each<W: Write, E: Write>(
     explainer: &Explainer<'_>,
     options: &VerifyOptions<'_>,
