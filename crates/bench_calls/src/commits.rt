@@ -1,4 +1,4 @@
-//! Commits of one write each, with and without checkpoints beside them.
+//! Commits of one write each, with and without concurrent checkpoints.
 ghost use Rattle.std.specs.Prelude.{◌≡◌, ◌<◌, ◌≤◌, ◌^◌, ◌+◌, true, false, IfOk};
 ghost use Rattle.bench_calls.specs.Commits.{events_of};
 
@@ -54,9 +54,10 @@ pub struct Committed {
     pub time: Duration,
 }
 
-/// Commits so many transactions of one write each, over keys that go round, in a store that has room for just these keys.
-/// Where points are asked for, the checkpointer asks one event after each commit, each cycle right after the one before,
-/// and every event is either one that took a key, one that was put off, or one of a cycle's six others. Else none is asked.
+/// Commits the given number of transactions of one write each, over keys that go round, in a store that has room for just
+/// these keys. If points are asked for, the checkpointer asks one event after each commit, each cycle right after the one
+/// before, and every event is either one that took a key, one that was put off, or one of a cycle's six others. Else none
+/// is asked.
 pub fn measure_commits(
     alloc: Global,
     clock: &impl Clock,
@@ -139,7 +140,7 @@ fn commit_one(
     }
 }
 
-// Asks the next event where points are asked for.
+// Asks the next event if points are asked for.
 fn ask_beside(
     world: &mut World,
     asked: CycleProgress,

@@ -54,7 +54,7 @@ fn arguments(rt: &HostRuntime) -> Result<Vec<String>, BenchFailure> {
     Ok(texts)
 }
 
-// Does the work and tells of it. The status is 1 where a call was refused.
+// Does the work and tells of it. The status is 1 if a call was refused.
 fn run_work<H: Threads + Wait + Sync>(
     rt: &HostRuntime,
     threads: &H,

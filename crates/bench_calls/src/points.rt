@@ -28,7 +28,8 @@ pub struct TimedCycle {
     pub finishing: Duration,
 }
 
-/// Goes through so many cycles: writes all keys, and takes them at the point, in each cycle no more than there are.
+/// Goes through the given number of cycles: writes all keys, and takes them at the point, in each cycle no more than
+/// there are.
 pub fn measure_points(
     alloc: Global,
     clock: &impl Clock,
@@ -60,7 +61,7 @@ fn take_points(
     Ok(done)
 }
 
-// Writes the keys of the numbers below this one, in transactions of so many writes.
+// Writes the keys of the numbers below this one, in transactions of the given number of writes.
 fn write_all(alloc: Global, world: &mut World, keys: u32) -> Result<(), Refusal> {
     for number in 0..keys {
         if number % WRITES == 0 {
@@ -101,7 +102,7 @@ fn time_of(clock: &impl Clock, world: &mut World, event: &Event) -> Result<Durat
     Ok(start.elapsed(clock)?)
 }
 
-// Takes keys until none is left, at most so many.
+// Takes keys until none is left, at most the given number.
 fn take_all(world: &mut World, keys: u32) -> Result<u32, Refusal>
     ensures { IfOk result (λ taken. taken ≤ keys) }
 {

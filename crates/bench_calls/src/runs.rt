@@ -1,4 +1,4 @@
-//! Each sub-command's work, and what is told of it.
+//! Each sub-command's work, and what it prints.
 use crate::bare::lock_by_all;
 use crate::calls::{Calls, Timed, call_by_one};
 use crate::commits::{Committed, measure_commits};
@@ -34,7 +34,7 @@ fn tell_points(rt: &HostRuntime, done: &[TimedCycle], is_timed: bool) -> io::Res
     Ok(())
 }
 
-/// Commits transactions of one write each, and tells how many, with the points and the taken keys beside them.
+/// Commits transactions of one write each, and reports how many, with the points and the keys taken meanwhile.
 pub fn run_commits(rt: &HostRuntime, rounds: Rounds, is_timed: bool) -> Result<(), BenchFailure> {
     let seed = RandomState::new(rt)?;
     match measure_commits(rt.alloc(), rt, seed, rounds) {

@@ -18,7 +18,7 @@ fn key_of(seed: u64) -> &'static [u8] {
     &LETTERS[i.min(49)..i.min(49) + 1]
 }
 
-// Where the cycle is, as far as the replies have told, how many files there are, and the file of the points from 1 on
+// The state of the cycle, as far as the replies have told, how many files there are, and the file of the points from 1 on
 // that has the most of them.
 #[derive(Clone, Copy)]
 struct WalkCycle {
@@ -58,7 +58,7 @@ fn delta_of(seed: u64) -> i64 {
     i64::from(drawn(seed, 35, 28)).wrapping_sub(14)
 }
 
-// What a session asks. The one that was told that it must abort does so.
+// What a session asks. One that was answered `MustAbort` does so.
 fn session(seed: u64, dead: u32) -> Ask<'static> {
     if dead != 0 {
         return Ask::Abort(dead);
@@ -112,7 +112,7 @@ fn moved(cycle: &WalkCycle, has_part: bool, reply: &Reply) -> WalkCycle {
     now
 }
 
-// The walk: its seed, where the cycle stands, and the part of the last step and the session of that step that must abort,
+// The walk: its seed, the phase of the cycle, and the part of the last step and the session of that step that must abort,
 // or 0.
 #[derive(Clone, Copy)]
 struct Walk {
@@ -146,7 +146,7 @@ fn part_of(reply: &Reply) -> u32 {
     }
 }
 
-// The session, where it must abort, or 0.
+// The session, if it must abort, or 0.
 fn dead_of(session: u32, reply: &Reply) -> u32 {
     match reply {
         Reply::Refused(Refusal::MustAbort) => session,
@@ -182,7 +182,7 @@ const START: Walk = Walk {
     dead: 0,
 };
 
-// Walks so many steps, and checks the store at each tenth of them and at the end.
+// Walks the given number of steps, and checks the store at each tenth of them and at the end.
 fn go(asker: &mut Asker) -> Result<(), Refusal> {
     let mut walk = START;
     for n in 0..STEPS {
@@ -194,7 +194,7 @@ fn go(asker: &mut Asker) -> Result<(), Refusal> {
     asker.check()
 }
 
-/// Walks 100,000 steps. The store is checked at each tenth of them, and at the end. It fails only where memory ran out.
+/// Walks 100,000 steps. The store is checked at each tenth of them, and at the end. It fails only if an allocation fails.
 /// The seed is that of the hashes of the store's keys, and not of the walk.
 pub fn sums_of_walk(alloc: Global, seed: RandomState) -> Result<Sums, Refusal> {
     let world = World::new(alloc, Base::start(1, Vec::new(alloc)), 8, 50, seed)?;

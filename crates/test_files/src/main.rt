@@ -13,7 +13,7 @@
 //! | `longer` | what the text holds with one byte more, of each value |
 //! | `join` | the parts that the texts hold, joined from the left |
 //! | `stream` | the same, written as the texts are read, or why not, and what is then read of what was written |
-//! | `lay` | the base that the first text holds, with the parts of the others laid on it from the left |
+//! | `lay` | the base that the first text holds, with the parts of the others applied to it from the left |
 #![tactic(auto)]
 
 mod found;

@@ -1,4 +1,4 @@
-//! Receipts beside the log.
+//! Receipts compared with the log.
 use pc_kept_log::{LentChange, LentWrite, LentWrites};
 use pc_replay::{Pairs, apply};
 use pc_shared::{Closed, LentReceipt, Session};

@@ -60,7 +60,7 @@ impl<'a, N: StoreName, R: Wait> Desk<'a, N, R> {
         let _marked = self.shared.mark_end(self.rt, &mut witness);
     }
 
-    /// Takes the files of so many points as they are published, and joins them.
+    /// Takes the files of the given number of points as they are published, and joins them.
     pub fn collapse<G: Gate>(
         &self,
         board: &Board,

@@ -111,7 +111,7 @@ fn noted(reads: &mut ReadSet, own: bool, key: Key) -> Option<usize>
     }
 }
 
-// A read is noted where it is not of an own write, and the key was not read.
+// A read is noted if it is not of an own write, and the key was not read.
 #[test]
 fn notes_first_reads(rt: HostRuntime) -> Result<(), Fail> {
     let alloc = rt.alloc();

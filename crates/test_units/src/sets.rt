@@ -1,4 +1,4 @@
-//! Tests of the two sets: worked rows, and a walk beside plain lists, over a row of links.
+//! Tests of the two sets: worked rows, and a walk compared with plain lists, over a row of links.
 ghost use Rattle.std.specs.Prelude.{◌≡◌, ◌≢◌, ◌<◌, ◌≤◌, IfOk, OnOk, IsTrue, length};
 ghost use Rattle.pc_chain.specs.Chains.{Avoids};
 ghost use Rattle.pc_dirty.specs.declared.side.SideSlot.{SideSlot};
@@ -361,7 +361,7 @@ fn note(tally: &mut AnswerCounts, told: Told) {
     tally[place] = tally[place].saturating_add(1);
 }
 
-// The number of the first request that lists answer otherwise; nothing where none is, and each answer came often.
+// The number of the first request that lists answer otherwise; nothing if none is, and each answer came often.
 fn first_other(kept: &mut KeptSets, lists: &mut PlainSets) -> Result<Option<u32>, AllocError>
     requires { AreKept kept.old.row.first.items kept.old.row.second.items kept.old.sets kept.old.opened.items }
 {

@@ -44,8 +44,8 @@ fn main(rt: HostRuntime) -> ExitCode {
     }
 }
 
-// One walk after the other; all their stores hash keys under one seed. The status is 1 where memory ran out, or the output or
-// the draw of that seed failed.
+// One walk after the other; all their stores hash keys under one seed. The status is 1 if an allocation failed, or the output
+// or the draw of that seed failed.
 fn run_walks(rt: &HostRuntime) -> io::Result<u8> {
     let hash_seed = RandomState::new(rt)?;
     let mut sum = Sum {
