@@ -42,7 +42,7 @@ const NONE: Timed = Timed {
 };
 
 impl Calls {
-    /// `None` was made.
+    /// No calls.
     pub fn new() -> Calls {
         Calls {
             begin: NONE,
@@ -200,7 +200,7 @@ fn time_point<N: StoreName, R: Wait>(
     time_ticket(rt, host, shared, seat, number, &mut calls.take_part)
 }
 
-// What was logged since, in the batches of a logger.
+// The entries logged since, in the batches of a logger.
 fn time_logging<N: StoreName, R: Wait>(
     rt: &R,
     host: &HostRuntime,

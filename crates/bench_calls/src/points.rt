@@ -12,19 +12,19 @@ use std::hash::RandomState;
 use std::rt::Clock;
 use std::time::{Duration, Instant};
 
-// How many keys a transaction writes.
+// The number of keys that a transaction writes.
 const WRITES: u32 = 250;
 
-/// What came of a cycle.
+/// The outcome of a cycle.
 #[derive(Clone, Copy)]
 pub struct TimedCycle {
-    /// How many keys were taken.
+    /// The number of captured keys.
     pub taken: u32,
-    /// How long the seal took, which closes the set of the keys that were written.
+    /// The time of the seal, which closes the set of the keys that were written.
     pub sealing: Duration,
-    /// How long it took to take the keys.
+    /// The time to take the keys.
     pub taking: Duration,
-    /// How long it took to make a part of what was taken.
+    /// The time to make a part of the captured entries.
     pub finishing: Duration,
 }
 
@@ -95,7 +95,7 @@ fn take_point(clock: &impl Clock, world: &mut World, keys: u32) -> Result<TimedC
     })
 }
 
-// How long the store takes to answer the event, which isn't refused.
+// The time that the store takes to answer the event, which isn't refused.
 fn time_of(clock: &impl Clock, world: &mut World, event: &Event) -> Result<Duration, BenchFailure> {
     let start = Instant::now(clock)?;
     step(world, event)?;

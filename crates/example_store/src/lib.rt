@@ -56,7 +56,7 @@ fn sell<N: StoreName, R: Wait>(
     Err(Refusal::MustAbort)
 }
 
-// What is sold, and how much of it; each call waits for the lock of its key, or its request dies.
+// The good that is sold, and its quantity; each call waits for the lock of its key, or its request dies.
 fn attempt<N: StoreName, R: Wait>(
     rt: &R,
     alloc: Global,

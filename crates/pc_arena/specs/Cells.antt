@@ -1,4 +1,4 @@
--- What cells keep, and the free slots among them.
+-- The invariant of cells, and the free slots among them.
 use Rattle.std.specs.Prelude.{◌≡◌, ◌<◌, ◌≤◌, ◌-◌, ◌++◌, ℕ, Bool, true, false, List, map, length, replicate, Option, Some, None}
 use Rattle.pc_types.specs.declared.limits.TheConstants.{MOST_KEYS}
 use Rattle.pc_chain.specs.declared.chain.Chain.{Chain}

@@ -71,7 +71,7 @@ impl<T> Links<ByLink> for Arena<T> {
 }
 
 impl<T> Arena<T> {
-    /// How many slots there are, taken and free.
+    /// The number of slots, taken and free.
     pub fn capacity(&self) -> u32
         ensures count { result ≡ length self.now.items }
         ensures most { result ≤ MOST_KEYS }

@@ -1,4 +1,4 @@
--- What files are compared with: the states of their log.
+-- The states of a log, with which files are compared.
 use Rattle.std.specs.Prelude.{◌≡◌, ℕ, List, IsTrue}
 use Rattle.pc_types.specs.declared.Entry.{Entry}
 use Rattle.pc_model.specs.Database.{Database}

@@ -1,4 +1,4 @@
--- What holds of files that a history gives their points.
+-- The laws of files that a history gives their points.
 use Rattle.pc_model.specs.Files.{File}
 use Rattle.pc_model.specs.History.{History, log_of}
 use Rattle.pc_model.specs.Replies.{Setting, IsLegalHistory}

@@ -47,7 +47,7 @@ pub(crate) fn is_log_replay(
     Ok(table.is(&replayed))
 }
 
-// Whether each file is right, if its triples are laid in order.
+// Whether each file is correct, if its triples are laid in order.
 fn are_right(
     alloc: Global,
     seed: RandomState,

@@ -119,7 +119,6 @@ impl Table {
         Ok(())
     }
 
-    // Applies one write.
     fn apply(&mut self, alloc: Global, write: Write) -> Result<(), AllocError>
         ensures { OnOk result (self.new ≡ applied self.old write) }
     {

@@ -15,7 +15,7 @@ pub none_is_legal : AreLegalCalls []
 none_is_legal [] c after e = absurd (cc (e))
 none_is_legal (x ∷ xs) c after e = absurd (cc (e))
 
--- one more call that gives what is right
+-- one more call that gives the correct result
 pub longer_is_legal : (log : List Call) (c : Call) → AreLegalCalls log → AnswersCall c.kind log c.value → AreLegalCalls (log ++ c ∷ [])
 longer_is_legal log c all last before d after e =
     ⊎_elim (λ (t : (log ≡ before) × (c ≡ d)). subst (λ (x : List Call × Call). AnswersCall x.1.kind x.0 x.1.value) (λ i. (t.0 i, t.1 i)) last)

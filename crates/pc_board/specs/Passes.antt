@@ -1,4 +1,4 @@
--- What contracts see of a board and its passes, and what a call and the end of a board are.
+-- The views of a board and its passes in contracts, and the definitions of a call and of a board's end.
 use Rattle.std.specs.Prelude.{◌≡◌, ℕ, zero, suc, ◌<◌, List, [], ◌∷◌, ◌++◌, All}
 use mathlib.Core.List.{IsPrefix}
 use Rattle.atomic_table.specs.Seated.{TableId}

@@ -54,10 +54,10 @@ impl Model for BoardPass {
     ghost invariant = { λ a. (a.seat.me ≡ (Holder (number_of a.seat.me.0) (seen_of a.seat.me.0), [])) × (a.claims ≡ claims_of (calls_by (number_of a.seat.me.0) (seen_of a.seat.me.0))) };
 }
 
-/// What a board ends with.
+/// The final totals of a board.
 #[derive(Clone, Copy, Debug, PartialEq, Eq)]
 pub struct BoardTotals {
-    /// How many numbers were claimed: those from 0 to one below it.
+    /// The number of numbers claimed: those from 0 to one below it.
     pub claims: u64,
     /// The greatest point that was published, from 1 to 65,535; 0 if none was.
     pub horizon: Point,

@@ -1,4 +1,4 @@
--- What a store that may not be open yet is answered, and what it is then.
+-- The replies of a store that may not be open yet, and its state after them.
 use Rattle.std.specs.Prelude.{◌≡◌, ◌⊎◌, ℕ, List, [], true, false, drop, None, Some, Result, Err}
 use Rattle.pc_types.specs.declared.refusal.Refusal.{Refusal}
 use Rattle.pc_types.specs.declared.refusal.Refusal.TheVariants.{OutOfMemory, BadKind, WrongPhase}

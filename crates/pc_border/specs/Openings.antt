@@ -1,4 +1,4 @@
--- What a store starts from, and why it isn't opened.
+-- The start of a store, and the reasons why it isn't opened.
 use Rattle.std.specs.Prelude.{◌≡◌, ◌⊎◌, ◌<◌, ◌≤◌, ◌+◌, ◌^◌, ◌==◌, ℕ, nat_lt, Bool, [], true, false, Option, Some, None, Err, if◌then◌else◌}
 use Rattle.pc_types.specs.declared.limits.TheConstants.{MOST_FILE_ENTRIES, MOST_KEYS, MOST_SESSIONS}
 use Rattle.pc_types.specs.declared.refusal.Refusal.{Refusal}

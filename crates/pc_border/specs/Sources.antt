@@ -1,4 +1,4 @@
--- What a store is recovered from, as it is given.
+-- The sources of a recovery, as given.
 use Rattle.std.specs.Prelude.{◌≡◌, ◌⊎◌, ◌==◌, ◌&&◌, ◌||◌, ℕ, Bool, not, List, [], ◌∷◌, ◌++◌, length, Option, Some, None, Result, Ok, Err, if◌then◌else◌}
 use Rattle.pc_types.specs.declared.refusal.Refusal.{Refusal}
 use Rattle.pc_types.specs.declared.refusal.Refusal.TheVariants.{OutOfMemory}

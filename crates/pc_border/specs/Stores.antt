@@ -1,4 +1,4 @@
--- What a store is answered at the border, and what it is then.
+-- The replies of a store at the border, and its state after them.
 use Rattle.std.specs.Prelude.{◌≡◌, ◌⊎◌, ◌≤◌, ◌<◌, ◌+◌, ℕ, List, length, Option, Some, None, Result, Ok, Err, slice_range}
 use Rattle.std.specs.List.{flat_map}
 use Rattle.pc_types.specs.declared.Event.{Event}

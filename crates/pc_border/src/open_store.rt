@@ -16,14 +16,14 @@ use pc_wire::codes::{BASE, ENTRIES, LOG, PART};
 use pc_wire::{Answer, Call, Shown, event_of, refused, text_told, told_of};
 use std::alloc::Global;
 
-// How many entries of the log are shown at most at a time.
+// The number of entries of the log shown at most at a time.
 const MOST_SHOWN: usize = 65_536;
 
 /// A store that is open.
 #[derive(Drop)]
 pub struct OpenStore {
     pub world: World,
-    /// What was shown last.
+    /// The bytes that were shown last.
     pub shown: Shown,
 }
 
@@ -39,7 +39,7 @@ impl OpenStore {
     }
 
     /// Answers a call: if it asks an event, as `World::step` answers it, with all that is promised of that, or that an allocation failed,
-    /// which changes nothing; else by why it asks none, which changes nothing. The reply is what is shown from now on.
+    /// which changes nothing; otherwise by why it asks none, which changes nothing. The reply is what is shown from now on.
     pub fn call(&mut self, alloc: Global, call: &Call, key: &[u8], value: &[u8]) -> Answer
         ensures { IsCalled self.old call.now key.now value.now result self.new }
     {
@@ -52,8 +52,8 @@ impl OpenStore {
     /// Shows a text: that of the base that the store started from (`BASE`); that of the file of the shelf with this number (`PART`); what
     /// comes before the entries in the log's file (`LOG`); or the texts of entries of the log, in order (`ENTRIES`): of those after the
     /// first `number`, at most 65,536, and at least one if there is one; the answer has their number. Returns `BadKind` if and only if it
-    /// is called none of these, with `NoFile` if and only if there is no such file; otherwise the only error is `OutOfMemory`; then
-    /// nothing is changed.
+    /// is called none of these, `NoFile` if and only if there is no such file; otherwise the only error is `OutOfMemory`; then nothing is
+    /// changed.
     pub fn show_text(&mut self, alloc: Global, what: u32, number: u32) -> Answer
         ensures { IsText what number self.old result self.new }
     {

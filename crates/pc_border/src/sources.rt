@@ -1,4 +1,4 @@
-//! What a store is recovered from, as it is given piece by piece.
+//! The sources of a recovery, given piece by piece.
 ghost use Rattle.std.specs.Prelude.{◌≡◌, ◌⊎◌, [], true, false, length, map, IfOk, IfErr, IfSome, OnOk, OnErr};
 ghost use Rattle.pc_types.specs.declared.refusal.Refusal.TheVariants.{OutOfMemory, BadKind};
 ghost use Rattle.pc_types.specs.Fields.{Gives};
@@ -12,17 +12,17 @@ use pc_wire::codes::{BASE, LOG, PART};
 use pc_wire::refusal_number;
 use std::alloc::{AllocError, Global};
 
-/// What was recovered, in numbers.
+/// The result of a recovery, in numbers.
 #[repr(C)]
 #[derive(Clone, Copy)]
 pub struct Worth {
     /// The number of the run.
     pub run: u64,
-    /// How many pairs there are.
+    /// The number of pairs.
     pub pairs: u64,
     /// How many whole entries the log has.
     pub entries: u64,
-    /// How many parts were not used.
+    /// The number of parts not used.
     pub skipped: u64,
     /// The point up to which parts are in it.
     pub point: u32,
@@ -75,7 +75,6 @@ impl Sources {
         }
     }
 
-    // Keeps a text.
     fn keep(&mut self, what: u32, text: Items<u8>) -> Result<(), Refusal>
         ensures given { OnOk result (self.new ≡ given what self.old text) }
         ensures refused { OnErr result (self.new ≡ self.old) }
@@ -118,7 +117,7 @@ pub(crate) fn copied(alloc: Global, bytes: &[u8]) -> Option<Items<u8>>
     }
 }
 
-/// What was recovered, in numbers.
+/// The result of a recovery, in numbers.
 pub fn worth_of(found: &Recovered) -> Worth
     ensures { result ≡ worth_of found.now.run (recovery_of found.now) (length found.now.pairs.items) }
 {

@@ -42,7 +42,7 @@ impl Handle {
         Handle { at }
     }
 
-    // What the handle has, as a box that was taken apart.
+    // The handle's store, as a box that was taken apart.
     fn give_up(self, alloc: Global) -> Option<Unboxed<Store, Global>>
         ensures { self.value ≡ option_map (λ u. u.value) result }
     {

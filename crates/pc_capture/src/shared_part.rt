@@ -44,7 +44,7 @@ impl SharedPart {
     }
 
     /// The part of the point, of what was taken of it, with one owner, and how many entries it has: what was taken becomes the
-    /// part's entries in place, and nothing is left of it where it was. So it takes a constant time, however many keys were taken.
+    /// part's entries in place, and nothing is left of it where it was. So it takes constant time, however many keys were taken.
     /// It is at most as much as a file may have. All memory is made before anything is moved. Refuses with `OutOfMemory` alone;
     /// what was taken is then as it was.
     pub fn of_taken(
@@ -71,7 +71,7 @@ impl SharedPart {
         Ok((shared, count))
     }
 
-    /// One more owner of the same part. It takes a constant time and no memory, and copies nothing. Refuses with `OutOfMemory`
+    /// One more owner of the same part. It takes constant time and no memory, and copies nothing. Refuses with `OutOfMemory`
     /// alone, which here means the greatest number of owners.
     pub fn again(&self) -> Result<SharedPart, Refusal>
         ensures same { IfOk result (λ shared. shared ≡ self.now) }

@@ -1,4 +1,4 @@
--- What is seen of slots: of each its record, if it has one, and where its link leads.
+-- The view of slots: of each its record, if it has one, and where its link leads.
 use Rattle.std.specs.Prelude.{◌≡◌, ◌<◌, ℕ, Bool, true, false, List, [], ◌∷◌, length, Option, Some, None, is_some, slice_index_or, slice_set}
 
 pub record Slots (T : Type 0) : Type 0 where

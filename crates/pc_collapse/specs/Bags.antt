@@ -1,4 +1,4 @@
--- What the bag and the collapsers' hands hold together.
+-- The files that the bag and the collapsers' hands hold together.
 use Rattle.std.specs.Prelude.{◌≡◌, ℕ, ◌+◌, ◌≤◌, List, [], ◌∷◌, ◌++◌, length, Option, None, IfSome}
 use Rattle.std.specs.Option.{option_or}
 use mathlib.Core.Option.{some}

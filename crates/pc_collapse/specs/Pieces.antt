@@ -1,4 +1,4 @@
--- What is joined, as a file.
+-- The piece to be joined, as a file.
 use Rattle.std.specs.Prelude.{ℕ, ◌<◌, List, length, slice_index_or, ⊤}
 use Rattle.pc_model.specs.Maps as map_of
 use Rattle.pc_model.specs.Sets as set

@@ -1,4 +1,4 @@
--- What is dealt in a round, and what comes back.
+-- The parts dealt in a round, and those that come back.
 use Rattle.std.specs.Prelude.{ℕ, ◌<◌, List, [], ◌∷◌, ◌++◌, length, map, slice_index_or, Result, MatchResult, ⊤}
 use Rattle.std.specs.declared.vec.Vec.{Vec}
 use Rattle.std.specs.declared.alloc.Global.{Global}

@@ -72,8 +72,8 @@ fn collapse<G: Given + Send + Sync, E: Gate + Sync, R: Threads + Wait + Sync>(
     left_by(rt, alloc, parts, &bag, &mut pass, all)
 }
 
-// What has become of the files once all collapsers have ended: if one of them kept a refusal, the first that was kept; and else
-// the join of what is left in the bag.
+// The result once all collapsers have ended: if one of them kept a refusal, the first that was kept; and otherwise the join of
+// what is left in the bag.
 fn left_by<G: Given, R: Wait>(
     rt: &R,
     alloc: Global,
@@ -170,7 +170,6 @@ fn work_all<G: Given + Send + Sync, E: Gate + Sync, R: Threads + Wait + Sync>(
     );
 }
 
-// The collapser's turns.
 fn work<G: Given, E: Gate, R: Wait>(
     rt: &R,
     alloc: Global,
@@ -306,7 +305,7 @@ fn gather<G: Given>(
     refused
 }
 
-// What is left in the bag.
+// The rest of the bag.
 fn drain<G: Given, R: Wait>(
     rt: &R,
     alloc: Global,

@@ -85,7 +85,6 @@ pub(crate) fn pieces_of<G: Given>(
     Ok(pieces)
 }
 
-// The borrowed parts.
 fn lent_pieces<G: Given>(alloc: Global, lent: &[Part]) -> Result<Vec<Piece<G>>, AllocError>
     requires { lent.now ≡ G.parts }
     ensures { IfOk result (λ pieces. pieces.items ≡ lent.now) }
@@ -131,7 +130,6 @@ fn fold_halves<G: Given>(
     join_pieces(alloc, parts, &left, &right)
 }
 
-// The only piece.
 fn only<G: Given>(mut pieces: Vec<Piece<G>>) -> Piece<G>
     requires { vec_len pieces ≡ 1 }
     ensures { pieces.items ≡ result ∷ [] }

@@ -1,4 +1,5 @@
-//! What is joined: borrowed parts, by their numbers, and owned parts, which are freed as soon as they are joined.
+//! The pieces to be joined: borrowed parts, by their numbers, and owned parts, which are freed as soon as they are
+//! joined.
 ghost use Rattle.std.specs.Prelude.{◌≡◌, ◌<◌, [], ◌∷◌, length};
 ghost use Rattle.pc_collapse.specs.Pieces.{file_at};
 ghost use Rattle.pc_collapse.specs.Worth.{JoinsToOne};

@@ -77,7 +77,6 @@ fn rounds<G: Given + Send + Sync, E: Gate + Sync, R: Threads + Wait + Sync>(
     fold_pieces(alloc, parts, left)
 }
 
-// One round.
 fn round<G: Given + Send + Sync, E: Gate + Sync, R: Threads + Wait + Sync>(
     rt: &R,
     alloc: Global,
@@ -102,7 +101,7 @@ pub(crate) struct Neighbours<G: Given> {
     second: Option<Piece<G>>,
 }
 
-// What a collapser was dealt, and its number.
+// The pairs dealt to a collapser, and its number.
 #[derive(Drop)]
 pub(crate) struct Dealt<G: Given> {
     number: u8,
@@ -179,7 +178,6 @@ fn join_dealt<G: Given + Send + Sync, E: Gate + Sync, R: Threads + Wait + Sync>(
     )
 }
 
-// A collapser's work.
 fn join_pairs<G: Given, E: Gate>(
     alloc: Global,
     parts: &[Part],
@@ -218,7 +216,7 @@ fn join_pair<G: Given, E: Gate>(
     }
 }
 
-// What the collapsers give back.
+// The files that the collapsers return.
 fn gather<G: Given>(
     alloc: Global,
     joined: Vec<Result<Vec<Piece<G>>, Refusal>>,

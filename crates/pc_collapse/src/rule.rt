@@ -6,7 +6,7 @@ use pc_part::Part;
 use std::collections::LinkedList;
 use std::marker::PhantomData;
 
-// What a collapser holds, and its parts of the right to know the whole. No value of it is made.
+// The file that a collapser holds, and its parts of the right to know the whole. No value of it is made.
 pub(crate) struct Hand {
     pub(crate) parts: u64,
     pub(crate) held: LinkedList<Part>,
@@ -82,7 +82,7 @@ impl<G: Given> Lesson<Piece<G>, Hand> for Drains<G> {
     ghost fact = { λ v items. AreWorth G.files (items ++ v.held) };
 }
 
-// What is held is put in as one file.
+// The file that is held is put in as one file.
 pub(crate) struct PutsFile<G> {
     of: PhantomData<G>,
 }

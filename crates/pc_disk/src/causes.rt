@@ -11,7 +11,7 @@ use std::sync::OnceLock;
 /// The most failures that are kept; later ones are dropped.
 const KEPT: usize = 8;
 
-/// What was being done with a file when it failed.
+/// The operation on a file that failed.
 #[derive(Clone, Copy)]
 pub enum Doing {
     Opening,
@@ -48,7 +48,7 @@ pub struct Cause {
     pub doing: Doing,
     /// The file's path.
     pub path: String,
-    /// What the system said.
+    /// The system's error.
     pub error: Error,
 }
 

@@ -17,10 +17,10 @@ pub const BASE: &str = "base.pcb";
 /// The name of the log.
 pub const LOG: &str = "log.pcl";
 
-/// How the names of parts end.
+/// The suffix of the names of parts.
 pub const PART_END: &[u8] = b".pcp";
 
-/// What recovery finds in a folder.
+/// The files that recovery finds in a folder.
 #[derive(Drop)]
 pub struct FoundFolder<'a> {
     /// The base, the parts in the byte order of their names, and the log.
@@ -34,11 +34,11 @@ pub struct FoundFolder<'a> {
 pub struct ReadFolder<'a> {
     pub rt: &'a HostRuntime,
     pub path: &'a str,
-    /// Where it is noted why a file can't be read.
+    /// The list of the causes why files can't be read.
     pub causes: &'a Causes,
 }
 
-/// What the folder has for recovery. It is an error only if an allocation failed.
+/// The folder's files for recovery. It is an error only if an allocation failed.
 pub fn open_folder<'a>(dir: ReadFolder<'a>) -> Result<FoundFolder<'a>, AllocError> {
     let mut unopened = Vec::new(dir.rt.alloc());
     let base = open_named(dir, BASE)?;

@@ -16,7 +16,7 @@ pub struct LateFile<'a> {
     opened: Opened,
 }
 
-// What is left to be read of a file.
+// The rest of a file, to be read.
 #[derive(Drop)]
 enum Opened {
     NotYet,

@@ -26,7 +26,7 @@ pub struct Target<'a> {
 }
 
 impl<'a> Target<'a> {
-    /// A file of this path is to be made; nothing is yet.
+    /// A file to be made at this path; nothing is made yet.
     pub fn new(rt: &'a HostRuntime, causes: &'a Causes, path: String) -> Target<'a> {
         let apart = None;
         Target {

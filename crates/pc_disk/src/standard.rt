@@ -10,7 +10,7 @@ use std::{fs, io};
 /// The name of standard output in the message of its failure.
 pub const OUTPUT: &str = "standard output";
 
-/// What standard input is called.
+/// The name of standard input.
 pub const INPUT: &str = "standard input";
 
 /// How many standard streams there are; they have the first descriptors.

@@ -1,4 +1,4 @@
--- How an add would go.
+-- The outcome that an add would have.
 use Rattle.std.specs.Prelude.{◌≡◌, ℕ, ◌&&◌, ◌||◌, not, Bool, false, true, List, [], ◌∷◌, Option, Some, None, is_none, ℤ, pos}
 use Rattle.pc_types.specs.declared.Change.{Change}
 use Rattle.pc_types.specs.declared.Outcome.{Outcome}

@@ -1,4 +1,4 @@
--- What a check of a store compares: its contents and its files against its log.
+-- The check of a store: its contents and its files against its log.
 use Rattle.std.specs.Prelude.{◌≡◌, ℕ, List, All}
 use Rattle.pc_model.specs.Maps.{get}
 use Rattle.pc_model.specs.Log.{after}

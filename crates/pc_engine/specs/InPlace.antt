@@ -1,4 +1,4 @@
--- What the sessions, the records and the cycle keep together: open transactions have their writes in place.
+-- The joint invariant of the sessions, the records and the cycle: open transactions have their writes in place.
 use Rattle.pc_model.specs.Database.{written}
 use Rattle.pc_model.specs.Changes.{AppliesIfAny}
 use Rattle.std.specs.Prelude.{◌≡◌, ℕ, ◌<◌, ◌≤◌, Bool, true, false, List, [], length, Option, Some, None, is_some, option_map, slice_index_or, ◌⊎◌}

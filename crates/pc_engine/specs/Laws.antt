@@ -6,7 +6,7 @@ use Rattle.pc_records.specs.Rows.{record_of, requests_on}
 use Rattle.pc_engine.specs.Store.{Store}
 use Rattle.pc_engine.specs.Stands.{Stands, IsSerial, KeepsPoints}
 
--- Its committed contents are those of its log, and committed transactions have read right.
+-- Its committed contents are those of its log, and committed transactions have read correctly.
 abbrev pub StandingWorldsAreSerial : Type 0
 StandingWorldsAreSerial = (w : Store) (history : History) → Stands w history → IsSerial w history
 

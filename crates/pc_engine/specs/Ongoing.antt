@@ -1,4 +1,4 @@
--- What the sessions are seen as, with the records and the phases below their open transactions, and what each call makes of it.
+-- The view of the sessions, with the records and the phases below their open transactions, and the effect of each call on it.
 use Rattle.std.specs.Prelude.{ℕ, ◌+◌, List, [], ◌++◌, map, replicate, Option, Some, None, false}
 use Rattle.pc_types.specs.declared.Class.{Class}
 use Rattle.pc_types.specs.declared.Mode.{Mode}

@@ -1,4 +1,4 @@
--- What happens to the sessions' open transactions.
+-- The effects on the sessions' open transactions.
 use Rattle.std.specs.Prelude.{ℕ, ◌-◌, ◌≤◌, Bool, true, false, List, [], map, filter, length, Option, Some, None, slice_index_or, slice_set, option_map}
 use Rattle.pc_types.specs.declared.Write.{Write}
 use Rattle.pc_types.specs.Changes.{changed}
@@ -83,13 +83,13 @@ abbrev pub after_dying : Option Active → Option Active
 after_dying None = None
 after_dying (Some t) = Some (record t { has_died = true })
 
--- the first if the request died, and else the second
+-- the first if the request died, and otherwise the second
 abbrev pub if_died : {X : Type 0} → Outcome → X → X → X
 if_died Granted a b = b
 if_died Queued a b = b
 if_died Died a b = a
 
--- the first if the request is granted, and else the second
+-- the first if the request is granted, and otherwise the second
 abbrev pub if_granted : {X : Type 0} → Outcome → X → X → X
 if_granted Granted a b = a
 if_granted Queued a b = b

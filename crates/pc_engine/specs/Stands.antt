@@ -56,13 +56,13 @@ pub record Stands (w : Store) (history : History) : Type 0 where
   pub parts : IsReadOff w history
 
 -- Serial truth: each key's committed value is that of the log replayed on the base, the reads and the sums of each committed
--- transaction are right, and each add of the log applies to what was committed before it.
+-- transaction are correct, and each add of the log applies to what was committed before it.
 pub record IsSerial (w : Store) (history : History) : Type 0 where
   pub contents : (key : List ℕ) → stored (record_of w.kept.rows key) ≡ map_of.get (after w.base.pairs w.log) key
   pub reads : HasRightReads w.base.pairs history
   pub adds : AddsApply w.base.pairs w.log
 
--- What checkpoints promise: each touched key is taken once, with what it has at the point, and the headline.
+-- The promise of checkpoints: each touched key is taken once, with what it has at the point, and the headline.
 pub record KeepsPoints (w : Store) (history : History) : Type 0 where
   pub once : TakesEachKeyOnce history
   pub values : TakesPointValue w.base.pairs history

@@ -1,4 +1,4 @@
--- What one event does to a world.
+-- The effect of one event on a world.
 use Rattle.std.specs.Prelude.{⊤, ◌≡◌, ℕ, ◌+◌, ◌-◌, ◌<◌, ◌==◌, not, Bool, false, List, [], ◌∷◌, ◌++◌, length, map, Option, Some, None, ◌⊎◌, is_some, is_none, ℤ, if◌then◌else◌, MatchOption}
 use Rattle.std.specs.FinMap.{put as put_entry}
 use Rattle.pc_types.specs.declared.Entry.TheVariants.{Commit, Token}
@@ -32,7 +32,7 @@ use Rattle.pc_engine.specs.Adds.{add_causes, sum_in}
 use Rattle.pc_engine.specs.Store.{Active, Store, setting_of, active}
 use Rattle.pc_engine.specs.Sessions.{with_session, number_in, has_died_in, writes_in, left_by, seen_in, count_of, after_writing, after_dying, if_died, if_granted}
 
--- What is certain is answered and changes nothing; if nothing is certain this is done, or an allocation failed and nothing
+-- A certain reply is given and changes nothing; if no reply is certain this is done, or an allocation failed and nothing
 -- changed.
 abbrev pub Owes : Option Reply → Store → Reply → Store → Type 0 → Type 0
 Owes None old reply new Done = Done ⊎ ((reply ≡ told.Refused why.OutOfMemory) × (new ≡ old))

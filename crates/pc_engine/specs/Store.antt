@@ -1,4 +1,4 @@
--- What a world is seen as.
+-- The view of a world.
 use Rattle.std.specs.Prelude.{ℕ, ◌-◌, ◌==◌, Bool, List, length, Option, None, if◌then◌else◌, slice_index_or}
 use Rattle.pc_types.specs.declared.Class.{Class}
 use Rattle.pc_types.specs.declared.Entry.{Entry}

@@ -1,4 +1,4 @@
--- Who has a transaction open, and who waits for a lock.
+-- The sessions with an open transaction, and those that wait for a lock.
 use Rattle.std.specs.Prelude.{ℕ, ◌&&◌, Bool, false, if◌then◌else◌}
 use Rattle.pc_model.specs.History.{History, is_open}
 use Rattle.pc_model.specs.Locks.{is_waiting}

@@ -69,7 +69,7 @@ impl Lane {
         }
     }
 
-    /// What the open transaction has written; nothing if there is none.
+    /// The open transaction's writes; nothing if there is none.
     pub(crate) fn writes(&self) -> &WriteSet
         ensures { result.now.items ≡ writes_in self.now.own }
     {

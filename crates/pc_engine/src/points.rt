@@ -1,4 +1,4 @@
-//! What each event of the checkpointer does.
+//! The effect of each event of the checkpointer.
 ghost use Rattle.std.specs.Prelude.{◌≡◌, IfOk, option_copied};
 ghost use Rattle.pc_answers.specs.Replies.{take_reply};
 ghost use Rattle.pc_phase.specs.Agreement.{reply_of};
@@ -107,7 +107,7 @@ impl World {
     }
 }
 
-// How it is answered what holds a change back.
+// The reply that represents what holds a change back.
 fn reply_of(held: Held) -> Reply
     ensures { result ≡ reply_of held }
 {

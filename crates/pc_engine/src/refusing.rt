@@ -1,4 +1,4 @@
-//! What is answered if whoever asks has no memory.
+//! The reply to a caller that has no memory.
 ghost use Rattle.std.specs.Prelude.{◌≡◌, List, ℕ, Option};
 ghost use Rattle.pc_model.specs.History.{History};
 ghost use Rattle.pc_types.specs.declared.Event.TheVariants.{Get, Commit};

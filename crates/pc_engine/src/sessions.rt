@@ -35,7 +35,7 @@ use std::alloc::{AllocError, Global};
 use std::hash::RandomState;
 use std::marker::Model;
 
-/// How an add would go: its sum, if its request would be granted, and the slot of its key, if that has one.
+/// The outcome that an add would have: its sum, if its request would be granted, and the slot of its key, if that has one.
 #[derive(Clone, Copy)]
 pub(crate) struct Prospect {
     pub(crate) sum: Option<i64>,
@@ -90,7 +90,7 @@ impl Sessions {
         })
     }
 
-    /// How many sessions there are.
+    /// The number of sessions.
     pub(crate) fn len(&self) -> usize
         ensures { result ≡ length self.now.sessions }
     {
@@ -112,7 +112,7 @@ impl Sessions {
         self.phases.point()
     }
 
-    /// How many transactions were begun.
+    /// The number of transactions begun.
     pub(crate) fn begun(&self) -> u64
         ensures count { result ≡ self.now.begun }
         ensures limit { result ≤ MOST_TRANSACTIONS }
@@ -127,7 +127,7 @@ impl Sessions {
         active(self.lanes.as_slice(), session)
     }
 
-    /// What the session's open transaction has written: of each key all its changes as one, in the order of first writes.
+    /// The writes of the session's open transaction: of each key all its changes as one, in the order of first writes.
     pub(crate) fn writes(&self, session: SessionNo) -> &[Write]
         ensures writes { result.now ≡ writes_in (own self.now session) }
         ensures few { length result.now ≤ MOST_WRITES }
@@ -239,9 +239,9 @@ impl Sessions {
         }
     }
 
-    /// How an add to the key would go, if no request of the session's transaction waits: its sum, if its request would be granted. It
-    /// is refused with `Full` if and only if the key has no record and can't get one, and else, only if the request would be granted,
-    /// with `NotNumber` or `OutOfRange`. It changes nothing and takes no memory.
+    /// The outcome that an add to the key would have, if no request of the session's transaction waits: its sum, if its request would
+    /// be granted. It is refused with `Full` if and only if the key has no record and can't get one, and otherwise, only if the
+    /// request would be granted, with `NotNumber` or `OutOfRange`. It changes nothing and takes no memory.
     pub(crate) fn foretell(
         &self,
         session: SessionNo,
@@ -394,7 +394,7 @@ impl Sessions {
         self.phases.leave(class);
     }
 
-    /// What holds the change of the phase back.
+    /// The obstacle to the change of the phase.
     pub(crate) fn held_back(&self, change: Change) -> Option<Held>
         ensures held { result ≡ held_back self.now.phases change (length self.now.closed_set) }
         ensures counted { AreCounted self.now.phases self.now.sessions }

@@ -197,8 +197,8 @@ impl World {
         file_at(&self.shelf, number)
     }
 
-    /// One more owner of the shelf's file of this number. It takes a constant time and no memory, and copies nothing. Returns `NoFile` if
-    /// and only if there is none; otherwise only `OutOfMemory` if the file has as many owners as it may have.
+    /// One more owner of the shelf's file of this number. It takes constant time and no memory, and copies nothing. Returns `NoFile` if
+    /// and only if there is none; otherwise the only error is `OutOfMemory`, if the file has as many owners as it may have.
     pub fn hand_out(&self, number: FileNo) -> Result<SharedPart, Refusal>
         ensures file { IfOk result (λ shared. file_at self.now.shelf number ≡ Some shared) }
         ensures none { (result ≡ Err Refusal.NoFile) ↔ (file_at self.now.shelf number ≡ None) }
@@ -250,7 +250,7 @@ impl World {
     }
 }
 
-// What an event asks to write or to add is within the limits of keys, values and numbers: their types say so.
+// The keys, values and numbers of an event are within their limits: their types say so.
 pub(crate) fn in_limits(event: &Event)
     ensures { IsInLimits event.now }
 {

@@ -1,4 +1,4 @@
-//! Where a file of a collapse or of a folder is damaged.
+//! The place of the damage in a file of a collapse or of a folder.
 use crate::explaining::{Lines, bytes_of};
 use crate::meanings::meaning_of;
 use itoa::Buffer;

@@ -1,4 +1,4 @@
-//! What a fault is about, told after its line: which file, what was done with it, where, and what the system said.
+//! The explanation of a fault, printed after its line: which file, the operation, the place, and the system's error.
 use crate::damage::Damage;
 use crate::meanings::meaning_of;
 use pc_disk::{BASE, Cause, Causes, Doing, INPUT, OUTPUT};
@@ -23,7 +23,7 @@ pub enum About<'a> {
     Start(&'a str, u32),
 }
 
-/// What is known where faults are explained.
+/// The information for explaining faults.
 #[derive(Drop)]
 pub struct Explainer<'a> {
     pub rt: &'a HostRuntime,
@@ -43,12 +43,12 @@ pub fn is_explained(rt: &HostRuntime, is_asked: bool) -> bool {
 pub struct Explained<'a, W> {
     inner: W,
     explainer: &'a Explainer<'a>,
-    // What was written of a line.
+    // The written part of a line.
     line: Vec<u8>,
 }
 
 impl<'a, W> Explained<'a, W> {
-    /// What is written goes on to the writer.
+    /// All writes go on to the writer.
     pub fn new(explainer: &'a Explainer<'a>, inner: W) -> Explained<'a, W> {
         let line = Vec::new(explainer.rt.alloc());
         Explained {
@@ -121,8 +121,8 @@ impl<'a> Explainer<'a> {
         }
     }
 
-    // What the system said of it: of a file of this name, or else, if the word tells of the system's failures, the first that there
-    // was.
+    // The system's error about it: of a file of this name, or else, if the word tells of the system's failures, the first that
+    // there was.
     fn cause_of(&self, name: &[u8], word: &[u8]) -> Option<&'a Cause> {
         if !is_of_system(word) {
             return None;

@@ -1,4 +1,4 @@
-//! What a recovered folder lacks, told line by line.
+//! The defects of a recovered folder, one line for each.
 use crate::damage::Damage;
 use crate::explaining::bytes_of;
 use crate::meanings::meaning_of;

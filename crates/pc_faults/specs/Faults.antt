@@ -1,4 +1,4 @@
--- Where the fault of a text is seen.
+-- The place of the fault of a text.
 use Rattle.std.specs.Prelude.{◌≡◌, ◌≤◌, ℕ, suc, Bool, true, false, List, length, take, Option, Some, None, Result, Ok, Err}
 use Rattle.pc_types.specs.declared.refusal.Refusal.{Refusal}
 use Rattle.pc_types.specs.declared.refusal.Refusal.TheVariants.{Short}

@@ -6,7 +6,7 @@ use pc_part::{Base, Part};
 use pc_types::Refusal;
 use std::alloc::{AllocError, Global};
 
-/// Which file's text some bytes are to be.
+/// The kind of file that some bytes are expected to be.
 #[derive(Clone, Copy, Debug, PartialEq, Eq)]
 pub enum TextKind {
     Part,
@@ -16,7 +16,7 @@ pub enum TextKind {
 /// The fault of a text.
 #[derive(Clone, Copy, Debug)]
 pub struct TextFault {
-    /// What the bytes are refused with.
+    /// The refusal of the bytes.
     pub why: Refusal,
     /// The number of bytes with whose last one the fault is seen: fewer are only too few. It is the number of all bytes if they are
     /// too few, and if a text has ended before the last of them it is that of the text's bytes.
@@ -39,7 +39,7 @@ pub fn locate(alloc: Global, kind: TextKind, bytes: &[u8]) -> Result<Option<Text
     Ok(Some(TextFault { why, bytes }))
 }
 
-// What the bytes are refused with, if they are.
+// The refusal of the bytes, if they are refused.
 #[tactic(auto, unfolding(crate::specs::Faults::fault_at))]
 fn fault_of(alloc: Global, kind: &TextKind, bytes: &[u8]) -> Result<Option<Refusal>, AllocError>
     ensures { IfOk result (λ found. found ≡ fault_at kind.now bytes.now) }

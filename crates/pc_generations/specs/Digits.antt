@@ -1,4 +1,4 @@
--- How a number is read from the name of a folder.
+-- Reading a number from the name of a folder.
 use Rattle.std.specs.Prelude.{ℕ, ◌+◌, ◌*◌, ◌-◌, List, slice_index_or}
 
 -- the digit with this index, 0 if there is none

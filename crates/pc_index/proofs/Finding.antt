@@ -34,7 +34,7 @@ module _ {T : Type 0} (key_of : T → List ℕ) where
   is_key_of key k None e = absurd cc
   is_key_of key k (Some x) e = let f : key_of x ≡ k = cc in ap (λ (z : List ℕ). same_text z key) f
 
-  -- a slot of which the key is told has a record
+  -- a slot that has a key has a record
   pub item_there : (o : Option T) (k : List ℕ) → option_map key_of o ≡ Some k → (x : T) × (o ≡ Some x) × (key_of x ≡ k)
   item_there None k e = absurd cc
   item_there (Some x) k e = (x, refl, cc)

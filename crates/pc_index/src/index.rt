@@ -81,8 +81,8 @@ impl Index {
     }
 
     /// The slot of the record that has the key; if none has it, a blank one is made in a free slot. Each other key keeps its
-    /// slot. Returns `Full` if and only if no record has the key and no slot is free; otherwise only `OutOfMemory` if no record
-    /// has it and the blank one can't be made; slots and index are then as they were.
+    /// slot. Returns `Full` if and only if no record has the key and no slot is free; otherwise the only error is `OutOfMemory`,
+    /// if no record has it and the blank one can't be made; slots and index are then as they were.
     pub fn find_or_make<K, S: KeyedSlots<K>>(
         &mut self,
         slots: &mut S,
@@ -106,8 +106,8 @@ impl Index {
     }
 
     /// The slot of the blank record of a key that no record has, which goes into a free slot; each other key keeps its slot.
-    /// Returns `Full` if and only if no slot is free; otherwise only `OutOfMemory` if the blank record can't be made; slots and
-    /// index are then as they were.
+    /// Returns `Full` if and only if no slot is free; otherwise the only error is `OutOfMemory`, if the blank record can't be
+    /// made; slots and index are then as they were.
     pub fn make<K, S: KeyedSlots<K>>(
         &mut self,
         slots: &mut S,

@@ -1,4 +1,4 @@
--- How clients are dealt to workers, who are seen as the lists of their clients: in turn, so that the client at a place is at the
+-- Dealing clients to workers, who are seen as the lists of their clients: in turn, so that the client at a place is at the
 -- worker whose number is what is left of the place when it is divided by the number of workers. Both count from 0.
 use Rattle.std.specs.Prelude.{◌≡◌, ◌<◌, ◌%◌, ℕ, suc, nat_eq, if◌then◌else◌, List, [], ◌∷◌, length, slice_index_or}
 use Rattle.pc_jobs.specs.declared.works.Client.{Client}

@@ -1,4 +1,4 @@
--- What is kept of the lines after a line, the last first.
+-- The summary of the lines after a line, the last first.
 use Rattle.std.specs.Prelude.{Bool, true, false, List, Option, Some, None, reverse}
 use Rattle.pc_jobs.specs.declared.phrases.Phrase.{Phrase}
 use Rattle.pc_jobs.specs.declared.phrases.Phrase.TheVariants as phrase

@@ -86,7 +86,7 @@ clients_in [] = []
 clients_in (phrase.Client session ∷ lines) = record { session = session; works = works_in lines } ∷ clients_in lines
 clients_in (line ∷ lines) = clients_in lines
 
--- how many points are to be taken: none if no line says it
+-- the number of points to take: none if no line says it
 abbrev pub points_in : List Phrase → ℕ
 points_in [] = 0
 points_in (phrase.Points points ∷ lines) = points
@@ -96,7 +96,7 @@ points_in (line ∷ lines) = points_in lines
 abbrev pub workload_of : List Phrase → Workload
 workload_of lines = record { points = points_in lines; clients = clients_in lines }
 
--- a bad line, if there is one, and else the workload
+-- a bad line, if there is one, and otherwise the workload
 abbrev pub outcome : Option ℕ → Workload → WorkloadReading
 outcome (Some line) workload = reading.BadLine line
 outcome None workload = reading.Runs workload

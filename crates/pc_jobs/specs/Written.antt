@@ -1,4 +1,4 @@
--- How a workload is written, line by line. This is said of a workload, with no word of how its lines are read.
+-- The text of a workload, line by line, independent of how lines are read.
 use Rattle.std.specs.Prelude.{◌≡◌, ◌⊎◌, Bool, true, false, List, [], ◌∷◌, ◌++◌, map, filter, nat_eq}
 use Rattle.std.specs.List.{flat_map, IsDistinct}
 use Rattle.pc_jobs.specs.declared.works.ClientTask.{ClientTask}

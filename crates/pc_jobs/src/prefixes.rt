@@ -1,4 +1,4 @@
-//! What the keys of a fill begin with.
+//! The prefix of the keys of a fill.
 ghost use Rattle.std.specs.Prelude.{◌≡◌, ◌<◌, ◌+◌, ◌++◌, length, IfOk, IfErr, if◌then◌else◌, Some, None};
 ghost use Rattle.pc_types.specs.declared.limits.TheConstants.{SPACE_BYTES};
 ghost use Rattle.pc_types.specs.Keys.{key_of};
@@ -12,7 +12,7 @@ use std::marker::Model;
 // How many digits come after a prefix.
 const DIGITS: usize = 6;
 
-/// What the keys of a fill begin with: a space, and 0 to 249 bytes, so that a key has room for six digits after them. Contracts
+/// The prefix of the keys of a fill: a space, and 0 to 249 bytes, so that a key has room for six digits after them. Contracts
 /// see the space's two bytes, the higher one first, and the others after them.
 #[derive(Drop)]
 pub struct Prefix {

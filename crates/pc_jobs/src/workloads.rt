@@ -17,9 +17,9 @@ use std::alloc::{AllocError, Global};
 /// The meaning of the text of a workload.
 #[derive(Drop)]
 pub enum WorkloadReading {
-    /// No line is bad: this is to be run.
+    /// No line is bad: the workload to run.
     Runs(Workload),
-    /// The number of the first bad line, from 1. Nothing is to be run.
+    /// The number of the first bad line, from 1. There is nothing to run.
     BadLine(usize),
 }
 
@@ -36,7 +36,7 @@ pub fn read_workload(alloc: Global, text: &[u8]) -> Result<WorkloadReading, Refu
     }
 }
 
-// What the lines of the text spell.
+// The meaning of the lines of the text.
 fn phrases_in(alloc: Global, text: &[u8]) -> Result<Vec<Phrase>, Refusal>
     ensures phrases { IfOk result (λ v. v.items ≡ phrases_in text.now) }
     ensures refusals { IfErr result (λ e. e ≡ Refusal.OutOfMemory) }
@@ -49,7 +49,7 @@ fn phrases_in(alloc: Global, text: &[u8]) -> Result<Vec<Phrase>, Refusal>
     Ok(phrases)
 }
 
-// What was seen in the lines before one.
+// The summary of the lines before one.
 #[derive(Clone, Copy)]
 struct Seen {
     // The number of points was given.
@@ -160,7 +160,7 @@ fn closing(line: &Phrase) -> Option<bool>
     }
 }
 
-// What was gathered of the lines after one, the last first.
+// The summary of the lines after one, the last first.
 #[derive(Drop)]
 struct Gathered {
     points: u32,
@@ -196,7 +196,7 @@ fn workload_of(alloc: Global, mut lines: Vec<Phrase>) -> Result<Workload, AllocE
     })
 }
 
-// What is gathered once the line before is added.
+// The summary once the line before is added.
 fn with_line(alloc: Global, line: Phrase, behind: Gathered) -> Result<Gathered, AllocError>
     ensures { (lines : List Phrase) → behind ≡ gathered_of lines → IfOk result (λ gathered. gathered ≡ gathered_of (line ∷ lines)) }
 {

@@ -1,4 +1,4 @@
--- Pieces of a log: the texts of whole entries, in order, in a room of memory.
+-- Pieces of a log: the texts of whole entries, in order, in a buffer.
 use Rattle.std.specs.Prelude.{◌≡◌, ℕ, ◌+◌, ◌-◌, ◌≤◌, ◌<◌, ◌&&◌, List, [], ◌∷◌, length, take, nat_lt, slice_index_or, All, if◌then◌else◌}
 use Rattle.std.specs.List.{flat_map}
 use Rattle.pc_types.specs.declared.Entry.{Entry}

@@ -17,8 +17,8 @@ entries_of log = entries_in_pieces log.full.items ++ log.open.entries
 abbrev pub HasRoomForEntry : Log → ℕ → Type 0
 HasRoomForEntry log size = size ≤ log.open.room
 
--- a log can have the entry, beside how many writes it has: a commit is of a session from 1 to 64, and no two of its writes have one
--- key; a token is of a point from 1 on
+-- a log can have the entry, apart from the number of its writes: a commit is of a session from 1 to 64, and no two of its writes
+-- have one key; a token is of a point from 1 on
 abbrev pub IsFitEntry : Entry → Type 0
 IsFitEntry (Commit session writes) = (1 ≤ session) × (session ≤ MOST_SESSIONS) × AreDistinct writes
 IsFitEntry (Token phase point) = 1 ≤ point

@@ -83,7 +83,7 @@ impl Chunk {
         self.before
     }
 
-    /// How many entries it has.
+    /// The number of entries that it has.
     pub(crate) fn len(&self) -> usize
         ensures { result ≡ length self.now.entries }
     {

@@ -26,7 +26,7 @@ impl Log {
         }
     }
 
-    /// How many entries there are, at most 16,777,216.
+    /// The number of entries, at most 16,777,216.
     pub fn len(&self) -> usize
         ensures { result ≡ length (entries_of self.now) }
     {

@@ -16,7 +16,7 @@ use std::alloc::{AllocError, Global};
 pub struct LentTexts<'a> {
     /// The texts.
     pub bytes: &'a [u8],
-    /// How many entries they are of.
+    /// The number of entries that they are of.
     pub count: usize,
 }
 
@@ -65,7 +65,7 @@ impl Log {
         }
     }
 
-    /// How many bytes the text of the entry at this place takes.
+    /// The number of bytes that the text of the entry at this place takes.
     pub fn size(&self, place: usize) -> usize
         requires { place < length (entries_of self.now) }
         ensures { (entry : Entry) → slice_get (entries_of self.now) place ≡ Some entry → result ≡ length (entry_text entry) }

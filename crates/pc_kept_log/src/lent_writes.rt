@@ -25,7 +25,7 @@ use std::marker::Model;
 pub struct LentWrite<'a> {
     /// The bytes of its key, as `Key::as_bytes` has them: the space's two, and its own after them.
     pub key: &'a [u8],
-    /// What it does to the key.
+    /// Its effect on the key.
     pub change: LentChange<'a>,
 }
 
@@ -83,7 +83,7 @@ fn to_change(alloc: Global, change: &LentChange<'_>) -> Result<Change, AllocErro
 pub struct LentWrites<'a> {
     // The texts of the writes to come, in order, and the bytes after them.
     bytes: &'a [u8],
-    // How many are to come.
+    // The number of items to come.
     count: usize,
 }
 
@@ -101,7 +101,6 @@ impl<'a> Model for LentWrites<'a> {
 }
 
 impl<'a> LentWrites<'a> {
-    // `None`.
     fn none() -> LentWrites<'a>
         ensures { result ≡ [] }
     {
@@ -111,7 +110,7 @@ impl<'a> LentWrites<'a> {
         }
     }
 
-    /// How many are to come.
+    /// The number of items to come.
     pub fn len(&self) -> usize
         ensures { result ≡ length self.now }
     {
@@ -197,7 +196,7 @@ fn lend_key(bytes: &[u8]) -> Result<(&[u8], &[u8]), Refusal>
     read_key_text(Format::Second, rest, count, Refusal::BadLength)
 }
 
-// What a write does to its key: a kind of 0 and nothing, of 1 and a value, or of 2 and a number in two's complement.
+// The effect of a write on its key: a kind of 0 and nothing, of 1 and a value, or of 2 and a number in two's complement.
 #[tactic(auto, unfolding(pc_log::specs::Reading::change_at))]
 fn lend_change(bytes: &[u8]) -> Result<(LentChange<'_>, &[u8]), Refusal>
     ensures read { Reads (λ x. (lent_change x.0, x.1.now)) result (change_at bytes.now) }

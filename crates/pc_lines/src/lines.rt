@@ -10,7 +10,7 @@ use arrayvec::ArrayVec;
 use pc_types::{Event, FileNo, Key, MOST_VALUE_BYTES, Refusal, SessionNo, Value};
 use std::alloc::Global;
 
-/// What a line of a script spells.
+/// The meaning of a line of a script.
 #[derive(Drop)]
 pub enum Line {
     /// No words, or a `#` first: nothing is answered.
@@ -29,7 +29,7 @@ pub enum Line {
     Shows(View),
 }
 
-/// What a line asks to be shown.
+/// The view that a line asks for.
 #[derive(Clone, Copy, Debug, PartialEq, Eq)]
 pub enum View {
     /// The base with a file applied to it.
@@ -43,7 +43,7 @@ pub enum View {
 /// A line is determined by its first five words: no form has more than four.
 pub const MOST_WORDS: usize = 5;
 
-/// What the line, without its end, spells. Refuses only with `OutOfMemory`.
+/// The meaning of the line, without its end. Refuses only with `OutOfMemory`.
 pub fn read_line(alloc: Global, text: &[u8]) -> Result<Line, Refusal>
     ensures line { IfOk result (λ line. line ≡ spelled text.now) }
     ensures refusals { IfErr result (λ e. e ≡ Refusal.OutOfMemory) }
@@ -54,7 +54,7 @@ pub fn read_line(alloc: Global, text: &[u8]) -> Result<Line, Refusal>
     spelled_by(alloc, &first_words(text))
 }
 
-// What the words of a line spell.
+// The meaning of the words of a line.
 fn spelled_by(alloc: Global, words: &[&[u8]]) -> Result<Line, Refusal>
     ensures line { IfOk result (λ line. line ≡ spelled_by (map (λ w. w.now) words.now)) }
     ensures refusals { IfErr result (λ e. e ≡ Refusal.OutOfMemory) }
@@ -92,7 +92,7 @@ pub fn next_word(text: &[u8]) -> Option<(&[u8], &[u8])>
     Some((&text[..end], &text[end + 1..]))
 }
 
-// How many spaces a text begins with.
+// The number of spaces that a text begins with.
 fn word_at(text: &[u8]) -> usize
     ensures place { result ≡ position_or_len (λ b. not (b == 32)) text.now }
     ensures bound { result ≤ length text.now }

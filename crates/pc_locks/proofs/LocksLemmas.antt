@@ -236,7 +236,7 @@ filled_lists nodes entries f = λ t k. ap (λ xs. is_some (first_of xs)) (found_
 keeps_settled : (nodes : Nodes) (ids : ℕ → List ℕ) (entries : List (ℕ × List ℕ)) → Keeps nodes ids entries → AreSettled (record { queues = queues_in nodes ids; lists = lists_in nodes entries })
 keeps_settled nodes ids entries k = record { settled = k.settled; linked = k.linked; filled = filled_lists nodes entries k.table.filled }
 
--- beside the ends
+-- with the ends
 pub ends_keep : (ends : ℕ → Chain ℕ) (kept : KeptRequests) → AreEnds ends kept → Keeps kept.nodes.slots (ids_by (links_in kept.nodes.slots) ends) kept.entries
 ends_keep ends kept a = record { table = a.tied.table; settled = a.settled.settled; linked = a.settled.linked }
 

@@ -1,4 +1,4 @@
--- What locks are seen as: each slot's queue, and the slots of each transaction.
+-- The view of locks: each slot's queue, and the slots of each transaction.
 use Rattle.std.specs.Prelude.{◌≡◌, ◌≢◌, ⊤, ℕ, ◌==◌, Bool, true, false, not, filter, List, [], ◌∷◌, ◌++◌, Option, Some, None, is_some, unwrap_or, if◌then◌else◌}
 use Rattle.std.specs.List.{list_any}
 use Rattle.std.specs.Ordering.{nat_cmp}

@@ -1,4 +1,4 @@
-//! What keeps the ends of the slots' queues.
+//! The keeper of the ends of the slots' queues.
 ghost use Rattle.std.specs.Prelude.{◌≡◌, ◌≢◌, ◌↔◌, ℕ};
 ghost use Rattle.pc_chain.specs.declared.chain.Chain.{Chain};
 
@@ -33,7 +33,7 @@ pub trait QueueEnds<K> {
     /// If nothing changed, all is as it was.
     ghost beside_same: { (a : Self) → beside a a };
 
-    /// What stayed twice has stayed.
+    /// The relation is transitive.
     ghost beside_then: { (a b c : Self) → beside a b → beside b c → beside a c };
 
     /// If everything besides them stayed, the same slots have ends.

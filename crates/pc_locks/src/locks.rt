@@ -43,10 +43,10 @@ impl Locks {
     }
 
     /// Answers a transaction's request of a slot. What the own lock covers is granted immediately, and a new request if it is
-    /// compatible with every other one. Else it waits if the transaction is older than each of the others, and else it dies
-    /// and leaves no request; an upgrade while there is another reader dies too, and the shared lock stays. A lock is held
-    /// until it is released. The transaction may have no request that waits. Memory is asked for only if a new request is
-    /// kept and there is no room for it. It fails only if an allocation fails, and then nothing changed.
+    /// compatible with every other one. Otherwise it waits if the transaction is older than each of the others, and otherwise
+    /// it dies and leaves no request; an upgrade while there is another reader dies too, and the shared lock stays. A lock is
+    /// held until it is released. The transaction may have no request that waits. Memory is asked for only if a new request
+    /// is kept and there is no room for it. It fails only if an allocation fails, and then nothing changed.
     pub fn request<K, E: QueueEnds<K>>(
         &mut self,
         keeper: &mut E,
@@ -70,8 +70,8 @@ impl Locks {
         }
     }
 
-    /// How `request` would answer, if no request of the transaction waits; whether one does isn't looked at. It changes
-    /// nothing and takes no memory.
+    /// The outcome that `request` would have, if no request of the transaction waits; whether one does isn't looked at. It
+    /// changes nothing and takes no memory.
     pub fn outcome<K, E: QueueEnds<K>>(
         &self,
         keeper: &E,

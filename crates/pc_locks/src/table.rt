@@ -89,7 +89,7 @@ impl RequestTable {
         self.nodes.capacity()
     }
 
-    // What is after the id in its slot's queue.
+    // The next id in its slot's queue.
     fn next(&self, id: usize) -> Option<usize>
         ensures { result ≡ next_in (links_of self.now) id }
     {
@@ -140,7 +140,7 @@ impl RequestTable {
         self.find(queue, test).is_some()
     }
 
-    /// How a request of a transaction that has none in the queue is answered.
+    /// The outcome of a request of a transaction that has none in the queue.
     pub(crate) fn outcome_of_new(
         &self,
         queue: Chain<usize>,
@@ -164,7 +164,7 @@ impl RequestTable {
         }
     }
 
-    // How an upgrade of the transaction's own request of the queue is answered.
+    // The outcome of an upgrade of the transaction's own request of the queue.
     fn outcome_of_upgrade(&self, queue: Chain<usize>, transaction: TxnNo) -> Outcome
         requires { IsQueue (links_of self.now) queue }
         ensures { result ≡ outcome_of_upgrade (queue_along self.now queue) transaction }
@@ -176,7 +176,7 @@ impl RequestTable {
         }
     }
 
-    /// How a request of a transaction whose own request of the queue was found is answered.
+    /// The outcome of a request of a transaction whose own request of the queue was found.
     pub(crate) fn outcome_again(
         &self,
         queue: Chain<usize>,

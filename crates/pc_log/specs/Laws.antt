@@ -1,4 +1,4 @@
--- What is read of a text, and what was written is read again.
+-- The laws of reading a text, and of reading again a written one.
 use Rattle.std.specs.Prelude.{◌≡◌, ℕ, ◌+◌, ◌-◌, ◌<◌, ◌≤◌, ◌^◌, ◌==◌, List, ◌++◌, length, take, Some, None, Ok, Err, All, slice_index, if◌then◌else◌}
 use Rattle.std.specs.List.{flat_map}
 use Rattle.pc_types.specs.declared.refusal.Refusal.TheVariants.{Short}
@@ -75,8 +75,8 @@ cut_read format run entries c p =
     let left = left_behind format run entries c p in
     record { run = run; entries = take p entries; rest = left; fault = if left == 0 then None else Some Short }
 
--- A log's text of either format that is truncated within its header, which has 20 bytes, is short. Else the entries are read that
--- are whole, and the rest is short, if there is one.
+-- A log's text of either format that is truncated within its header, which has 20 bytes, is short. Otherwise the entries are read
+-- that are whole, and the rest is short, if there is one.
 abbrev pub CutLogsAreRead : Type 0
 CutLogsAreRead =
     (format : Format) (run : ℕ) (entries : List Entry) (c : ℕ) → run < 2 ^ 64 → All IsEntry entries → HasLog format entries → InOrder entries →

@@ -31,7 +31,7 @@ byte_at (byte ∷ rest) = Ok (byte, rest)
 abbrev pub is_written : List Write → List ℕ → Bool
 is_written writes key = list_any (λ (write : Write). same_key key write.key) writes
 
--- what a write does to its key: a kind of 0 and nothing, of 1 and a value, or of 2 and a number in two's complement
+-- the effect of a write on its key: a kind of 0 and nothing, of 1 and a value, or of 2 and a number in two's complement
 unfoldable pub change_at : List ℕ → Result (Change × List ℕ) Refusal
 change_at [] = Err BadLength
 change_at (zero ∷ rest) = Ok (Remove, rest)

@@ -28,7 +28,7 @@ log_magic Second = codes "PCALCL02"
 abbrev pub header_text_in : Format → ℕ → List ℕ
 header_text_in format run = log_magic format ++ (to_be_bytes w64 run ++ to_be_bytes w32 0)
 
--- what a write does to its key: the kind, and after it the value that is set, or the number that is added
+-- the effect of a write on its key: the kind, and after it the value that is set, or the number that is added
 abbrev pub change_text : Change → List ℕ
 change_text Remove = content_text None
 change_text (Set value) = content_text (Some value)

@@ -146,7 +146,7 @@ fn put_token<W: io::Write>(out: &mut Tally<W>, phase: Phase, point: Point) -> Re
     out.put_all(&[&[0, 0, 0, 6, TOKEN, phases::number(phase)], &point_bytes])
 }
 
-/// How many bytes the text of the entry takes, which has at most 256 writes.
+/// The number of bytes that the text of the entry takes, which has at most 256 writes.
 pub fn entry_size(entry: &Entry) -> u32
     requires { HasFewWrites entry.now }
     ensures { result ≡ length (entry_text entry.now) }
@@ -157,7 +157,7 @@ pub fn entry_size(entry: &Entry) -> u32
     }
 }
 
-/// How many bytes the text of a commit of these writes takes, which are at most 256.
+/// The number of bytes that the text of a commit of these writes takes, which are at most 256.
 pub fn commit_size(writes: &[Write]) -> u32
     requires { length writes.now ≤ MOST_WRITES }
     ensures { (session : ℕ) → result ≡ length (entry_text (Commit session writes.now)) }
@@ -165,10 +165,10 @@ pub fn commit_size(writes: &[Write]) -> u32
     8 + writes_size(writes)
 }
 
-/// How many bytes the text of a token takes.
+/// The number of bytes that the text of a token takes.
 pub const TOKEN_SIZE: u32 = 10;
 
-/// How many bytes the texts of these writes take, which are at most 256: at most 65,799 each.
+/// The number of bytes that the texts of these writes take, which are at most 256: at most 65,799 each.
 pub fn writes_size(writes: &[Write]) -> u32
     requires { length writes.now ≤ MOST_WRITES }
     ensures size { result ≡ length (flat_map write_text writes.now) }

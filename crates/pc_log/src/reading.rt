@@ -14,9 +14,9 @@ use pc_types::{
 };
 use std::alloc::Global;
 
-/// How many bytes the body of an entry has at most in this format: those of the most writes, of the longest keys and values, with
-/// two for the length of each key, one for the byte after it and four for the length of its value, after one each for the kind
-/// and the session and two for the number of writes.
+/// The number of bytes that the body of an entry has at most in this format: those of the most writes, of the longest keys and
+/// values, with two for the length of each key, one for the byte after it and four for the length of its value, after one each
+/// for the kind and the session and two for the number of writes.
 pub fn most_body_bytes(format: Format) -> usize
     ensures { result ≡ most_body_bytes format }
 {
@@ -27,8 +27,8 @@ pub fn most_body_bytes(format: Format) -> usize
     4 + MOST_WRITES * (2 + key + 1 + 4 + MOST_VALUE_BYTES)
 }
 
-/// What was read of a log's text: its whole entries, which are all that can be read after the header one by one with their tokens
-/// in order, and what is left after them.
+/// The result of reading a log's text: its whole entries, which are all that can be read after the header one by one with their
+/// tokens in order, and what is left after them.
 #[derive(Drop)]
 pub struct LogText {
     /// The number of the run.
@@ -101,7 +101,7 @@ fn read_entries(alloc: Global, format: Format, run: u64, bytes: &[u8]) -> Result
     })
 }
 
-// What was read if the rest has this fault, or an allocation failed.
+// The result if the rest has this fault, or an allocation failed.
 fn stopped(run: u64, entries: Vec<Entry>, rest: &[u8], fault: Refusal) -> Result<LogText, Refusal>
     ensures read { Gives text_of result (Ok (record { run = run; entries = entries.items; rest = length rest.now; fault = Some fault })) }
     ensures memory { fault ≡ Refusal.OutOfMemory → result ≡ Err Refusal.OutOfMemory }
@@ -238,7 +238,7 @@ fn read_write<'a>(
     Ok((Write { key, change }, rest))
 }
 
-// What a write does to its key: a kind of 0 and nothing, of 1 and a value, or of 2 and a number in two's complement.
+// The effect of a write on its key: a kind of 0 and nothing, of 1 and a value, or of 2 and a number in two's complement.
 #[tactic(auto, unfolding(crate::specs::Reading::change_at))]
 fn read_change(alloc: Global, bytes: &[u8]) -> Result<(Change, &[u8]), Refusal>
     ensures { Gives (λ x. (x.0, x.1.now)) result (change_at bytes.now) }

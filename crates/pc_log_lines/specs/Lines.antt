@@ -1,4 +1,5 @@
--- What `pcalc log` prints: a line for each entry of a log within a range, and one for the fault with which the rest begins.
+-- The output of `pcalc log`: a line for each entry of a log within a range, and one for the fault with which the rest
+-- begins.
 use Rattle.std.specs.Prelude.{ℕ, ◌+◌, ◌-◌, ◌&&◌, nat_le, if◌then◌else◌, List, [], ◌∷◌, ◌++◌, length, Option, Some, None, Result, Ok, Err, codes, decimal}
 use Rattle.std.specs.List.{flat_map}
 use Rattle.std.specs.Fmt.{signed_decimal}

@@ -1,4 +1,4 @@
--- How the lines of a log go out, and why not all of them may.
+-- The output of a log's lines, and the reasons why not all of them go out.
 use Rattle.std.specs.Prelude.{◌≡◌, ◌⊎◌, ℕ, List, Option, IsOk}
 use Rattle.std.specs.declared.result.Result.{Result}
 use Rattle.std.specs.Io.KnownBytes.{Appends}

@@ -160,7 +160,7 @@ fn put_add<W: io::Write>(out: &mut Tally<W>, key: &Key, number: &i64) -> Result<
     put_number(out, number)
 }
 
-// What is done to a key, and the key.
+// The word for a write, and its key.
 fn put_verb<W: io::Write>(out: &mut Tally<W>, verb: &[u8], key: &Key) -> Result<(), Refusal>
     ensures { Puts W.contents out.old out.new result (verb.now ++ printed_key key.now) }
 {

@@ -19,7 +19,7 @@ pub struct EntryRange {
     pub high: u64,
 }
 
-// What is left of a log after its whole entries: how many bytes, and the fault with which they begin, if there are any. If the header
+// The rest of a log after its whole entries: the number of bytes, and the fault with which they begin, if there are any. If the header
 // has a fault, it is all of the log.
 #[derive(Clone, Copy)]
 pub(crate) struct Rest {

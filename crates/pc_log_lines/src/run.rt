@@ -24,7 +24,7 @@ pub enum LostLog<R> {
     Output,
 }
 
-/// How the lines of a log have ended.
+/// The outcome of printing a log's lines.
 #[derive(Drop)]
 pub struct EndedLog<R> {
     pub status: u8,

@@ -1,4 +1,4 @@
--- What is to come of a stream of entries.
+-- The future of a stream of entries.
 use Rattle.std.specs.Prelude.{◌≡◌, ◌≢◌, ◌⊎◌, ℕ, Bool, IsTrue, List, [], ◌∷◌, Option, Some, None, Result, Ok, Err, ⊤}
 use Rattle.pc_types.specs.Counted.{HasRisen}
 use Rattle.pc_types.specs.declared.Refusal.{Refusal}
@@ -44,7 +44,7 @@ pub record Standing : Type 0 where
 abbrev pub Counts : ℕ → ℕ → Refusal → Type 0
 Counts was now why = (why ≡ Device → HasRisen was now) × (why ≢ Device → now ≡ was)
 
--- If a call was refused, each later call is refused so, and nothing is read. Else a refusal is kept.
+-- If a call was refused, each later call is refused so, and nothing is read. Otherwise a refusal is kept.
 abbrev pub StandsBy : {X : Type 0} → Option Refusal → Standing → Standing → Result X Refusal → Type 0
 StandsBy (Some why) was now result = (result ≡ Err why) × (now ≡ was)
 StandsBy None was now (Ok x) = now ≡ was

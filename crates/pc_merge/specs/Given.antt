@@ -1,4 +1,4 @@
--- What a merge has given since it began, and what it gives until all inputs have ended.
+-- The entries that a merge has given since it began, and those until all inputs have ended.
 use Rattle.std.specs.Prelude.{◌≡◌, ◌⊎◌, ◌<◌, ℕ, List, [], ◌∷◌, ◌++◌, Option, Some, None, length, map, ⊤}
 use Rattle.std.specs.List.{All}
 use Rattle.pc_types.specs.declared.Refusal.{Refusal}
@@ -50,7 +50,7 @@ HasTooMany inputs = (given : List Triple) × (left : List Coming) × HasGiven in
 abbrev pub IsCauseOfAll : List Coming → Refusal → Type 0
 IsCauseOfAll inputs why = IsCause inputs why ⊎ ((why ≡ Full) × HasTooMany inputs)
 
--- What a merge has given until all inputs have ended is the merge of them.
+-- The entries that a merge has given until all inputs have ended are the merge of them.
 abbrev pub EndsAreMerges : Type 0
 EndsAreMerges = (start : List Coming) (given : List Triple) (left : List Coming) → HasGiven start given left → AreEnded left → IsMerge start given
 

@@ -20,8 +20,8 @@ abbrev pub if_ended : List Triple → Option Refusal → Option Coming
 if_ended [] None = Some ended
 if_ended entries fault = None
 
--- What is left of an input: the entry that was drawn and what is to come. If none was drawn, nothing is to come; else nothing is
--- known.
+-- The rest of an input: the entry that was drawn and those to come. If none was drawn, nothing is to come; otherwise
+-- nothing is known.
 abbrev pub left_of : Option Triple → Option Coming → Option Coming
 left_of (Some entry) input = option_map (after_entry entry) input
 left_of None (Some input) = if_ended input.entries input.fault

@@ -1,4 +1,4 @@
--- What a merge gives next, and what is then left of its inputs.
+-- The next entry of a merge, and the rest of its inputs after it.
 use Rattle.std.specs.Prelude.{◌≡◌, ◌⊎◌, ◌<◌, ℕ, List, [], ◌∷◌, Option, Some, None, Result, Ok, Err, map, slice_get, if◌then◌else◌, ⊤}
 use Rattle.std.specs.List.{All, Contains}
 use Rattle.std.specs.declared.cmp.Ordering.TheVariants.{Less}
@@ -79,17 +79,18 @@ pub record HaveConflict (inputs : List Coming) : Type 0 where
   pub point : entry.point ≡ second.point
   pub differ : entry.content ≡ second.content → ⊥
 
--- the keys of one of the inputs don't rise
+-- the keys of one of the inputs don't ascend
 abbrev pub HasNoOrder : List Coming → Type 0
 HasNoOrder inputs = (input : Coming) × Contains inputs input × (KeysRise (entries_of input.entries) → ⊥)
 
 -- why a merge of these inputs may be refused: memory or a device failed, an input ends in that refusal, two conflict, or the keys
--- of one don't rise
+-- of one don't ascend
 abbrev pub IsCause : List Coming → Refusal → Type 0
 IsCause inputs why =
     (why ≡ OutOfMemory) ⊎ (why ≡ Device) ⊎ HasFault inputs why ⊎ ((why ≡ Conflict) × HaveConflict inputs) ⊎ ((why ≡ KeyOrder) × HasNoOrder inputs)
 
--- what a merge may refuse, whether it is known what is to come or not: what its inputs may, and a conflict or keys that don't rise
+-- what a merge may refuse, whether it is known what is to come or not: what its inputs may, and a conflict or keys that don't
+-- ascend
 abbrev pub IsMergeRefusal : (Refusal → Type 0) → Refusal → Type 0
 IsMergeRefusal refusals why = (why ≡ Conflict) ⊎ (why ≡ KeyOrder) ⊎ refusals why
 

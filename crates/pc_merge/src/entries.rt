@@ -10,7 +10,7 @@ use std::vec::IntoIter;
 
 /// Entries that come in order, up to an end or a refusal.
 pub trait Entries {
-    /// What is to come, if that is known.
+    /// The entries to come, if they are known.
     ghost coming: { Self → Option Coming };
 
     /// The refusal that was answered, after which nothing else is, and how many calls of a device failed.
@@ -19,7 +19,7 @@ pub trait Entries {
     /// All that is to come, whether it is known or not, is of these points.
     ghost within: { Self → (ℕ → Bool) → Type 0 };
 
-    /// What may be refused, whether it is known what is to come or not.
+    /// The possible refusals, whether or not the entries to come are known.
     ghost refusals: { Refusal → Type 0 } = { λ _. ⊤ };
 
     /// The next entry, or `None` at the end. It may be kept in this memory. After a refusal it answers the same one from then

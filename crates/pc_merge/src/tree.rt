@@ -67,7 +67,8 @@ fn better(heads: &[u64], firsts: &[Option<EntryText>], first: u32, second: u32) 
     }
 }
 
-// Whether the first comes no later than the other, whose heads are known: as these are if they differ, and else by the keys.
+// Whether the first comes no later than the other, whose heads are known: as these are if they differ, and otherwise by the
+// keys.
 fn is_no_later(
     head: u64,
     first: &Option<EntryText>,

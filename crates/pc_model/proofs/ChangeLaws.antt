@@ -83,7 +83,7 @@ nothing_done db key d none = same_database _ _ (λ q. get_put db key q (changed 
     by_match q false e = refl
 
 -- More writes of a transaction, each applying to what the ones before it made, do the same if they are kept as one for each
--- key beside those of before.
+-- key besides those of before.
 module _ (db : Database) where
   pub still : (ws : List Write) (w : Write) → AllApply db ws → Applies w.change (seen (written ws w.key) (get db w.key)) → AllApply db (with_write ws w)
   still ws w apply own q = subst (λ o. AppliesIfAny o (get db q)) (sym (written_with ws w q)) (by_match (same_bytes w.key q) refl)

@@ -1,5 +1,5 @@
--- What a whole history promises: the tokens of points in order, each touched key taken once, and files that represent the
--- states of their points.
+-- The promises of a whole history: the tokens of points in order, each touched key taken once, and files that represent
+-- the states of their points.
 use Rattle.std.specs.Prelude.{◌≡◌, ℕ, Bool, true, false, List, [], ◌∷◌, ◌++◌, map, ⊤, IsTrue, IsFalse}
 use Rattle.std.specs.List.{IsDistinct, Contains}
 use Rattle.pc_types.specs.declared.Phase.{Phase}

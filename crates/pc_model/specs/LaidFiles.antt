@@ -1,4 +1,4 @@
--- How a file is applied to a base, and what it leaves out.
+-- Applying a file to a base, and what it leaves out.
 use Rattle.std.specs.Prelude.{ℕ, max, not, Option, fold, drop, find}
 use Rattle.pc_model.specs.Sets as set
 use Rattle.pc_model.specs.Sets.{Set, number_order}

@@ -70,7 +70,8 @@ ContentsMakeStates = (base : Database) (log : List Entry) (b n : ℕ) (points : 
 abbrev pub EveryEventHasALegalReply : Type 0
 EveryEventHasALegalReply = (st : Setting) (history : History) (event : Event) → (reply : Reply) × IsLegal st history event reply
 
--- Serial truth: in a legal history, of however many sessions, the reads and the sums of each committed transaction are right.
+-- Serial truth: in a legal history, of however many sessions, the reads and the sums of each committed transaction are
+-- correct.
 abbrev pub CommittedReadsAreRight : Type 0
 CommittedReadsAreRight = (st : Setting) (history : History) → IsLegalHistory st history → HasRightReads st.base history
 

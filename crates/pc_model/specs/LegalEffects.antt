@@ -1,4 +1,4 @@
--- What a legal effect says of the history before it, and which replies have no effect.
+-- The requirements of a legal effect on the history before it, and the replies without effect.
 use Rattle.std.specs.Prelude.{◌≡◌, ℕ, ◌+◌, ⊤, true, List, [], ◌∷◌, Option, IfSome, Bool, false}
 use Rattle.pc_types.specs.declared.Phase.{Phase}
 use Rattle.pc_types.specs.declared.Phase.TheVariants.{Rest, Prepare, Resolve, Capture, Complete}

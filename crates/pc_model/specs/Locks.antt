@@ -52,7 +52,7 @@ outcome_of_new queue t mode =
 abbrev pub outcome_of_upgrade : Queue → ℕ → Outcome
 outcome_of_upgrade queue t = if list_any (λ r. r.granted && not (r.transaction == t)) queue then Died else Granted
 
--- rule 1, and else 5, if the transaction has a request; rules 2 to 4 if it has none
+-- rule 1, and otherwise 5, if the transaction has a request; rules 2 to 4 if it has none
 abbrev pub outcome_beside : Queue → ℕ → Mode → Option Request → Outcome
 outcome_beside queue t mode None = outcome_of_new queue t mode
 outcome_beside queue t mode (Some own) = if is_exclusive own.mode || not (is_exclusive mode) then Granted else outcome_of_upgrade queue t

@@ -1,4 +1,4 @@
--- What a point's checkpoint is made of: the touched keys, the part, the join of parts, and laying on a database.
+-- The parts of a point's checkpoint: the touched keys, the part, the join of parts, and laying on a database.
 use Rattle.std.specs.Prelude.{ℕ, ◌-◌, ◌==◌, nat_lt, Bool, List, [], ◌∷◌, ◌++◌, Option, Some, None, if◌then◌else◌}
 use Rattle.std.specs.List.{list_any}
 use Rattle.pc_model.specs.Maps.{Map, get, insert, empty}

@@ -1,4 +1,4 @@
--- What a queue of lock requests keeps, and who holds a lock.
+-- The invariant of a queue of lock requests, and the holders of a lock.
 use Rattle.std.specs.Prelude.{IsTrue, AllPairs, ◌≡◌, ℕ, ◌==◌, ◌&&◌, ◌||◌, not, ⊤, Bool, true, false, MatchBool, [], ◌∷◌, ◌++◌, Option, Some, None}
 use Rattle.std.specs.List.{list_any, list_all}
 use Rattle.pc_types.specs.declared.Mode.{Mode}

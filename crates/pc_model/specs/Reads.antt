@@ -1,4 +1,4 @@
--- Right reads, and right sums.
+-- Correct reads, and correct sums.
 use Rattle.std.specs.Prelude.{◌≡◌, ℕ, ◌==◌, [], ◌∷◌, ⊤, MatchBool, Some}
 use Rattle.pc_types.specs.Changes.{added}
 use Rattle.pc_model.specs.Maps.{get}
@@ -24,7 +24,7 @@ abbrev pub RightBy : Database → Effect → History → Type 0
 RightBy base (Commits s) history = HasReadFrom (contents base history) s history
 RightBy base other history = ⊤
 
--- the reads and the sums of each committed transaction are right
+-- the reads and the sums of each committed transaction are correct
 abbrev pub HasRightReads : Database → History → Type 0
 HasRightReads base [] = ⊤
 HasRightReads base (step ∷ history) = RightBy base (effect step) history × HasRightReads base history

@@ -1,4 +1,4 @@
--- What a session keeps of its own calls: whether its transaction is open, what that has written and read, and a receipt for
+-- A session's notes of its own calls: whether its transaction is open, what that has written and read, and a receipt for
 -- each commit. All of it is read off the history; and when receipts are exact by a log.
 use Rattle.std.specs.Prelude.{◌≡◌, ℕ, ◌+◌, ◌<◌, ◌==◌, ◌||◌, Bool, false, List, [], ◌∷◌, ◌++◌, length, Option, is_some, if◌then◌else◌, All}
 use Rattle.std.specs.List.{list_any, AllPairs}

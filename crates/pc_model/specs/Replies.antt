@@ -1,4 +1,4 @@
--- Which reply to an event is legal after a history: first the refusals in their order, then the answer.
+-- The legal replies to an event after a history: first the refusals in their order, then the answer.
 use Rattle.std.specs.Prelude.{◌≡◌, ℕ, ◌+◌, ◌==◌, ◌&&◌, ◌||◌, not, nat_lt, Bool, true, false, List, [], ◌∷◌, ◌++◌, Option, Some, None, if◌then◌else◌, map, filter, length, MatchOption, ◌⊎◌, ⊤, is_some, is_none, ℤ}
 use Rattle.pc_types.specs.Changes.{added, can_add}
 use Rattle.pc_types.specs.Changes as change
@@ -224,7 +224,7 @@ abbrev pub IsFileReply : List File → ℕ → Reply → Type 0
 IsFileReply [] number reply = ⊥
 IsFileReply (f ∷ fs) number reply = reply ≡ told.File number (set.items f.points) (map_of.len f.triples)
 
--- The reply if none is certain and memory suffices. What a Take carries is left open.
+-- The reply if none is certain and no allocation fails. What a Take carries is left open.
 abbrev pub Answers : Setting → History → Event → Reply → Type 0
 Answers st history (asked.Begin s) reply = reply ≡ told.Begun (begun history + 1)
 Answers st history (asked.Get s key) reply =

@@ -36,7 +36,7 @@ WritesAreOwnCalls = (s : ℕ) (history : History) → writes_of s (calls_of s hi
 abbrev pub OwnIsOfOwnCalls : Type 0
 OwnIsOfOwnCalls = (s : ℕ) (history : History) → own_of s (calls_of s history) ≡ own_of s history
 
--- What a session keeps after a call is what the call makes of what it kept before.
+-- A session's notes after a call depend only on its notes before and on the call.
 abbrev pub CallsMakeOwn : Type 0
 CallsMakeOwn = (st : Setting) (before : History) (step : Step) (after : History) → Extends st before step after → own_of (session_of step.event) after ≡ own_by (session_of step.event) step (own_of (session_of step.event) before)
 
@@ -52,7 +52,7 @@ LegalRepliesFit = (st : Setting) (history : History) (event : Event) (reply : Re
 abbrev pub LogsGrow : Type 0
 LogsGrow = (early late : History) → IsBeginning early late → (more : List Entry) × (log_of late ≡ log_of early ++ more)
 
--- What is the file of its points by a prefix of a legal history is so by all of it.
+-- A file that is that of its points by a prefix of a legal history is so by all of it.
 abbrev pub FilesStay : Type 0
 FilesStay = (st : Setting) (early late : History) (file : File) → IsLegalHistory st late → IsBeginning early late →
     IsOfItsPoints st.run st.base (log_of early) file → IsOfItsPoints st.run st.base (log_of late) file

@@ -1,4 +1,4 @@
--- What laws say of a history: its effects, its tokens and its files.
+-- The premises of laws about a history: its effects, its tokens and its files.
 use Rattle.std.specs.Prelude.{◌≡◌, ℕ, ◌+◌, ◌-◌, nat_lt, nat_le, Bool, true, false, ◌&&◌, ◌⊎◌, List, [], ◌∷◌, ⊤, IsTrue, IsFalse}
 use Rattle.pc_types.specs.declared.Phase.{Phase}
 use Rattle.pc_types.specs.declared.Phase.TheVariants.{Prepare, Resolve, Capture, Complete}

@@ -52,7 +52,7 @@ pub fn every_event_has_a_legal_reply()
     ensures { EveryEventHasALegalReply }
 {}
 
-/// Serial truth: in a legal history, of however many sessions, the reads of each committed transaction are right.
+/// Serial truth: in a legal history, of however many sessions, the reads of each committed transaction are correct.
 pub fn committed_reads_are_right()
     ensures { CommittedReadsAreRight }
 {}

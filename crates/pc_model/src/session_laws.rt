@@ -16,7 +16,7 @@ pub fn own_is_of_own_calls()
     ensures { OwnIsOfOwnCalls }
 {}
 
-/// What a session keeps after a call is what the call makes of what it kept before, whatever others asked between.
+/// A session's notes after a call depend only on its notes before and on the call, whatever others asked between.
 pub fn calls_make_own()
     ensures { CallsMakeOwn }
 {}
@@ -36,7 +36,7 @@ pub fn logs_grow()
     ensures { LogsGrow }
 {}
 
-/// What is the file of its points by a prefix of a legal history is so by all of it.
+/// A file that is that of its points by a prefix of a legal history is so by all of it.
 pub fn files_stay()
     ensures { FilesStay }
 {}

@@ -30,7 +30,7 @@ pub struct StoreSize {
     ghost in_range: { (1 ≤ capacity) × (capacity ≤ MOST_KEYS) },
 }
 
-/// Where the next generation begins among those that are there.
+/// The folders among which the next generation begins.
 #[derive(Clone, Copy, Debug)]
 pub struct Succession {
     /// The generation that counts, if one does.

@@ -1,4 +1,4 @@
--- What a closed store leaves: how many commits its log has, the file of all points, and whether its files are right.
+-- The report of a closed store: the number of commits in its log, the file of all points, and whether its files are correct.
 use Rattle.std.specs.Prelude.{◌≡◌, ◌≤◌, ◌<◌, ◌↔◌, ◌⊎◌, ⊤, ℕ, Bool, true, false, List, [], ◌∷◌, ◌++◌, Option, Some, None, Ok, Err, All, IsTrue, IsFalse, length, filter}
 use Rattle.std.specs.List.{list_any}
 use Rattle.pc_types.specs.declared.Entry.{Entry}

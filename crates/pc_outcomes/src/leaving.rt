@@ -1,4 +1,4 @@
-//! What a closed store leaves: the file of all points, and whether its files are right by its log.
+//! The report of a closed store: the file of all points, and whether its files are correct by its log.
 ghost use Rattle.std.specs.Prelude.{◌≡◌, ◌≤◌, ◌⊎◌, Some, IfOk, IfErr, drop, length};
 ghost use Rattle.pc_types.specs.declared.Refusal.TheVariants.{OutOfMemory};
 ghost use Rattle.pc_model.specs.Maps.{len};
@@ -21,7 +21,7 @@ use std::hash::RandomState;
 use std::sync::Wait;
 use std::thread::Threads;
 
-/// How many commits the log has.
+/// The number of commits that the log has.
 pub fn commits_in(log: &Log) -> usize
     ensures { result ≡ commits_in (entries_of log.now) }
 {
@@ -70,14 +70,14 @@ fn collapsed<G: Gate + Sync, R: Threads + Wait + Sync>(
     Ok(Some(part))
 }
 
-// How many keys the file has.
+// The number of keys that the file has.
 fn keys_in(part: &Part) -> usize
     ensures { result ≡ len part.now.triples }
 {
     part.entries().len()
 }
 
-// How many pairs the base has with the file applied to it.
+// The number of pairs that the base has with the file applied to it.
 fn pairs_with(alloc: Global, base: &Base, part: &Part) -> Result<usize, Refusal>
     ensures pairs { IfOk result (λ pairs. pairs ≡ len (laid_file base.now part.now).pairs) }
     ensures refused { IfErr result (λ why. (why ≡ OutOfMemory) ⊎ IsUnlaid base.now (Some part.now) why) }
@@ -141,10 +141,10 @@ fn behind(files: &[SharedPart], singles: usize) -> &[SharedPart]
 }
 
 /// The outcome of a closed store's files. Those after the first `singles` are folded to one, by 1 to 64 collapsers; that one is
-/// audited too. After a legal history all is right. Refuses for what keeps them from being folded, or the base from having their fold
-/// applied to it, and else with `OutOfMemory` alone: after a legal history that is `Gap`, if one of the points up to theirs is
-/// missing, or `Full`, and that only of a store that began with more pairs than it has room for, or has room for more than a file may
-/// have. Keys are hashed under the seed, a random 128-bit number.
+/// audited too. After a legal history everything is correct. Refuses for what keeps them from being folded, or the base from having
+/// their fold applied to it, and otherwise with `OutOfMemory` alone: after a legal history that is `Gap`, if one of the points up to
+/// theirs is missing, or `Full`, and that only of a store that began with more pairs than it has room for, or has room for more than
+/// a file may have. Keys are hashed under the seed, a random 128-bit number.
 pub fn left_by<G: Gate + Sync, R: Threads + Wait + Sync>(
     rt: &R,
     alloc: Global,

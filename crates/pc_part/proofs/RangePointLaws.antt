@@ -34,7 +34,7 @@ below_run : (x p n : ℕ) (rest : List ℕ) → x < p → T (below_all nat_cmp x
 below_run x p zero rest lt h = h
 below_run x p (suc n) rest lt h = both _ _ (is_less x p lt) (below_run x (p + 1) n rest (omega arith) h)
 
--- points in order rise, and before points that ascend above them
+-- points in order ascend, also before points that ascend above them
 run_rises : (p n : ℕ) (rest : List ℕ) → ((x : ℕ) → x < p + n → T (below_all nat_cmp x (units rest))) → T (is_sorted nat_cmp (units rest)) → T (is_sorted nat_cmp (units (points_from p n ++ rest)))
 run_rises p zero rest below h = h
 run_rises p (suc n) rest below h = both _ _ (below_run p (p + 1) n rest (omega arith) (below p (omega arith))) (run_rises (p + 1) n rest (λ x lt. below x (omega arith)) h)
@@ -58,7 +58,7 @@ as_map : (ks : List ℕ) → set.from_list {o = number_order} ks ≡ map_of.from
 as_map [] = refl
 as_map (k ∷ ks) = ap (λ s. set.insert s k) (as_map ks)
 
--- the numbers of a set are what it was made of, if that rises
+-- the numbers of a set are what it was made of, if that ascends
 items_of : (ks : List ℕ) → T (is_sorted nat_cmp (units ks)) → set.items {o = number_order} (set.from_list ks) ≡ ks
 items_of ks rise =
     let made = map_of.from_list {o = number_order} (units ks) in

@@ -32,7 +32,7 @@ has_point r q = nat_le r.low q && nat_le q r.high
 abbrev pub have_point : List Range → ℕ → Bool
 have_point ranges q = list_any (λ r. has_point r q) ranges
 
--- ranges that ascend from a point rise from each lesser one, and from each that their first is not below
+-- ranges that ascend from a point ascend from each lesser one, and from each that their first is not below
 lower : (least less : ℕ) (ranges : List Range) → less ≤ least → RangesFrom least ranges → RangesFrom less ranges
 lower least less [] le h = tt
 lower least less (r ∷ ranges) le h = let low : least ≤ r.low = h.0 in (omega arith, h.1, h.2, h.3)
@@ -142,7 +142,8 @@ with_more least (first ∷ second ∷ ranges) range rise after ends limit =
     lows_of [] not_none le = absurd (not_none refl)
     lows_of (r ∷ rs) not_none le = le
 
--- What the loop that unites keeps: the ranges so far rise, those to come begin no lower than the last of them, and together they have the points of both lists.
+-- What the loop that unites keeps: the ranges so far ascend, those to come begin no lower than the last of them, and
+-- together they have the points of both lists.
 pub record Uniting (a b out rest : List Range) : Type 0 where
   pub rise : RangesFrom 1 out
   pub from : BeginFrom (last_low 1 out) rest

@@ -45,7 +45,7 @@ range_again least r rest from ends limit =
     let lawful : (nat_le least r.low && nat_le r.low r.high && nat_le r.high 65535) ≡ true = grind (arith, nat_tests) in
     rw (low, number_again Short w32 (2 ^ 32) wide32 r.high rest (omega arith), lawful) refl
 
--- ranges that were read are those of the text, as many as asked for, and rise with gaps between them
+-- ranges that were read are those of the text, as many as asked for, and ascend with gaps between them
 pub ranges_take : (count least : ℕ) (bytes : List ℕ) (x : List Range × List ℕ) → IsBytes bytes → ranges_at count least bytes ≡ Ok x → TakesText bytes (flat_map bounds_text x.0) x.1 × (length x.0 ≡ count) × RangesFrom least x.0
 ranges_take = items_take _ _ bounds_text RangesFrom (λ least. tt) (λ least bytes x fits e. let taken = range_takes least bytes x fits e in (taken.0, λ others rise. (taken.1, taken.2, taken.3, rise)))
 

@@ -32,7 +32,7 @@ rise_same : (point : ℕ) (taken : Taken) → is_sorted key_cmp (entries_of (map
 rise_same point [] = refl
 rise_same point (t ∷ taken) = ap (λ b. b && is_sorted key_cmp (entries_of (map (triple_at point) taken))) (below_same point t.0 taken) ∙ ap (λ b. below_all key_cmp t.0 taken && b) (rise_same point taken)
 
--- the keys ascend as they rose
+-- the keys ascend as they did before
 pub taken_rise : (point : ℕ) (taken : Taken) (triples : List Triple) → triples ≡ map (triple_at point) taken → KeysRise taken → KeysRise (entries_of triples)
 taken_rise point taken triples is rise = rw is (rise_same point taken ∙ rise)
 

@@ -1,5 +1,5 @@
--- Which files have a text: numbers, keys and values are within their limits, and entries are of the file's points. In format 01
--- their keys are all of space 0.
+-- The files that have a text: numbers, keys and values are within their limits, and entries are of the file's points. In format
+-- 01 their keys are all of space 0.
 use Rattle.std.specs.Prelude.{◌≡◌, ℕ, ◌≤◌, ◌<◌, ◌^◌, List, IfSome, IsTrue}
 use Rattle.std.specs.List.{All}
 use Rattle.pc_types.specs.Limits.{IsKey, IsValue}

@@ -1,5 +1,5 @@
--- How part files and base files are read: field by field, from left to right, with the first fault that is met. The magic tells
--- the format of the text.
+-- Reading part files and base files: field by field, from left to right, with the first fault that is met. The magic tells the
+-- format of the text.
 use Rattle.std.specs.Prelude.{ℕ, zero, suc, ◌+◌, ◌-◌, ◌==◌, ◌&&◌, nat_lt, nat_le, if◌then◌else◌, List, [], ◌∷◌, length, slice_get, Option, Some, None, Result, Ok, Err}
 use Rattle.std.specs.Int.{w16, w32, w64}
 use Rattle.std.specs.Ordering.{is_lt}
@@ -76,8 +76,8 @@ key_or_empty (Some entry) = entry.key
 abbrev pub last_key : List Triple → List ℕ
 last_key entries = key_or_empty (slice_get entries (length entries - 1))
 
--- The entries up to the end mark. Keys rise, the first above this one. Each entry takes more than one of the bytes, so that no more
--- turns are needed than there are bytes.
+-- The entries up to the end mark. Keys ascend, the first above this one. Each entry takes more than one of the bytes, so that no
+-- more turns are needed than there are bytes.
 unfoldable pub entries_at : Format → ℕ → List Range → List ℕ → List ℕ → Result (List Triple × List ℕ) Refusal
 entries_at format zero ranges last bytes = Err Short
 entries_at format (suc turns) ranges last bytes = next_entry_at format ranges last bytes >>= λ next. entries_from (entries_at format turns ranges) next.0 next.1

@@ -45,7 +45,7 @@ fn read_base(alloc: Global, bytes: &[u8]) -> Result<Base, Refusal>
     Ok(Base::at_point(run, point, pairs))
 }
 
-// What was read of a base.
+// The fields read of a base.
 #[derive(Drop)]
 struct FieldsOfBase {
     run: u64,

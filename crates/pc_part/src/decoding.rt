@@ -55,7 +55,7 @@ fn read_part(alloc: Global, bytes: &[u8]) -> Result<Part, Refusal>
     Ok(Part::from_lists(run, ranges, entries))
 }
 
-// What was read of a part.
+// The fields read of a part.
 #[derive(Drop)]
 struct FieldsOfPart {
     run: u64,

@@ -24,7 +24,7 @@ pub struct EntryText {
     text: Vec<u8>,
     // The head of its key.
     head: u64,
-    // Where its key ends.
+    // The end of its key.
     key_end: u16,
     point: u16,
 }
@@ -99,7 +99,7 @@ impl EntryText {
         self.point
     }
 
-    /// What its key had at the point, a value or nothing.
+    /// The content of its key at the point, a value or nothing.
     #[inline(always)]
     pub fn value(&self) -> Option<&[u8]>
         ensures { option_map (λ value. value.now) result ≡ self.now.content }
@@ -166,7 +166,7 @@ impl<'a> LentEntry<'a> {
         Ok(text)
     }
 
-    // Where its key ends in its text in format 02.
+    // The end of its key in its text in format 02.
     #[inline(always)]
     fn key_end(&self) -> u16
         ensures { result ≡ 2 + length self.now.key }
@@ -202,7 +202,7 @@ fn key_of(alloc: Global, bytes: &[u8]) -> Result<Key, AllocError>
     }
 }
 
-// What a key has, of its own. It fails only if an allocation fails.
+// An owned copy of a key's content. It fails only if an allocation fails.
 fn content_of(alloc: Global, value: Option<&[u8]>) -> Result<Option<Value>, AllocError>
     ensures { IfOk result (λ content. content ≡ option_map (λ bytes. bytes.now) value.entry) }
 {

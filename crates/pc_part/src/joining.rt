@@ -55,7 +55,7 @@ fn merge_entries(alloc: Global, a: &Entries, b: &Entries) -> Result<Vec<Triple>,
     Ok(out)
 }
 
-// How many keys both have together; `Conflict` if two triples of one key clash.
+// The number of keys that both have together; `Conflict` if two triples of one key clash.
 fn joined_len(a: &Entries, b: &Entries) -> Result<usize, Refusal>
     requires { IsWithinLimit a.now × IsWithinLimit b.now }
     ensures { result ≡ (if is_empty (merged clash_at (entries_of a.now) (entries_of b.now)) then Ok (length (merged later (entries_of a.now) (entries_of b.now))) else Err Refusal.Conflict) }

@@ -139,7 +139,7 @@ fn laid_item<'a>(
     }
 }
 
-// What a triple's key has once the triple is laid at the point on what it had.
+// The content of a triple's key once the triple is applied, at the point, to the content before.
 fn content_of<'a>(
     point: Point,
     there: Option<&'a Value>,

@@ -95,8 +95,8 @@ fn lend_next_key<'a>(
     Ok((key, rest))
 }
 
-// Whether the key with these bytes after its length comes after the last one: as their heads are if they differ, and else by the
-// keys.
+// Whether the key with these bytes after its length comes after the last one: as their heads are if they differ, and otherwise by
+// the keys.
 #[inline(always)]
 #[tactic(auto, using(crate::proofs::LentLaws::heads_tell))]
 fn comes_after(format: Format, key: &[u8], last: &[u8], last_head: u64) -> bool
@@ -160,7 +160,7 @@ fn lend_entry<'a>(
     Ok((point, value, rest))
 }
 
-// What a key has: a kind of 0 and nothing, or a kind of 1 and a value.
+// The content of a key: a kind of 0 and nothing, or a kind of 1 and a value.
 #[tactic(auto, unfolding(pc_types::specs::Fields::content_at))]
 #[inline(always)]
 fn lend_content(bytes: &[u8]) -> Result<(Option<&[u8]>, &[u8]), Refusal>

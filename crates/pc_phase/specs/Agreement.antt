@@ -1,4 +1,4 @@
--- How the table of changes agrees with the rules of replies.
+-- The agreement of the table of changes with the rules of replies.
 use Rattle.std.specs.Prelude.{◌≡◌, ℕ, ◌==◌, Bool, true, false, List, [], ◌∷◌, length, option_map}
 use Rattle.pc_types.specs.declared.Class.{Class}
 use Rattle.pc_types.specs.declared.Event.{Event}

@@ -19,7 +19,7 @@ pub enum Change {
     Rest,
 }
 
-/// What holds a change back.
+/// The obstacle to a change.
 #[derive(Clone, Copy, Debug, PartialEq, Eq)]
 pub enum Held {
     /// The change begins in another phase.

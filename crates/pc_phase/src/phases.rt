@@ -62,7 +62,7 @@ impl Phases {
         *point
     }
 
-    /// How many transactions of the class are active.
+    /// The number of active transactions of the class.
     pub fn active(&self, class: Class) -> u32
         ensures { result ≡ active_of self.now class }
     {
@@ -116,7 +116,7 @@ impl Phases {
         }
     }
 
-    /// What holds the change back, if that many keys of the point are left to take; `None` if it is allowed. `left` counts
+    /// The obstacle to the change, if that many keys of the point are left to take; `None` if it is allowed. `left` counts
     /// at Done alone. `WrongPhase` if the phase is another, else `PointsFull` if a cycle would begin after the point
     /// 65,535, else `NotYet` with the number of transactions, or keys, that hold it back.
     pub fn held_back(&self, change: Change, left: u32) -> Option<Held>
@@ -131,8 +131,8 @@ impl Phases {
         not_yet(self.count(change, left))
     }
 
-    /// Changes the phase, and at StartPoint the point to the next one, if nothing holds it back. Else it gives what does,
-    /// and nothing changed. The active transactions stay as they are.
+    /// Changes the phase, and at StartPoint the point to the next one, if nothing holds it back. Otherwise it gives what
+    /// does, and nothing changed. The active transactions stay as they are.
     pub fn advance(&mut self, change: Change, left: u32) -> Result<(), Held>
         ensures allowed { IsOk result ↔ (held_back self.old change left ≡ None) }
         ensures ok { OnOk result (self.new ≡ advanced self.old change) }

@@ -49,7 +49,7 @@ const DEATH: u8 = 1;
 
 const FIRST_REFUSAL: u8 = 2;
 
-/// How many transactions were given up, by what the last attempt of each has met.
+/// The number of transactions given up, by the outcome of the last attempt of each.
 #[derive(Drop)]
 pub struct Causes {
     // By the number of a session: the place of what the transaction has met that it has begun last.

@@ -10,21 +10,21 @@ use std::{io, thread};
 /// The milliseconds before the line is shown first, and between two updates.
 const PAUSE: u64 = 10;
 
-/// What is asked to be counted of a run.
+/// The counts that are asked for.
 #[derive(Clone, Copy)]
 pub struct Asked {
-    /// Whether nothing is to be shown on a terminal while it runs.
+    /// Whether to show nothing on a terminal while it runs.
     pub is_quiet: bool,
     /// Whether it writes a log.
     pub has_log: bool,
-    /// Whether a report is to be printed in the end.
+    /// Whether to print a report in the end.
     pub is_reported: bool,
     /// Whether the commits are counted by hundredths of a second.
     pub is_timed: bool,
 }
 
-/// Counts what the loops of a run pass, if that is asked for or is shown on a terminal; else nothing is counted, so that the threads have
-/// no count in common. A loop that passes counts, and never waits for the terminal: a thread of its own shows the line.
+/// Counts what the loops of a run pass, if that is asked for or is shown on a terminal; otherwise nothing is counted, so that the threads
+/// have no count in common. A loop that passes counts, and never waits for the terminal: a thread of its own shows the line.
 #[derive(Drop)]
 pub struct Progress<'a> {
     rt: &'a HostRuntime,
@@ -87,7 +87,7 @@ impl<'a> Progress<'a> {
         Ok(Progress { rt, counting })
     }
 
-    /// Whether a line is to be shown on a terminal.
+    /// Whether to show a line on a terminal.
     pub fn is_shown(&self) -> bool {
         self.line().is_some()
     }
@@ -267,7 +267,7 @@ pub struct Behind<'a, W, R: Wait> {
 }
 
 impl<'a, W, R: Wait> Behind<'a, W, R> {
-    /// What is written goes on to the writer.
+    /// All writes go on to the writer.
     pub fn new(progress: &'a Progress<'a>, waits: &'a R, inner: W) -> Behind<'a, W, R> {
         Behind {
             progress,

@@ -1,17 +1,17 @@
-//! How many transactions committed in each hundredth of a second of a run.
+//! The number of transactions that committed in each hundredth of a second of a run.
 use pc_types::{GatePlace, Phase};
 use std::alloc::{AllocError, Global};
 use std::io;
 use std::io::Write;
 use std::sync::atomic::{AtomicU8, AtomicU32, Ordering};
 
-/// How many hundredths of a second are counted: an hour. What is later is not.
+/// The number of hundredths of a second that are counted: an hour. Later ones are not.
 const HUNDREDTHS: usize = 360_000;
 
 /// The microseconds of a hundredth of a second.
 const LENGTH: u64 = 10_000;
 
-/// What the file begins with.
+/// The first line of the file.
 const HEADING: &str =
     "# hundredths of a second from the begin of the run; commits in this one; the phase at its end";
 

@@ -1,4 +1,4 @@
--- What holds of a line that is bad for a reason, by the rules of workloads alone.
+-- The meaning of the reasons for a bad line, by the rules of workloads alone.
 use Rattle.std.specs.Prelude.{◌≡◌, ◌⊎◌, ◌+◌, ℕ, true, false, List, ◌∷◌, ◌++◌, Option, IsSomeAnd, length}
 use Rattle.std.specs.List.{list_any}
 use Rattle.pc_jobs.specs.declared.works.Op.{Op}

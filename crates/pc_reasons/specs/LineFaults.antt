@@ -1,4 +1,4 @@
--- What is wrong with the words of a line.
+-- The faults of the words of a line.
 use Rattle.std.specs.Prelude.{ℕ, ◌-◌, ◌==◌, Bool, List, [], ◌∷◌, Option, Some, None, if◌then◌else◌, is_some, length, slice_index}
 use Rattle.pc_types.specs.declared.limits.TheConstants.{MOST_SESSIONS}
 use Rattle.pc_lines.specs.Words.{number_of, signed_number_of, text_of, key_text_of}
@@ -29,7 +29,7 @@ is_of kind.WholeValue word = is_some (value_of word)
 is_of kind.KeyPrefix word = is_some (prefix_of word)
 is_of kind.FillCount word = is_within 1 MOST_FILL word
 
--- the fault of a word at this place that is to be of this kind
+-- the fault of a word at this place whose expected kind is this
 abbrev pub word_fault : WordPlace → WordKind → List ℕ → Option LineFault
 word_fault place kind word = if is_of kind word then None else Some (line.WrongWord place kind)
 

@@ -1,4 +1,4 @@
-//! The words after the first of a line: how many there are to be, and which kind each is of.
+//! The words after the first of a line: their expected number and kinds.
 ghost use Rattle.std.specs.Prelude.{◌≡◌, IfOk, map};
 ghost use Rattle.pc_reasons.specs.LineFaults.{is_within, is_of, first_of, word_fault, pair_fault, no_word, one_word, two_words, three_words};
 

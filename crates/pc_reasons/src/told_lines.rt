@@ -17,7 +17,7 @@ use std::io::Write;
 pub struct BadLine {
     /// Its number, from 1.
     pub number: usize,
-    /// Why it is bad.
+    /// The fault.
     pub fault: LineFault,
 }
 

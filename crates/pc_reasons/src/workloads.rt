@@ -37,7 +37,7 @@ pub enum WorkloadFault {
     OutsideTransaction,
 }
 
-// What a line of a workload is, by itself.
+// The role of a line of a workload, by itself.
 #[derive(Clone, Copy, Debug, PartialEq, Eq)]
 enum LineRole {
     Silent,
@@ -145,7 +145,7 @@ fn fault_of(has_client: bool, role: LineRole) -> Option<WorkloadFault>
     }
 }
 
-// What the line, without its end, is by itself.
+// The role of the line, without its end, by itself.
 fn role_of(alloc: Global, line: &[u8]) -> Result<LineRole, AllocError>
     ensures { IfOk result (λ role. role ≡ role_of line.now) }
 {

@@ -66,7 +66,7 @@ abbrev pub released_at : ℕ → Option Record → Option Record
 released_at t None = None
 released_at t (Some r) = released t r
 
--- the rows that are left still rise, and have each key's record as it is left
+-- the rows that are left still ascend, and have each key's record as it is left
 below_released : (t : ℕ) (k : List ℕ) (rows : List Row) → below_all key_cmp k rows ≡ true → below_all key_cmp k (released_rows t rows) ≡ true
 below_released t k [] h = refl
 below_released t k (row ∷ rows) h = by_record (released t row.1) (and_both (is_lt (key_cmp k row.0)) (below_all key_cmp k rows) h).0 (below_released t k rows (and_both (is_lt (key_cmp k row.0)) (below_all key_cmp k rows) h).1)

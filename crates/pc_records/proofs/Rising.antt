@@ -1,4 +1,4 @@
--- The rows still rise.
+-- The rows still ascend.
 use Rattle.std.proofs.Common.{◌≡◌, ℕ, List, [], ◌∷◌, map, refl, ap, ◌∙◌, ◌&&◌, not, Option, Some, None}
 use Rattle.std.specs.FinMap.{is_sorted}
 use Rattle.std.specs.FinMap.Entries.{is_sorted-put, is_sorted-where_key, below_all}

@@ -1,4 +1,4 @@
--- What each call makes of the rows, and what is asked of them.
+-- The effect of each call on the rows, and the questions about them.
 use Rattle.std.specs.Prelude.{ℕ, ◌==◌, ◌&&◌, not, Bool, true, false, List, [], ◌∷◌, length, filter, Option, Some, None, is_none, if◌then◌else◌}
 use Rattle.std.specs.List.{list_any}
 use Rattle.std.specs.FinMap.{put as put_entry}

@@ -1,5 +1,5 @@
--- What the records hold besides the rows: the writes of open transactions, each in its key's place, the point of the last closed
--- set, and the keys of the two sets in order.
+-- The records besides the rows: the writes of open transactions, each in its key's place, the point of the last closed set, and
+-- the keys of the two sets in order.
 use Rattle.std.specs.Prelude.{◌≡◌, ℕ, List, [], ◌∷◌, Option, Some, None, is_some, option_map, option_copied, if◌then◌else◌, MatchOption}
 use Rattle.std.specs.FinMap.{find}
 use denote.Ref.{Bor}

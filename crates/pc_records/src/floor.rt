@@ -147,7 +147,7 @@ impl KeySlots {
     }
 
     /// A slot for the key, which has none: it keeps nothing, and there is no request there. It is refused with `Full` if there are as many
-    /// slots as there may be, and else only if an allocation failed; then nothing changed.
+    /// slots as there may be, and otherwise only if an allocation failed; then nothing changed.
     pub(crate) fn make(&mut self, alloc: Global, key: &Key) -> Result<SlotId, Refusal>
         requires new { number_of self.old.spots key.now ≡ None }
         ensures made { IfOk result (λ id. self.new ≡ record self.old { spots = entered (new_spot id key.now) self.old.spots }) }
@@ -257,7 +257,7 @@ impl KeySlots {
         }
     }
 
-    /// How `request` would answer.
+    /// The outcome that `request` would have.
     pub(crate) fn outcome(&self, transaction: TxnNo, id: SlotId, mode: Mode) -> Outcome
         requires there { has_spot self.now.spots id ≡ true }
         ensures { result ≡ outcome (queue_of self.now.spots id) transaction mode }

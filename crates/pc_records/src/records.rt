@@ -21,23 +21,23 @@ use std::alloc::{AllocError, Global};
 use std::hash::RandomState;
 use std::marker::Model;
 
-/// How a request was answered, and the slot in which its key was found or got a record.
+/// The outcome of a request, and the slot in which its key was found or got a record.
 #[derive(Clone, Copy, Debug)]
 pub struct Requested {
     pub outcome: Outcome,
     pub slot: SlotId,
 }
 
-/// How a request to read was answered, and the content of the key's place: what an open transaction has written last, or else
-/// the committed value.
+/// The outcome of a request to read, and the content of the key's place: what an open transaction has written last, or else the
+/// committed value.
 #[derive(Drop)]
 pub struct Reading {
     pub outcome: Outcome,
     pub found: Option<Value>,
 }
 
-/// How a request to write would be answered, the content of the key's place, as in a `Reading`, and the slot of the key, if it
-/// has one.
+/// The outcome that a request to write would have, the content of the key's place, as in a `Reading`, and the slot of the key,
+/// if it has one.
 #[derive(Clone, Copy)]
 pub struct Look<'a> {
     pub outcome: Outcome,
@@ -112,7 +112,7 @@ impl Records {
 
     /// Answers the transaction's request to read the key, with a copy of the content of its place; a key without a record gets
     /// one unless the request dies. It is refused with `Full` if and only if the key has no record and there are as many as
-    /// there may be, and else only if an allocation failed; the records are then as they were.
+    /// there may be, and otherwise only if an allocation failed; the records are then as they were.
     pub fn read(&mut self, alloc: Global, transaction: TxnNo, key: &Key) -> Result<Reading, Refusal>
         requires ready { is_waiting self.old.rows transaction ≡ false }
         ensures told { IfOk result (λ answer. answer.outcome ≡ outcome_on self.old.rows key.now transaction Shared) }
@@ -139,8 +139,8 @@ impl Records {
         }
     }
 
-    /// How the transaction's request to write the key would be answered, if no request of it waits, with the content of the
-    /// key's place. It changes nothing and takes no memory.
+    /// The outcome that the transaction's request to write the key would have, if no request of it waits, with the content of
+    /// the key's place. It changes nothing and takes no memory.
     pub fn look(&self, transaction: TxnNo, key: &Key) -> Look<'_>
         ensures told { result.outcome ≡ outcome_on self.now.rows key.now transaction Exclusive }
         ensures found { option_copied result.found ≡ latest self.now key.now }
@@ -161,10 +161,10 @@ impl Records {
         }
     }
 
-    /// Answers the transaction's request to write the key, and writes it in its place where the request is granted. It is
-    /// refused with `Full` if and only if the key has no record and there are as many as there may be, and else only if an
+    /// Answers the transaction's request to write the key, and writes it in its place if the request is granted. It is refused
+    /// with `Full` if and only if the key has no record and there are as many as there may be, and otherwise only if an
     /// allocation failed; the records are then as they were. The key is looked for near the slot first, as that which `look`
-    /// told; nothing else depends on it.
+    /// returned; nothing else depends on it.
     pub fn write(
         &mut self,
         alloc: Global,
@@ -226,8 +226,8 @@ impl Records {
     }
 
     /// The transaction of these writes, each of whose keys has a write in its place, is committed: the content there is the
-    /// key's value, and the keys are in the open set, at its end if they weren't in it. The slots are the numbers of those that
-    /// `write` told of these keys, in the order of the writes, as far as they are known: a key is looked for there before it is
+    /// key's value, and the keys are in the open set, at its end if they weren't in it. The slots are those that `write`
+    /// returned for these keys, in the order of the writes, as far as they are known: a key is looked for there before it is
     /// searched, and nothing else depends on them. It allocates no memory.
     pub fn commit(&mut self, writes: &[Write], slots: &[u32])
         requires stand { (q : List ℕ) → is_some (written writes.now q) ≡ true → is_some (pending_at self.old q) ≡ true }
@@ -298,7 +298,7 @@ impl Records {
 }
 
 // Room for what a slot that is still to be made keeps aside; it is refused with `Full` if there are as many slots as there may
-// be, and else only if an allocation failed.
+// be, and otherwise only if an allocation failed.
 fn room_in(alloc: Global, slots: &mut KeySlots) -> Result<Box<Aside>, Refusal>
     ensures room { IfOk result (λ room. room.value ≡ nothing_aside) }
     ensures refusal { IfErr result (λ e. e ≡ (if length slots.old.spots == slots.old.capacity then Refusal.Full else Refusal.OutOfMemory)) }
@@ -345,7 +345,7 @@ fn request_new(
     }
 }
 
-// Puts the write into the slot if its request was granted; else its room is taken back.
+// Puts the write into the slot if its request was granted; otherwise its room is taken back.
 fn put_granted(slots: &mut KeySlots, id: SlotId, point: Point, write: Writing, answer: Outcome)
     requires whole { IsFloorWhole slots.old }
     requires there { has_spot slots.old.spots id ≡ true }

@@ -59,8 +59,8 @@ fn add(alloc: Global, table: &mut Table<Cell>, key: &Key, value: &Value) -> Resu
     }
 }
 
-// A slot of the key, which has none and gets one; it is refused with `Full` if there is no free slot, and else only if an
-// allocation failed.
+// A slot of the key, which has none and gets one; it is refused with `Full` if there is no free slot, and otherwise only if
+// an allocation failed.
 pub(crate) fn make(alloc: Global, table: &mut Table<Cell>, key: &Key) -> Result<SlotId, Refusal>
     requires { slot_of table.old.rows key.now ≡ None }
     ensures made { IfOk result (λ id. table.new ≡ with_row table.old key.now id (base_cell None)) }
@@ -107,7 +107,7 @@ fn push_value(
     Ok(())
 }
 
-// What each slot's key has that is committed, a value or absence, ascending by key.
+// The committed content of each slot's key, a value or absence, ascending by key.
 fn contents_in(alloc: Global, table: &Table<Cell>) -> Result<Vec<(Key, Option<Value>)>, AllocError>
     ensures contents { IfOk result (λ contents. contents.items ≡ contents_of (slots_in First table.now.rows)) }
     ensures slots { AreInSlots table.now }

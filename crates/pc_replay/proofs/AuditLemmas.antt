@@ -59,7 +59,7 @@ after_more db log at to low = sym (after-append db (take at log) (take (to - at)
 pub laid_list : (db : Database) (triples : List Triple) → KeysRise (entries_of triples) → laid_in_turn db 0 triples ≡ laid db 0 (triples_from triples)
 laid_list db triples rise = laid_in_turn_is db 0 triples (triples_from triples) (pairs.entries_of (entries_of triples) rise)
 
--- files whose triples ascend are right if and only if they are right in turn
+-- files whose triples ascend are correct if and only if they are correct in turn
 pub all_in_turn : (base : Database) (log : List Entry) (files : List CompleteFile) → All TriplesRise files → All (IsRightInTurn base log) files ↔ All (IsRight base log) files
 all_in_turn base log files rise = (
   λ all k d below. let right = all k d below in

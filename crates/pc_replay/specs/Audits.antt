@@ -1,4 +1,4 @@
--- When a complete file is right.
+-- When a complete file is correct.
 use Rattle.std.specs.Prelude.{◌≡◌, List, IsTrue}
 use Rattle.pc_types.specs.declared.Entry.{Entry}
 use Rattle.pc_replay.specs.declared.audits.CompleteFile.{CompleteFile}

@@ -50,7 +50,7 @@ pub fn is_replay(
     Ok(tree.is(&replayed))
 }
 
-// Whether each file is right, if its triples are laid in order.
+// Whether each file is correct, if its triples are laid in order.
 fn are_right(
     alloc: Global,
     base: &[(Key, Value)],

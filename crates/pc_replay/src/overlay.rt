@@ -22,9 +22,9 @@ use std::marker::Model;
 /// takes memory for a key alone that it adds or removes.
 #[derive(Drop)]
 pub struct Overlay {
-    // They rise strictly by key.
+    // They ascend strictly by key.
     pairs: Vec<(Key, Value)>,
-    // Where the keys may be among them.
+    // The places where the keys may be among them.
     samples: KeySamples,
     // Keys that are not, or no longer, as the pairs say: each is set or absent.
     changes: BTreeMap<Key, Option<Value>>,
@@ -75,7 +75,7 @@ impl Overlay {
     }
 
     /// Its pairs, ascending strictly by key. No key and no value is copied. If no key was added or removed, the vector is
-    /// handed back as it is, and no memory is taken; else it fails only if an allocation fails.
+    /// handed back as it is, and no memory is taken; otherwise it fails only if an allocation fails.
     pub fn into_pairs(self, alloc: Global) -> Result<Vec<(Key, Value)>, AllocError>
         ensures rise { IfOk result (λ pairs. KeysRise pairs.items) }
         ensures pairs { IfOk result (λ pairs. database_of pairs.items ≡ self) }
@@ -87,7 +87,6 @@ impl Overlay {
         merged(alloc, pairs, changes)
     }
 
-    // Applies the write.
     fn apply(&mut self, alloc: Global, write: Write) -> Result<(), AllocError>
         ensures { OnOk result (self.new ≡ applied self.old write) }
     {
@@ -159,7 +158,7 @@ fn set_at(
     }
 }
 
-// What a key has, whose pair is at this place, or which has none.
+// The content of a key whose pair is at this place, or which has none.
 fn there<'a>(
     pairs: &'a [(Key, Value)],
     changes: &'a BTreeMap<Key, Option<Value>>,
@@ -231,7 +230,7 @@ fn merged(
     Ok(out)
 }
 
-// What a key has, once its change, if there is one, is laid over its pair, if there is one.
+// The content of a key once its change, if any, is applied to its pair, if any.
 fn overlaid_item(item: EitherOrBoth<(Key, Value), (Key, Option<Value>)>) -> Option<(Key, Value)>
     ensures { with_item overlaid_there item [] ≡ option_to_list result }
 {

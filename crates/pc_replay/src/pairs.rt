@@ -41,7 +41,7 @@ impl Pairs {
         }
     }
 
-    /// A copy, if memory suffices.
+    /// A copy; an error if an allocation fails.
     pub fn copy(&self, alloc: Global) -> Result<Pairs, AllocError>
         ensures { IfOk result (λ pairs. pairs ≡ self.now) }
     {
@@ -49,7 +49,7 @@ impl Pairs {
         Ok(Pairs { pairs })
     }
 
-    /// How many pairs there are.
+    /// The number of pairs.
     pub fn len(&self) -> usize
         ensures { result ≡ map.len self.now }
     {
@@ -151,7 +151,6 @@ fn unset(pairs: &mut Vec<(Key, Value)>, key: &Key)
     pairs.retain(|pair| !key.is(&pair.0));
 }
 
-// The same pairs.
 fn copy_of(alloc: Global, pairs: &[(Key, Value)]) -> Result<Vec<(Key, Value)>, AllocError>
     ensures { IfOk result (λ copied. copied.items ≡ pairs.now) }
 {

@@ -1,4 +1,5 @@
-//! Where a key may be among many pairs: a guess by some of their keys, which is tried before all of them are searched.
+//! The place where a key may be among many pairs: a guess by some of their keys, which is tried before all of them are
+//! searched.
 ghost use Rattle.std.specs.Prelude.{◌≡◌, ℕ, List, slice_index_or, IfOk, IfErr};
 ghost use Rattle.pc_model.specs.Database.{KeysRise};
 ghost use Rattle.pc_model.specs.Places.{IsAt, IsGap};

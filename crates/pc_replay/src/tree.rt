@@ -99,7 +99,6 @@ impl Tree {
         Ok(())
     }
 
-    // Applies one write.
     fn apply(&mut self, alloc: Global, write: &Write) -> Result<(), AllocError>
         ensures { OnOk result (self.new ≡ applied self.old write.now) }
     {

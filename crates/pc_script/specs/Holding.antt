@@ -1,4 +1,4 @@
--- What a script has made, against the stage that it has come to.
+-- The state that a script has made, and the stage that it has reached.
 use Rattle.std.specs.Prelude.{◌≡◌, ◌≤◌, ⊤, ℕ, List, Bool, true, false}
 use Rattle.pc_model.specs.Maps.{len}
 use Rattle.pc_model.specs.Database.{Database}

@@ -22,8 +22,8 @@ exit_of status.Done = 0
 exit_of status.BadLines = 3
 exit_of status.NoStore = 1
 
--- A script has no status of its own for this reason. If it isn't there or couldn't be read, the output is as it was; else an allocation
--- failed for a line of it.
+-- A script has no status of its own for this reason. If it isn't there or couldn't be read, the output is as it was; otherwise an
+-- allocation failed for a line of it.
 abbrev pub IsScriptUnanswered : {R T : Type 0} → Result R Refusal → Tally T → Tally T → Unread R → Type 0
 IsScriptUnanswered opened old new why = IsUnread opened why × ((new ≡ old) ⊎ (why ≡ unread.NoMemory))
 

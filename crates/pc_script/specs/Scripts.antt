@@ -1,5 +1,5 @@
--- What a script prints. Its first lines may give the base of the store; the first line of another kind ends the base, and
--- the store then starts from it. An allocation may fail at any line, so this is a relation and no function.
+-- The output of a script. Its first lines may give the base of the store; the first line of another kind ends the base,
+-- and the store then starts from it. An allocation may fail at any line, so this is a relation and no function.
 use Rattle.std.specs.Prelude.{◌≡◌, ℕ, ◌⊎◌, ◌&&◌, not, nat_lt, Bool, true, false, List, [], ◌∷◌, ◌++◌, MatchBool, if◌then◌else◌, is_none, codes}
 use Rattle.std.specs.List.{list_any}
 use Rattle.pc_types.specs.declared.Reply.{Reply}

@@ -1,4 +1,4 @@
--- What is shown of a store.
+-- The views of a store.
 use Rattle.std.specs.Prelude.{◌≡◌, ◌⊎◌, ◌↔◌, Bool, true, IsTrue, MatchOption}
 use Rattle.pc_types.specs.declared.Refusal.TheVariants as why
 use Rattle.pc_types.specs.declared.Reply.TheVariants as told

@@ -25,7 +25,7 @@ use std::alloc::Global;
 use std::hash::RandomState;
 use std::io::Write;
 
-/// How a script that was read to its end has ended.
+/// The outcome of a script that was read to its end.
 #[derive(Clone, Copy, Debug, PartialEq, Eq)]
 pub enum Status {
     /// Each line was answered.
@@ -36,7 +36,7 @@ pub enum Status {
     NoStore,
 }
 
-/// What is printed for a line.
+/// The output of a line.
 #[derive(Drop)]
 pub enum LineAnswer {
     Nothing,
@@ -50,7 +50,7 @@ pub enum LineAnswer {
     Check(bool),
 }
 
-/// What the lines so far have made.
+/// The state that the lines so far have made.
 #[derive(Drop)]
 pub enum Made {
     /// The pairs of the base.
@@ -237,7 +237,7 @@ fn add_pair(capacity: u32, pairs: &mut Pairs, key: Key, value: Value) -> LineAns
     }
 }
 
-// The store on the base, if memory suffices.
+// The store on the base; `None` if an allocation fails.
 fn start(alloc: Global, setup: Setup, seed: RandomState, pairs: Pairs) -> Option<World>
     requires { len pairs ≤ setup.capacity }
     ensures { IfSome result (λ world. (setting_of world ≡ setting setup pairs) × Stands world []) }

@@ -1,4 +1,4 @@
-//! What a script asks to be shown of the store, which changes nothing.
+//! The views of the store that a script asks for; they change nothing.
 ghost use Rattle.std.specs.Prelude.{◌≡◌};
 ghost use Rattle.pc_model.specs.History.{History};
 ghost use Rattle.pc_engine.specs.Stands.{Stands};

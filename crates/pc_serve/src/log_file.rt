@@ -31,7 +31,7 @@ impl<'a> LogFile<'a> {
     }
 }
 
-// What is on a disk is known to no contract.
+// No contract knows the contents of a disk.
 impl<'a> LogDevice for LogFile<'a> {
     ghost use Rattle.std.specs.Prelude.{None};
 

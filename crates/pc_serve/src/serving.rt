@@ -57,7 +57,7 @@ pub fn serve_folder<'a>(rt: &'a HostRuntime, options: &'a ServeOptions<'a>) -> i
     status
 }
 
-// What is drawn at random before anything is opened.
+// The random numbers, drawn before anything is opened.
 #[derive(Clone, Copy)]
 struct Drawn {
     // The seed of the hashes of its stores.
@@ -101,7 +101,7 @@ fn tell_unowned(dir: ReadFolder<'_>, options: &ServeOptions<'_>, why: Unowned) {
     let _ = report_words(options.dir.as_bytes(), why.word(), &mut errors);
 }
 
-/// A store that is to be served.
+/// A store to serve.
 #[derive(Drop)]
 pub struct Store<'a> {
     pub dir: ReadFolder<'a>,
@@ -163,7 +163,7 @@ fn start_of(
     })
 }
 
-// What its faults are about.
+// The subject of its faults.
 fn about<'a>(options: &ServeOptions<'_>, from: &'a str) -> About<'a> {
     if from.is_empty() {
         About::Run

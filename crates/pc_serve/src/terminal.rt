@@ -1,4 +1,4 @@
-//! Lines that somebody types at a terminal.
+//! Lines that a user types at a terminal.
 ghost use Rattle.std.specs.Prelude.{◌≡◌, ◌↔◌, Some, IfOk, IfSome, IsSome, IsTrue};
 ghost use Rattle.pc_lines.specs.declared.lines.Line.TheVariants.{Malformed};
 ghost use Rattle.pc_reasons.specs.Scripts.{script_fault};
@@ -17,13 +17,13 @@ use std::io::{IsTerminal, Read, Write};
 const PROMPT: &[u8] = b"> ";
 
 /// Standard input. If it is a terminal a prompt is printed on standard error before each line, and after a bad line why it is one;
-/// else nothing does.
+/// otherwise nothing does.
 #[derive(Drop)]
 pub struct Typed<'a, R> {
     inner: R,
     rt: &'a HostRuntime,
     is_terminal: bool,
-    // What was read since the last prompt.
+    // The bytes read since the last prompt.
     line: Vec<u8>,
 }
 

@@ -1,4 +1,4 @@
--- What is recovered of a process that served: nothing that was answered is lost.
+-- The recovery of a process that served: nothing that was answered is lost.
 use Rattle.std.specs.Prelude.{◌≡◌, ◌≤◌, ◌<◌, ◌+◌, ◌^◌, ℕ, List, [], ◌∷◌, ◌++◌, codes, length, take, Option, Some, All, ◌⊎◌, MatchResult}
 use Rattle.pc_types.specs.Counted.{AppendsBeginning}
 use Rattle.pc_types.specs.declared.Entry.{Entry}
@@ -36,8 +36,8 @@ pub record KeepsAnswered (st : Setting) (lag : ℕ) (acts : List Act) (sent : Li
   pub pairs : found.pairs ≡ after st.base (take first log)
   pub answered : (number : ℕ) → number < 2 ^ 64 → IsAnswered acts sent number → IsCommitEntry log number × (number ≤ first + lag)
 
--- What came back: a text of the base, texts that the points' files have, or none of the run, and of the log all that was kept, and no more
--- than was written.
+-- The files that came back: a text of the base, texts that the points' files have, or none of the run, and of the log all that was kept,
+-- and no more than was written.
 pub record CameBackServed (st : Setting) (holds : ℕ → List ℕ → Type 0) (written kept : Option (List ℕ)) (base : List ℕ) (parts : List (List ℕ)) (log : List ℕ) : Type 0 where
   pub base_is : IsBaseText base (start_of st)
   pub base_fits : IsBaseFile (start_of st)

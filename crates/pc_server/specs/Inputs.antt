@@ -1,4 +1,4 @@
--- How far the input of a process that serves was read and answered.
+-- The progress of reading and answering the input of a process that serves.
 use Rattle.std.specs.Prelude.{◌≡◌, ◌⊎◌, ⊤, ℕ, Bool, true, false, List, [], ◌∷◌, ◌++◌, Option, Some, None}
 use Rattle.pc_model.specs.Files.{File, shelf}
 use Rattle.pc_model.specs.History.{History}

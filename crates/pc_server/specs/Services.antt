@@ -1,4 +1,4 @@
--- What a process that serves has put out, and what of it comes back.
+-- The output of a process that serves, and the part of it that comes back.
 use Rattle.std.specs.Prelude.{◌≡◌, ◌≤◌, ◌+◌, ℕ, List, [], Option, take, length}
 use Rattle.std.specs.List.{flat_map}
 use Rattle.std.specs.Io.KnownBytes.{Appends}
@@ -36,7 +36,7 @@ pub record Holds {T U : Type 0} (written keeps : T → Option (List ℕ)) (conte
   pub logged : Appends log (written service.log) (first_text service.server.written (log_of history))
   pub kept : GrowsFrom log (keeps service.log) (first_text service.server.written (log_of history))
 
--- What is left, wherever it ends, maybe in the middle of a text. It did the acts `gone`, of whose answers a beginning was sent, and nothing
+-- The state wherever it ends, maybe in the middle of a text. It did the acts `gone`, of whose answers a beginning was sent, and nothing
 -- else, and then those of the turn, and a store represents all of them. Of the log a beginning is written; and of the log as it was after
 -- `gone` no more entries aren't kept than the lag.
 pub record IsCutOff {T U : Type 0} (written keeps : T → Option (List ℕ)) (contents : U → Option (List ℕ)) (log out : Option (List ℕ)) (st : Setting) (lag : ℕ) (gone : List Act) (at : History) (turn : List Act) (history : History)

@@ -1,4 +1,4 @@
--- How far a process that serves has come.
+-- The progress of a process that serves.
 use Rattle.std.specs.Prelude.{◌≡◌, ◌≤◌, ◌+◌, ◌-◌, ◌^◌, ℕ, List, [], length, min, nat_lt, slice_get, Bool, Some, if◌then◌else◌}
 use Rattle.pc_types.specs.Tallies.{inner_of}
 use Rattle.pc_types.specs.declared.Entry.{Entry}

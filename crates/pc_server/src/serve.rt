@@ -39,8 +39,8 @@ pub enum Stopped {
     Filled,
 }
 
-/// Where the files of points go. Contracts see the texts that it has under the points' numbers; of one of which that isn't known each
-/// text counts as had.
+/// The destination of the files of points. Contracts see the texts that it has under the points' numbers; of one of which that isn't known
+/// each text counts as had.
 pub trait PointFiles {
     ghost use Rattle.std.specs.Prelude.{ℕ, List, OnOk};
     ghost use Rattle.pc_server.specs.Files.{HasFile, HasNoMore, KeepsOthers};

@@ -40,7 +40,7 @@ pub struct Server {
     pace: Pace,
     answers: Tally<Vec<u8>>,
     counts: Counts,
-    // How many entries of the log are kept.
+    // The number of entries of the log kept.
     written: usize,
     lag: usize,
 }
@@ -149,7 +149,7 @@ impl Server {
         self.put_stats(pairs)
     }
 
-    // How many pairs are committed. It takes time, and memory, in proportion to them.
+    // The number of committed pairs. It takes time, and memory, in proportion to them.
     fn count_pairs(&self) -> Result<usize, Refusal>
         ensures { (history : History) → Stands self.now.served.world history → IfOk result (λ count. count ≡ committed_in self.now.served.world) }
     {
@@ -263,7 +263,7 @@ fn put_run<W: Write>(run: u64, out: &mut Tally<W>) -> Result<(), Refusal>
     out.put_all(&[b"run ", buffer.format(run).as_bytes(), b"\n"])
 }
 
-// What `stats` tells beside the counts of the log.
+// The numbers of `stats` besides the counts of the log.
 #[derive(Clone, Copy)]
 struct Numbers {
     entries: usize,

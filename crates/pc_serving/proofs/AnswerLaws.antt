@@ -94,7 +94,7 @@ module _ {T : Type 0} (contents : T → Option (List ℕ)) where
   told_then a b c (Ok u) x y p q = puts_then contents a b c (Ok tt) x y p q
   told_then a b c (Err e) x y p q = (q.0, omega (arith, q.1, p.1))
 
-  -- An event of a client that was asked of a world, and then told.
+  -- An event of a client that was asked of a world, and whose reply was then printed.
   pub event_answered : (st : Setting) (h : History) (event : Event) (reply : Reply) (own : ℕ) (old world new : Store) (was left : ℕ) (a b : Tally T) (result : Result (Unit {0}) Refusal) → Serves st old was h → Follows (setting_of old) h event reply world
       → setting_of world ≡ setting_of old → is_of_client event ≡ true → own ≡ session_of event → new ≡ world
       → OnOk result ((s : ℕ) → has_session left s ≡ ((has_session was s || (is_wait reply && (is_number own && (eqb s own)))) && waits_now world s))
@@ -166,7 +166,7 @@ served_as st h next (line.Asks event) said other a = absurd (other event refl)
 served_as st h next (line.Shows view) said other a = (said, a, refl)
 
 module _ {T : Type 0} (contents : T → Option (List ℕ)) where
-  -- A line that asks no event was answered by a world, and then told.
+  -- A line that asks no event was answered by a world, and the answer was then printed.
   pub line_answered : (st : Setting) (h next : History) (l : Line) (said : LineAnswer) (old new : Store) (was left : ℕ) (a b : Tally T) (result : Result (Unit {0}) Refusal) → ((event : Event) → l ≢ line.Asks event) → Serves st old was h → Stands new next → setting_of new ≡ setting_of old
       → left ≡ was → AnswersLine (setting_of old) h l said next → Puts contents a b result (answer_text said)
       → OnOk result ((after : History) × (text : List ℕ) × Serves st new left after × AnswersServed st h l text after × Puts contents a b (Ok tt) text)

@@ -1,4 +1,4 @@
--- What the lines of a store that is served ask.
+-- The requests of the lines of a served store.
 use Rattle.std.specs.Prelude.{ℕ, List, codes, if◌then◌else◌}
 use Rattle.std.specs.Str.{bytes_eq}
 use Rattle.pc_lines.specs.Lines.{spelled}

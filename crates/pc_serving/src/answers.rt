@@ -44,7 +44,7 @@ impl Served {
         }
     }
 
-    /// How many sessions have a transaction open: as many as the history says.
+    /// The number of sessions that have a transaction open: as many as the history says.
     pub fn open_sessions(&self) -> u8
         ensures now { result ≡ open_now self.now.world }
         ensures told { (st : Setting) (history : History) → Serves st self.now.world self.now.waiting history → result ≡ open_after st history }
@@ -58,8 +58,8 @@ impl Served {
         count
     }
 
-    /// Answers a line. An event of a session is asked, its reply told, and after it, a line for each, which other sessions' requests
-    /// it has granted; one of the checkpointer, or a join, is refused with `WrongPhase`, and so is a pair of the base. Returns
+    /// Answers a line. An event of a session is asked, its reply is printed, and after it a line for each request of another session
+    /// that it has granted; one of the checkpointer, or a join, is refused with `WrongPhase`, and so is a pair of the base. Returns
     /// `Device` if and only if the device failed in this call.
     pub fn answer<W: Write>(
         &mut self,

@@ -8,7 +8,7 @@ ghost use Rattle.pc_serving.specs.Points.{due_in, noted, IsShelvedAs, IsTurn};
 use pc_engine::World;
 use pc_types::{Event, FileNo, Phase, Refusal, Reply};
 
-/// What the checkpointer has done at its turn.
+/// The checkpointer's act at its turn.
 #[derive(Clone, Copy, Debug, PartialEq, Eq)]
 pub enum Turned {
     /// Nothing was due, or what was asked isn't to be had yet.
@@ -47,7 +47,7 @@ impl Pace {
         self.commits = self.commits.saturating_add(1);
     }
 
-    // What ends the phase, or takes a key in capture; nothing if no point is due.
+    // The event that ends the phase, or takes a key in capture; nothing if no point is due.
     fn due(&self, phase: Phase) -> Option<Event>
         ensures { result ≡ due_in self.now phase }
     {

@@ -125,7 +125,7 @@ pub record IsSlotSound (point : ℕ) (queue : Queue) (slot : Slot) : Type 0 wher
   pub passed : slot.mark ≤ point
   -- an available slot holds a version
   pub holds : is_available point slot ≡ true → is_held slot.stable ≡ true
-  -- another one holds what is committed if its writer began in prepare, and else nothing
+  -- another one holds what is committed if its writer began in prepare, and otherwise nothing
   pub follows : is_available point slot ≡ false → slot.stable ≡ held_for slot.writer
   -- a key of the closed set that isn't available is written by no transaction but one that began in prepare
   pub prepared : slot.is_in_closed_set ≡ true → (slot.mark == point) ≡ false → is_prepared slot.writer ≡ true

@@ -30,7 +30,7 @@ impl Cell {
     ghost use Rattle.std.specs.Prelude.{◌≡◌};
     ghost use Rattle.pc_slots.specs.Words.{link_of, with_link};
 
-    /// What the link of the side leads to, a slot on a side; `None` if it leads to none.
+    /// The slot and the side to which the link of the side leads; `None` if it leads to none.
     pub fn link(&self, side: Side) -> Option<SideSlot>
         ensures { result ≡ link_of side self.now }
     {

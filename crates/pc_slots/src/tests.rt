@@ -9,7 +9,7 @@ use pc_types::{Class, Point, Refusal, TxnNo, Value};
 use std::alloc::Global;
 use std::test::Fail;
 
-// What happens to a slot; the point is that of the last closed set, and the side that of the open one.
+// A change of a slot; the point is that of the last closed set, and the side that of the open one.
 #[derive(Clone, Copy)]
 enum Moment {
     // A transaction of the class writes a value of one byte, or absence.
@@ -61,7 +61,6 @@ fn look_at(slot: &Cell, side: Side, spares: &Spares) -> SlotSeen {
     )
 }
 
-// Does it.
 fn happen(alloc: Global, seen: &mut Followed, moment: Moment) -> Result<(), Refusal> {
     let Followed {
         slot,

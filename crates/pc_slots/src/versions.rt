@@ -16,18 +16,18 @@ use pc_types::{Class, Point, TxnNo, Value, copy_content};
 use std::alloc::{AllocError, Global};
 use std::mem;
 
-/// What a slot keeps besides the content of its key's place, while an open transaction or a point needs it.
+/// The data of a slot besides the content of its key's place, while an open transaction or a point needs it.
 #[derive(Drop)]
 pub struct Aside {
     /// The open transaction that has written the key.
     pub(crate) writer: Option<Writer>,
-    /// What the key had before, if that is kept for a point.
+    /// The content of the key before, if it is kept for a point.
     pub(crate) stable: Stable,
     /// The point that the stable version is known to be of, if the key is in the closed set.
     pub(crate) mark: Point,
 }
 
-/// What a key had before, kept for the point.
+/// The content of a key before, kept for the point.
 #[derive(Drop)]
 pub(crate) enum Stable {
     /// Nothing is kept.
@@ -41,18 +41,18 @@ pub(crate) enum Stable {
 pub(crate) struct Writer {
     pub(crate) transaction: TxnNo,
     pub(crate) class: Class,
-    /// What is committed of the key, which an abort puts back.
+    /// The committed content of the key, which an abort restores.
     pub(crate) before: Option<Value>,
 }
 
-/// How far the points have come: the side of the open set, and the point of the last closed one.
+/// The progress of the points: the side of the open set, and the point of the last closed one.
 #[derive(Clone, Copy)]
 pub struct Stage {
     pub side: Side,
     pub point: Point,
 }
 
-/// Who writes: an open transaction, and its class.
+/// The writer: an open transaction, and its class.
 #[derive(Clone, Copy)]
 pub struct Author {
     pub transaction: TxnNo,
@@ -67,7 +67,7 @@ pub struct Writing {
     pub room: Box<Aside>,
     /// A copy of the slot's content, if one is kept (`copy_to_keep`).
     pub copy: Option<Value>,
-    /// What is written, a value or absence.
+    /// The new content, a value or absence.
     pub value: Option<Value>,
 }
 
@@ -148,7 +148,7 @@ pub fn committed_copy(alloc: Global, slot: &Cell) -> Result<Option<Value>, Alloc
     }
 }
 
-/// What the slot's key has at the point, if it is in the closed set; `None` if it has nothing then, or isn't in the set.
+/// The content of the slot's key at the point, if it is in the closed set; `None` if it has nothing then, or isn't in the set.
 pub fn pinned_of(slot: &Cell, side: Side) -> Option<&Value>
     ensures { option_copied result ≡ pinned (slot_with side 0 [] slot.now) }
 {

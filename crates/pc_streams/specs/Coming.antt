@@ -1,4 +1,4 @@
--- What is to come of the text of a part.
+-- The future of the text of a part.
 use Rattle.std.specs.Prelude.{ℕ, zero, suc, ◌==◌, if◌then◌else◌, List, [], length, Option, Some, None, Result, Ok, Err}
 use Rattle.std.specs.Int.{w32}
 use Rattle.pc_types.specs.Counted.{one_more}
@@ -22,8 +22,8 @@ coming_from others count (Err why) = refused why
 coming_from others count (Ok (None, rest)) = part_end_at count (number_at Short w32 rest)
 coming_from others count (Ok (Some entry, rest)) = after_entry entry (others entry.key rest)
 
--- What is to come after a last key, with that many entries before it; the count stays at the greatest u64, which no number of
--- 4 bytes is. Each entry takes more than one of the bytes, so that no more turns are needed than there are bytes.
+-- The entries to come after a last key, with that many entries before it; the count stays at the greatest u64, which no
+-- number of 4 bytes is. Each entry takes more than one of the bytes, so that no more turns are needed than there are bytes.
 unfoldable pub coming_at : Format → ℕ → List Range → ℕ → List ℕ → List ℕ → Coming
 coming_at format zero ranges count last bytes = refused Short
 coming_at format (suc turns) ranges count last bytes = coming_from (coming_at format turns ranges (one_more count)) count (next_entry_at format ranges last bytes)

@@ -1,4 +1,4 @@
--- What is drawn from the front of a text whose bytes may be known.
+-- The results of drawing from the front of a text whose bytes may be known.
 use Rattle.std.specs.Prelude.{◌≡◌, ◌≢◌, ℕ, List, Option, Some, None, Result, Ok, Err, ⊤}
 use Rattle.pc_types.specs.Counted.{HasRisen}
 use Rattle.pc_types.specs.Tallies.{failures_of}

@@ -1,4 +1,4 @@
--- What a reader of a part's text has read, what is to come of it, and what it refused.
+-- The state of a reader of a part's text: the fields read, the entries to come, and the refusal.
 use Rattle.std.specs.Prelude.{◌≡◌, ℕ, Bool, IsTrue, false, List, [], Option, Some, None, Result, Ok, Err, ◌⊎◌, ⊤}
 use Rattle.std.specs.Option.{option_map}
 use Rattle.pc_types.specs.declared.Refusal.{Refusal}

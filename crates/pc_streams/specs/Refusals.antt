@@ -1,4 +1,4 @@
--- What a reader of a part's text may refuse, whether its bytes are known or not.
+-- The possible refusals of a reader of a part's text, whether its bytes are known or not.
 use Rattle.std.specs.Prelude.{◌≡◌, ◌⊎◌, ⊤}
 use Rattle.pc_types.specs.declared.Refusal.{Refusal}
 use Rattle.pc_types.specs.declared.Refusal.TheVariants.{OutOfMemory, Device, Short, BadMagic, BadRanges, KeyOrder, BadKind, BadLength, Trailing, NotCovered}

@@ -23,7 +23,6 @@ impl Model for KeptRefusal {
 }
 
 impl KeptRefusal {
-    // It is kept.
     pub(crate) fn new(why: Refusal) -> KeptRefusal
         requires { IsReadRefusal why }
         ensures { result ≡ why }
@@ -31,7 +30,6 @@ impl KeptRefusal {
         KeptRefusal { why }
     }
 
-    // The refusal.
     pub(crate) fn why(&self) -> Refusal
         ensures same { result ≡ self.now }
         ensures refusal { IsReadRefusal self.now }

@@ -62,7 +62,6 @@ impl Place {
         })
     }
 
-    // The run.
     pub(crate) fn run(&self) -> u64
         ensures run { result ≡ self.now.run }
         ensures apart { AreRanges self.now.ranges }

@@ -30,7 +30,7 @@ pub struct PartReader<R> {
     stage: PartStage,
 }
 
-// How far a part's text is read.
+// The progress of reading a part's text.
 #[derive(Drop)]
 enum PartStage {
     // Nothing is read.
@@ -56,7 +56,7 @@ impl<R: Read> PartReader<R> {
         }
     }
 
-    /// How many reads failed.
+    /// The number of reads that failed.
     pub fn failures(&self) -> u64
         ensures { result ≡ failures_of (counted_by self.now) }
     {

@@ -37,7 +37,7 @@ impl<R: Read> Source<R> {
         Source { tally, buffer }
     }
 
-    /// How many reads failed.
+    /// The number of reads that failed.
     pub fn failures(&self) -> u64
         ensures { result ≡ failures_of (tally_of self.now) }
     {

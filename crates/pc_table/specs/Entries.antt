@@ -1,4 +1,4 @@
--- What the slots of a table have: a key with its record each, which an index finds.
+-- The contents of a table's slots: a key with its record each, which an index finds.
 use Rattle.std.specs.Prelude.{ℕ, ◌+◌, ◌≤◌, List, [], ◌∷◌, length, Option, Some, None}
 use Rattle.std.specs.FinMap.{put}
 use Rattle.pc_types.specs.declared.limits.TheConstants.{MOST_KEYS}

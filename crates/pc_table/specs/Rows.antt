@@ -1,4 +1,4 @@
--- What is seen of a table: rows that ascend by key, each with its slot and its record.
+-- The view of a table: rows that ascend by key, each with its slot and its record.
 use Rattle.std.specs.Prelude.{◌≡◌, ◌↔◌, ℕ, ◌<◌, ◌≤◌, ◌==◌, not, List, [], ◌∷◌, length, map, filter, Option, Some, None, IsSome, option_map, if◌then◌else◌}
 use Rattle.std.specs.FinMap.{find, put}
 use denote.Ref.{Bor}

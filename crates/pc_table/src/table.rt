@@ -49,7 +49,7 @@ impl<T: Blank> Table<T> {
         Ok(Table { entries, index })
     }
 
-    /// How many keys may have a row. Each slot has a number below it.
+    /// The number of keys that may have a row. Each slot has a number below it.
     pub fn capacity(&self) -> u32
         ensures count { result ≡ self.now.capacity }
         ensures slots { AreInSlots self.now }
@@ -138,8 +138,8 @@ impl<T: Blank> Table<T> {
     }
 
     /// The slot of a key that has no row and gets one, in a free slot, with a blank record. Returns `Full` if and only if as
-    /// many keys have a row as may; otherwise only `OutOfMemory` if a key of more than 16 bytes of its own can't be copied; the
-    /// table is then as it was.
+    /// many keys have a row as may; otherwise the only error is `OutOfMemory`, if a key of more than 16 bytes of its own can't
+    /// be copied; the table is then as it was.
     pub fn make(&mut self, alloc: Global, key: &Key) -> Result<SlotId, Refusal>
         requires { slot_of self.old.rows key.now ≡ None }
         ensures made { IfOk result (λ id. self.new ≡ with_row self.old key.now id T.blank) }

@@ -1,4 +1,4 @@
--- What was taken of a point: two lists of entries by key, seen as one.
+-- The captured entries of a point: two lists of entries by key, seen as one.
 use Rattle.std.specs.Prelude.{◌≡◌, ℕ, List, Option, Some, None, IsSome}
 use Rattle.std.specs.List.{AllByRecursion}
 use Rattle.std.specs.Coded.{Coded, coded×, coded_ℕ, coded_list, coded_option}

@@ -12,8 +12,8 @@ use std::marker::Model;
 /// A key, and its content at the point, borrowed in place.
 pub(crate) type LentEntry<'a> = (&'a Key, &'a Option<Value>);
 
-/// What two lists have to come, in one order, ascending by key; of two entries of one key the second list's. A contract sees it
-/// as one list.
+/// The entries to come of two lists, in one order, ascending by key; of two entries of one key the second list's. A contract
+/// sees it as one list.
 #[derive(Drop)]
 pub(crate) struct BothLists<'a> {
     rising: &'a [(Headed, Option<Value>)],

@@ -14,7 +14,6 @@ pub struct Entries {
     form: Form,
 }
 
-// How they are kept.
 #[derive(Drop)]
 enum Form {
     Listed(Vec<Triple>),
@@ -41,7 +40,7 @@ impl Entries {
         }
     }
 
-    /// The captured entries of the point, moved. It takes a constant time and no memory.
+    /// The captured entries of the point, moved. It takes constant time and no memory.
     pub fn taken(point: Point, taken: Taken) -> Entries
         ensures { result ≡ map (triple_at point) taken }
     {

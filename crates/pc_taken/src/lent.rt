@@ -10,7 +10,7 @@ use std::marker::Model;
 pub struct LentTriple<'a> {
     pub key: &'a Key,
     pub point: Point,
-    /// What the key had at the point, a value or nothing.
+    /// The content of the key at the point, a value or nothing.
     pub content: &'a Option<Value>,
 }
 
@@ -23,7 +23,6 @@ impl<'a> Model for LentTriple<'a> {
 }
 
 impl<'a> LentTriple<'a> {
-    // The borrowed triple.
     pub(crate) fn of(triple: &'a Triple) -> LentTriple<'a>
         ensures { result ≡ triple.now }
     {

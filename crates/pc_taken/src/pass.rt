@@ -18,7 +18,6 @@ pub struct Pass<'a> {
     form: PassForm<'a>,
 }
 
-// How they are kept.
 #[derive(Drop)]
 enum PassForm<'a> {
     Listed(slice::Iter<'a, Triple>),
@@ -91,7 +90,7 @@ impl<'a> Pass<'a> {
         }
     }
 
-    /// How many are to come.
+    /// The number of items to come.
     pub fn len(&self) -> usize
         ensures { result ≡ length self.now }
     {
@@ -157,7 +156,6 @@ fn push_first_of(alloc: Global, out: &mut Vec<Triple>, triples: &[Triple]) -> Re
     }
 }
 
-// Adds the triple.
 #[inline(always)]
 fn push(out: &mut Vec<Triple>, triple: Triple) -> Result<(), AllocError>
     ensures pushed { OnOk result (out.new.items ≡ out.old.items ++ triple ∷ []) }

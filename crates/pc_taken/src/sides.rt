@@ -9,7 +9,7 @@ use pc_types::{Triple, Value};
 use std::alloc::{AllocError, Global};
 use std::cmp::Ordering;
 
-/// Which of two passes has the least key next: one of them, or both.
+/// The one of two passes that has the least key next: one of them, or both.
 #[derive(Clone, Copy)]
 pub enum Side {
     First,
@@ -17,7 +17,7 @@ pub enum Side {
     Both,
 }
 
-/// Which of the passes has the least key next, if any is to come.
+/// The pass that has the least key next, if any is to come.
 #[inline(always)]
 pub fn side_of(first: &Pass, second: &Pass) -> Option<Side>
     ensures { result ≡ side_of first.now second.now }

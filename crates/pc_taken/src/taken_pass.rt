@@ -19,7 +19,7 @@ pub(crate) struct TakenPass<'a> {
     // The first entry to come, and those after it.
     first: Option<LentEntry<'a>>,
     behind: BothLists<'a>,
-    // How many are to come.
+    // The number of items to come.
     left: usize,
 }
 
@@ -79,7 +79,7 @@ impl<'a> TakenPass<'a> {
         }
     }
 
-    /// How many are to come.
+    /// The number of items to come.
     pub(crate) fn len(&self) -> usize
         ensures { result ≡ length self.now }
     {

@@ -1,4 +1,4 @@
--- What is printed: the text of each reply, and of the bytes of keys and values.
+-- The printed texts: that of each reply, and of the bytes of keys and values.
 use Rattle.std.specs.Prelude.{ℕ, zero, suc, ◌/◌, ◌%◌, ◌==◌, Bool, List, [], ◌∷◌, ◌++◌, Option, Some, None, if◌then◌else◌, codes, decimal}
 use Rattle.std.specs.List.{flat_map}
 use Rattle.std.specs.Str.{bytes_eq}

@@ -15,7 +15,7 @@ use pc_part::Base;
 use pc_types::{Key, Phase, Point, Refusal, Reply, Tally, Value};
 use std::io::Write;
 
-// What is printed of up to this many bytes is put together: at most four for each.
+// The most bytes that are put together for printing, with at most four for each.
 const SOME: usize = 64;
 
 const MOST_PRINTED: usize = 256;
@@ -236,7 +236,7 @@ fn put_file_line<W: Write>(
     put_entries(out, entries)
 }
 
-// How many entries there are, and the end of the line.
+// The number of entries, and the end of the line.
 fn put_entries<W: Write>(out: &mut Tally<W>, entries: u64) -> Result<(), Refusal>
     ensures { Puts W.contents out.old out.new result (codes " entries " ++ (decimal entries ++ codes "\n")) }
 {
@@ -269,7 +269,7 @@ pub fn put_key<W: Write>(out: &mut Tally<W>, key: &Key) -> Result<(), Refusal>
     put_printed(out, key.own_bytes())
 }
 
-// What tells a space before a key's own bytes: nothing for space 0.
+// Prints the space before a key's own bytes: nothing for space 0.
 fn put_space<W: Write>(out: &mut Tally<W>, space: u16) -> Result<(), Refusal>
     ensures { Puts W.contents out.old out.new result (printed_space space) }
 {

@@ -94,7 +94,7 @@ looks_at st id n seen w me slots is = subst (λ (m : Me Step Sight). Allows (Has
 pub stands : (b own : Badge Sight) (table id : TableId) (v : Sight) → b ≡ own → IsSeatAt table own → id ≡ b.table_id → b.views ≡ v ∷ [] → (id ≡ table) × (v ≡ Front (seat_of own).number (seat_of own).seen)
 stands b own table id v same at is views = (is ∙ (ap (λ (x : Badge Sight). x.table_id) same ∙ at.0), front_in own.views _ v at.1 (sym (ap (λ (x : Badge Sight). x.views) same) ∙ views))
 
--- what the seat knows that has the witness beside it
+-- the knowledge of the seat that is compared with the witness
 pub together : (v u : Sight) (slots : List (ℕ × Step)) (me : Me Step Sight) (n : ℕ) (seen w : History) → v ≡ Front n seen → u ≡ Front a_witness w → slots ≡ [] → me ≡ (beside v u, slots) → me ≡ (Beside n seen w, [])
 together v u slots me n seen w is there free e = e ∙ (λ k. (beside (is k) (there k), free k))
 

@@ -171,14 +171,14 @@ Compared st v found w = (w ≡ v) × AreTold (hist_of v.0) (guests_of v.0)
 abbrev pub shown_out : Sight → Sight
 shown_out v = Front a_witness (hist_of v)
 
--- what the witness has seen that the seat has beside it
+-- the view of the witness that is compared with the seat
 abbrev pub other_of : Sight → History
 other_of (Whole hist dealt guests) = []
 other_of (Front n seen) = []
 other_of (Beside n seen other) = other
 other_of Gone = []
 
--- a seat with a witness beside it
+-- a seat that is compared with a witness
 abbrev pub beside : Sight → Sight → Sight
 beside v w = Beside (number_of v) (hist_of v) (hist_of w)
 
@@ -194,6 +194,6 @@ witness_out v = Front a_witness (other_of v)
 abbrev pub AreOfOne : History → History → Type 0
 AreOfOne seen other = (history : History) × IsBeginning seen history × IsBeginning other history
 
--- what a look tells of a seat and the witness beside it; it changes nothing
+-- the result of comparing a seat with a witness; it changes nothing
 abbrev pub Met : Exchange Step → Me Step Sight → ℕ → Me Step Sight → Type 0
 Met st v found w = (w ≡ v) × AreOfOne (hist_of v.0) (other_of v.0)

@@ -1,4 +1,4 @@
--- What contracts see of the seats at a store's word.
+-- The view of the seats at a store's word in contracts.
 use Rattle.std.specs.Prelude.{◌≡◌, ◌<◌, ◌≤◌, ℕ, List, [], ◌∷◌, MatchBool, length, get_or}
 use Rattle.atomic_table.specs.Seated.{TableId}
 use Rattle.atomic_table.specs.declared.badge.Badge.{Badge}
@@ -44,7 +44,7 @@ pub record IsSession (st : Setting) (s : Sitting) : Type 0 where
   pub within : s.number ≤ st.sessions
   pub legal : IsLegalHistory st s.seen
 
--- A step moves a seat on: if its reply counts, what it has seen is extended by the step; else it stays.
+-- A step moves a seat on: if its reply counts, what it has seen is extended by the step; otherwise it stays.
 abbrev pub MovesOn : Setting → History → Step → History → Type 0
 MovesOn st old step new = MatchBool (counts step.reply) (Extends st old step new) (new ≡ old)
 

@@ -1,4 +1,4 @@
-//! Who deals the seats of a store, and who keeps its history.
+//! The dealer of a store's seats, and the keeper of its history.
 ghost use Rattle.std.specs.Prelude.{◌≡◌, ◌<◌, ◌≤◌, ◌+◌, ◌∷◌, [], true, All, List, length};
 ghost use Rattle.pc_types.specs.declared.limits.TheConstants.{MOST_SESSIONS};
 ghost use Rattle.pc_model.specs.History.{log_of};
@@ -308,8 +308,8 @@ impl<N: StoreName> Keeper<N> {
         witness.badge = self.leave(tie);
     }
 
-    /// Compares the history with what the milestone has seen: a prefix of it. False if its witness isn't there, since somebody
-    /// else just compares it; then nothing is learnt.
+    /// Compares the history with what the milestone has seen: a prefix of it. False if its witness isn't there, since another
+    /// thread is comparing it; then nothing is learnt.
     pub fn compare_milestone(&mut self, tie: &Tie<N>, milestone: &Milestone<N>) -> bool
         requires alone { self.old.guests ≡ [] }
         ensures same { self.new ≡ self.old }

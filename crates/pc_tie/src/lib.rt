@@ -1,4 +1,4 @@
-//! What ties the sessions and the checkpointer of a store to its one history: seats at one word that threads share,
+//! The tie of the sessions and the checkpointer of a store to its one history: seats at one word that threads share,
 //! each of which knows the history or a prefix of it.
 #![tactic(auto)]
 

@@ -8,7 +8,7 @@ use crate::sight::Sight;
 use atomic_table::{Perch, Seat};
 use std::marker::{Model, PhantomData};
 
-// What the word of a milestone says: its witness is out, or it is there.
+// The state of a milestone's word: its witness is out, or it is there.
 const OUT: u64 = 0;
 
 const THERE: u64 = 2;

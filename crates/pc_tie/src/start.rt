@@ -1,11 +1,11 @@
-//! What a store starts from.
+//! The start of a store.
 ghost use Rattle.std.specs.Prelude.{◌≡◌};
 
 use pc_part::Base;
 use std::marker::Model;
 use std::snapshot::Snapshot;
 
-/// What a store starts from: its base, how many sessions it has, and its capacity. Contracts see the setting of its run.
+/// The start of a store: its base, the number of its sessions, and its capacity. Contracts see the setting of its run.
 #[derive(Drop)]
 pub struct Start {
     base: Snapshot<Base>,

@@ -1,5 +1,5 @@
--- What has gone out at the end of a turn, be it whole or interrupted by a device that fails: the log first, which is then kept, and
--- no answer as long as more of it isn't kept than may be.
+-- The output at the end of a turn, be it whole or interrupted by a device that fails: the log first, which is then kept, and no
+-- answer as long as more of it isn't kept than may be.
 use Rattle.std.specs.Prelude.{◌≡◌, ◌-◌, ℕ, Bool, true, false, List, Option, Result, Ok, Err, MatchBool, IsTrue, drop, length, nat_lt}
 use Rattle.std.specs.List.{flat_map}
 use Rattle.std.specs.Io.KnownBytes.{Appends}
@@ -44,7 +44,7 @@ abbrev pub IsSent : {T : Type 0} → (T → Option (List ℕ)) → List ℕ → 
 IsSent contents text old new (Ok u) = Appends (contents old.inner) (contents new.inner) text × (new.failures ≡ old.failures)
 IsSent contents text old new (Err e) = (e ≡ Device) × HasRisen old.failures new.failures × AppendsBeginning (contents old.inner) (contents new.inner) text
 
--- How a turn ends: the log is kept, as far as it must be, before any answer goes out.
+-- The end of a turn: the log is kept, as far as it must be, before any answer goes out.
 abbrev pub TurnEnds : {T U : Type 0} → (T → Option (List ℕ)) → (T → Option (List ℕ)) → (U → Option (List ℕ)) → List Entry → ℕ → List ℕ → ℕ → ℕ → T → T → Tally U → Tally U → TurnEnd → Type 0
 TurnEnds written kept contents log lag answers before after log_old log_new out_old out_new end.Whole =
     IsLogOut written kept log lag before after log_old log_new true × IsSent contents answers out_old out_new (Ok tt)

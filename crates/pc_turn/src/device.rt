@@ -1,4 +1,4 @@
-//! Where the log of a store that is served goes.
+//! The destination of a served store's log.
 use std::io;
 
 /// A device that a log is appended to. Contracts see what was written to it, and of that what comes back whatever is killed, or, if
@@ -12,7 +12,7 @@ pub trait LogDevice {
     // All that was written.
     ghost written: { Self → Option (List ℕ) };
 
-    // What comes back at the least.
+    // The bytes that come back at the least.
     ghost kept: { Self → Option (List ℕ) };
 
     /// Writes the bytes after what was written. On an error a prefix of them was.

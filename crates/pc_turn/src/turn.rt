@@ -1,4 +1,4 @@
-//! What goes out at the end of a turn, in which order, and what it leaves if a device fails.
+//! The output at the end of a turn, its order, and the state if a device fails.
 ghost use Rattle.std.specs.Prelude.{◌≡◌, ◌≤◌, length, is_ok};
 ghost use Rattle.pc_kept_log.specs.Logs.{entries_of};
 ghost use Rattle.pc_turn.specs.Turns.{IsAppended, IsKept, IsLogOut, IsSent, TurnEnds, rest_text};
@@ -9,7 +9,7 @@ use pc_types::{Refusal, Tally};
 use std::io;
 use std::io::Write;
 
-/// How a turn ends.
+/// The outcome of a turn.
 #[derive(Clone, Copy, Debug, PartialEq, Eq)]
 pub enum TurnEnd {
     /// All of it went out.

@@ -1,4 +1,4 @@
--- What a session keeps of its commits: a number and the reads of each. The reads of all of them are in one list.
+-- A session's notes of its commits: a number and the reads of each. The reads of all of them are in one list.
 use Rattle.std.specs.Prelude.{◌≡◌, ◌<◌, ◌≤◌, ℕ, zero, suc, List, [], ◌∷◌, map, Option, Some, None, slice_get, slice_range}
 use Rattle.pc_types.specs.declared.Receipt.{Receipt}
 use Rattle.pc_model.specs.Receipts.{Read}

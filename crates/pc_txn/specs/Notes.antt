@@ -1,4 +1,4 @@
--- What a session notes of its reads.
+-- A session's notes of its reads.
 use Rattle.std.specs.Prelude.{◌||◌, ℕ, Bool, List, [], ◌∷◌, ◌++◌, Option, Some, None, if◌then◌else◌, slice_get}
 use Rattle.pc_model.specs.Receipts.{Read, is_read}
 use Rattle.pc_txn.specs.declared.got.Got.{Got}

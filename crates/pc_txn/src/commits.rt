@@ -1,4 +1,4 @@
-//! What a session keeps of its commits, in few bytes.
+//! A session's notes of its commits, in few bytes.
 ghost use Rattle.std.specs.Prelude.{◌≡◌, ◌<◌, ◌≤◌, ◌∷◌, ◌++◌, [], length, option_map, OnOk, slice_get, slice_range, IsOk};
 ghost use Rattle.pc_txn.specs.Commits.{HasRoomFor, begin_at, commit_note, reads_at};
 
@@ -49,7 +49,7 @@ impl Commits {
         }
     }
 
-    /// How many commits there are.
+    /// The number of commits.
     pub fn len(&self) -> usize
         ensures { result ≡ length self.now.items }
     {
@@ -66,8 +66,8 @@ impl Commits {
         }
     }
 
-    /// What the transaction of the commit at the place has read: of each key that it had not written the first read, in their
-    /// order, with the value that was answered, or nothing. `None` if there are no more commits than that.
+    /// The reads of the commit at the place: of each key that it had not written the first read, in their order, with the value
+    /// that was answered, or nothing. `None` if there are no more commits than that.
     pub fn reads(&self, place: usize) -> &[(Key, Option<Value>)]
         ensures { result.now ≡ reads_at self.now.items place }
     {

@@ -13,8 +13,8 @@ use std::alloc::{AllocError, Global};
 use std::cmp::Ordering;
 use std::marker::Model;
 
-/// What one transaction has read of keys that it had not written: of each key the first read, in their order, with the
-/// value that it answered, or nothing. A key is found by a binary search.
+/// The reads of one transaction of keys that it had not written: of each key the first read, in their order, with the value that
+/// it answered, or nothing. A key is found by a binary search.
 #[derive(Drop)]
 pub struct ReadSet {
     reads: Vec<(Key, Option<Value>)>,
@@ -52,7 +52,7 @@ impl ReadSet {
         self.reads.as_slice()
     }
 
-    /// How many reads there are.
+    /// The number of reads.
     pub fn len(&self) -> usize
         ensures { result ≡ length self.now.items }
     {
@@ -78,7 +78,7 @@ impl ReadSet {
     }
 
     /// Notes the read of a key, for which there is room, if it is not of an own write and the key was not read before. It gives
-    /// the place of the read if it is noted, and else gives back what was read. It allocates no memory.
+    /// the place of the read if it is noted, and otherwise gives back what was read. It allocates no memory.
     pub fn note(
         &mut self,
         own: bool,
@@ -139,7 +139,7 @@ impl ReadSet {
     }
 }
 
-// How the key at the place is ordered against this one; past the last place there are no bytes.
+// The order of the key at the place and this one; past the last place there are no bytes.
 fn compare_at(reads: &[(Key, Option<Value>)], place: usize, key: &Key) -> Ordering
     ensures { result ≡ key_cmp (key_at (read_keys reads.now) place) key.now }
 {

@@ -13,8 +13,8 @@ use std::alloc::{AllocError, Global};
 use std::cmp::Ordering;
 use std::marker::Model;
 
-/// What one transaction has written: of each key all its changes as one, in the order of first writes. A key is found by a
-/// binary search.
+/// The writes of one transaction: of each key all its changes as one, in the order of first writes. A key is found by a binary
+/// search.
 #[derive(Drop)]
 pub struct WriteSet {
     writes: Vec<Write>,
@@ -54,7 +54,7 @@ impl WriteSet {
         self.writes.as_slice()
     }
 
-    /// How many keys are written.
+    /// The number of keys written.
     pub fn len(&self) -> usize
         ensures { result ≡ length self.now.items }
     {
@@ -141,7 +141,7 @@ impl WriteSet {
     }
 }
 
-// Makes room for a write: for the first one alone, since most transactions write one key, and then for ever more at once.
+// Makes room for a write: for the first one alone, since most transactions write one key, and then for more and more at a time.
 fn make_room(writes: &mut Vec<Write>) -> Result<(), AllocError>
     ensures room { OnOk result (vec_len writes.new + 1 ≤ vec_capacity writes.new) }
     ensures at_hand { vec_len writes.old + 1 ≤ vec_capacity writes.old → IsOk result }
@@ -156,7 +156,7 @@ fn make_room(writes: &mut Vec<Write>) -> Result<(), AllocError>
     }
 }
 
-// How the key at the place is ordered against this one; past the last place there are no bytes.
+// The order of the key at the place and this one; past the last place there are no bytes.
 fn compare_at(writes: &[Write], place: usize, key: &Key) -> Ordering
     ensures { result ≡ key_cmp (key_at (written_keys writes.now) place) key.now }
 {

@@ -1,4 +1,4 @@
--- What a write does to its key: the key is set, removed, or a signed number is added to the one that it has.
+-- The effect of a write on its key: the key is set, removed, or a signed number is added to the one that it has.
 use Rattle.std.specs.Prelude.{◌≡◌, ℕ, ◌==◌, ◌^◌, nat_lt, Bool, true, List, length, Option, Some, None, if◌then◌else◌, ℤ, pos, negsuc, ◌+ℤ◌}
 use Rattle.std.specs.Int.{w64, to_be_bytes, from_be_bytes, cast_signed, cast_unsigned}
 use Rattle.pc_types.specs.declared.changes.Change.{Change}

@@ -1,4 +1,4 @@
--- How failures are counted.
+-- The counting of failures.
 use Rattle.std.specs.Prelude.{◌≡◌, ◌≤◌, ◌<◌, ◌+◌, ◌-◌, ◌^◌, ℕ, nat_lt, ◌&&◌, min, List, ◌++◌, length, take, Option, Some, None, Result, Ok, Err, ⊤, if◌then◌else◌}
 
 -- one more failure; the count stays at the greatest u64

@@ -1,4 +1,4 @@
--- What is said of a counted reader or writer.
+-- The view of a counted reader or writer.
 use Rattle.std.specs.Prelude.{◌≡◌, ℕ, List, Option, Result, Ok, Err}
 use Rattle.std.specs.Io.KnownBytes.{Appends}
 use Rattle.pc_types.specs.Counted.{HasRisen, AppendsPart}

@@ -6,7 +6,7 @@ use crate::keys::Key;
 use crate::values::Value;
 use std::alloc::{AllocError, Global};
 
-/// What a write does to its key.
+/// The effect of a write on its key.
 #[derive(Drop)]
 pub enum Change {
     /// The key has this value then.

@@ -50,7 +50,7 @@ pub enum Entry {
 }
 
 impl Entry {
-    /// The same entry once more; a commit's writes take no more room than they are many. It fails only if an allocation
+    /// The same entry once more; its list of writes has exactly the needed capacity. It fails only if an allocation
     /// fails.
     pub fn copy(&self, alloc: Global) -> Result<Entry, AllocError>
         ensures { IfOk result (λ entry. entry ≡ self.now) }
@@ -76,7 +76,7 @@ fn copy_writes(alloc: Global, writes: &[Write]) -> Result<Vec<Write>, AllocError
     Ok(copies)
 }
 
-/// What a client or the checkpointer asks of the store.
+/// A request of a client or of the checkpointer to the store.
 #[derive(Drop)]
 pub enum Event {
     /// The session begins a transaction.
@@ -109,7 +109,7 @@ pub enum Event {
     Join(FileNo, FileNo),
 }
 
-/// What the store answers.
+/// A reply of the store.
 #[derive(Drop)]
 pub enum Reply {
     /// Begin: the transaction's number.

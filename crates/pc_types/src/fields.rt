@@ -60,9 +60,8 @@ pub fn read_u64(bytes: &[u8], missing: Refusal) -> Result<(u64, &[u8]), Refusal>
     Ok((number, rest))
 }
 
-/// The format that the magic of 8 bytes tells, of which the first one given tells format 01, and the second one 02; and the
-/// bytes after it. Returns `Short` if and only if there are fewer than 8, else with `BadMagic` if and only if the first 8 are
-/// neither.
+/// The format that the magic of 8 bytes means, the first of the given ones format 01, and the second 02; and the bytes after it.
+/// Returns `Short` if and only if there are fewer than 8, else `BadMagic` if and only if the first 8 are neither.
 #[tactic(auto, unfolding(crate::specs::Fields::magic_at))]
 pub fn read_magic<'a>(
     bytes: &'a [u8],
@@ -82,7 +81,7 @@ pub fn read_magic<'a>(
 }
 
 /// The bytes of a key after its length in this format, and the bytes after it. The length is that of its own bytes. Returns
-/// `BadLength` if and only if it isn't 1 to 255, else with `missing` if and only if there are fewer bytes.
+/// `BadLength` if and only if it isn't 1 to 255, else `missing` if and only if there are fewer bytes.
 #[tactic(auto, unfolding(crate::specs::Fields::sized_key_at))]
 pub fn read_key_text(
     format: Format,
@@ -148,9 +147,9 @@ pub fn read_value(alloc: Global, bytes: &[u8], missing: Refusal) -> Result<(Valu
     Ok((Value::new(alloc, value)?, rest))
 }
 
-/// What a key has: a kind of 0 and nothing, or a kind of 1 and a value. Refuses with `BadKind` at another kind, with `BadLength`
-/// if the value is longer than a value may be, with `missing` if the bytes end inside a field, and with `OutOfMemory` only if a
-/// growth was refused.
+/// The content of a key: a kind of 0 and nothing, or a kind of 1 and a value. Refuses with `BadKind` at another kind, with
+/// `BadLength` if the value is longer than a value may be, with `missing` if the bytes end inside a field, and with
+/// `OutOfMemory` only if a growth was refused.
 #[tactic(auto, unfolding(crate::specs::Fields::content_at))]
 pub fn read_content(
     alloc: Global,

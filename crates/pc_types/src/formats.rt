@@ -1,6 +1,6 @@
 //! The two formats of files.
 
-/// How a file is written. The magic at its front tells which.
+/// The format of a file. The magic at its front determines it.
 #[derive(Clone, Copy, Debug, PartialEq, Eq)]
 pub enum Format {
     /// Format 01, whose keys are all of space 0: it has no space of a key. It is read, and no longer written.

@@ -30,7 +30,8 @@ pub enum GatePlace {
     Pair(u8),
 }
 
-/// What a loop passes at each of its places. It may take its time, and changes nothing that a contract speaks of.
+/// The hook that a loop calls at each of its places. It may take its time, and changes nothing that a contract speaks
+/// of.
 pub trait Gate {
     fn pass(&self, place: GatePlace);
 }

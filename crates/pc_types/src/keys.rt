@@ -123,7 +123,7 @@ impl Key {
         self.bytes.as_slice()
     }
 
-    /// How the keys are ordered.
+    /// The order of the keys.
     pub fn compare(&self, other: &Key) -> Ordering
         ensures { result ≡ slice_cmp nat_cmp self.now other.now }
     {

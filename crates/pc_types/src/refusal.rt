@@ -112,7 +112,7 @@ impl Refusal {
         }
     }
 
-    // What is said of it in words; that of a gap without its point.
+    // Its message in words; that of a gap without its point.
     fn message(&self) -> &'static str {
         match *self {
             Refusal::OutOfMemory => "memory ran out",

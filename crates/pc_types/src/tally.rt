@@ -12,7 +12,7 @@ use std::io;
 use std::io::{Read, Write};
 
 /// A reader or writer, and how many of its calls failed: those that answered an error, and writes that were given bytes and
-/// took none. The count stays at the greatest `u64`, and then counts as risen.
+/// took none. The count stays at the greatest `u64`, and then counts as increased.
 #[derive(Drop)]
 pub struct Tally<T> {
     inner: T,
@@ -28,7 +28,7 @@ impl<T> Tally<T> {
         Tally { inner, failures: 0 }
     }
 
-    /// How many calls failed.
+    /// The number of calls that failed.
     pub fn failures(&self) -> u64
         ensures { result ≡ failures_of self.now }
     {
@@ -36,7 +36,7 @@ impl<T> Tally<T> {
         *failures
     }
 
-    /// What was counted.
+    /// The reader or writer whose failures were counted.
     pub fn into_inner(self) -> T
         ensures { result ≡ inner_of self }
     {

@@ -31,7 +31,7 @@ pub fn verify_file<R: Read + Drop, W: Write>(
     Ok(finding.is_sound())
 }
 
-// What is found of a file. It is refused only if an allocation failed.
+// The finding about a file. It is refused only if an allocation failed.
 fn find<R: Read + Drop>(
     alloc: Global,
     kind: FileKind,
@@ -57,7 +57,7 @@ fn found_in(alloc: Global, kind: FileKind, bytes: &[u8]) -> Result<Finding, Refu
     }
 }
 
-// What is found of a file that can't be opened or read for this, unless an allocation failed.
+// The finding about a file that can't be opened or read for this, unless an allocation failed.
 fn unread(why: Refusal) -> Result<Finding, Refusal>
     ensures found { IfOk result (λ finding. (finding ≡ Finding.Unread why) × (why ≢ Refusal.OutOfMemory)) }
     ensures memory { IfErr result (λ why. why ≡ Refusal.OutOfMemory) }

@@ -1,4 +1,4 @@
--- What is answered, as numbers and bytes.
+-- The answer, as numbers and bytes.
 use Rattle.std.specs.Prelude.{ℕ, pos, List, [], length, Option, None, Some}
 use Rattle.pc_types.specs.Keys.{space_of, own_bytes}
 use Rattle.pc_types.specs.declared.Phase.{Phase}

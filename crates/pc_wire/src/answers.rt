@@ -1,4 +1,4 @@
-//! What is answered, as numbers.
+//! The answer, as numbers.
 ghost use Rattle.std.specs.Prelude.{◌≡◌, length};
 ghost use Rattle.pc_types.specs.declared.Reply.TheVariants as told;
 ghost use Rattle.pc_wire.specs.Answers.{plain, phase_number, refusal_number, gap_point, refusal_told, text_told, told_of, key_of_reply, content_bytes, value_of_reply};
@@ -9,17 +9,17 @@ use crate::codes::{
 };
 use pc_types::{Key, Phase, Refusal, Reply, Value};
 
-/// What is answered, without the bytes of a key and of a value. What its kind has no use for is 0.
+/// The answer, without the bytes of a key and of a value. A field that its kind doesn't use is 0.
 #[repr(C)]
 #[derive(Clone, Copy)]
 pub struct Answer {
-    /// What is answered, as `codes` numbers it.
+    /// The kind of the answer, by `codes`.
     pub kind: u32,
     /// Why a call was refused; 0 if it wasn't.
     pub refusal: u32,
     /// The number of a transaction, of an entry of the log or of a point, or how many are waited for.
     pub number: u64,
-    /// How many entries a file has, or a shown text is of.
+    /// The number of entries that a file has, or a shown text is of.
     pub entries: u64,
     /// The number of a file on the shelf, from 1.
     pub file: u32,
@@ -29,9 +29,9 @@ pub struct Answer {
     pub sum: i64,
     /// The space of a taken key.
     pub space: u32,
-    /// How many bytes a taken key has of its own.
+    /// The number of bytes that a taken key has of its own.
     pub key_bytes: u32,
-    /// How many bytes the value, or the text, has.
+    /// The number of bytes that the value, or the text, has.
     pub value_bytes: u64,
 }
 
@@ -87,7 +87,7 @@ fn gap_point(why: &Refusal) -> u64
     }
 }
 
-/// What is answered if the store replies so.
+/// The answer for a reply of the store.
 pub fn told_of(reply: &Reply) -> Answer
     ensures { result ≡ told_of reply.now }
 {

@@ -1,4 +1,4 @@
-//! What is asked of a store, as numbers and bytes.
+//! The request to a store, as numbers and bytes.
 ghost use Rattle.std.specs.Prelude.{◌≡◌, ◌⊎◌, Ok, Err, IsOk, IfOk, IfErr, IfSome};
 ghost use Rattle.pc_types.specs.declared.Event.TheVariants as asked;
 ghost use Rattle.pc_types.specs.declared.refusal.Refusal.TheVariants.{OutOfMemory};
@@ -11,14 +11,13 @@ use crate::codes::{
 use pc_types::{Event, FileNo, Key, MOST_KEY_BYTES, MOST_VALUE_BYTES, Refusal, SessionNo, Value};
 use std::alloc::Global;
 
-// The greatest space.
 const MOST_SPACE: u32 = 65_535;
 
-/// What is asked, without the bytes of its key and of its value. What its kind has no use for is not looked at.
+/// The request, without the bytes of its key and of its value. A field that its kind doesn't use is ignored.
 #[repr(C)]
 #[derive(Clone, Copy)]
 pub struct Call {
-    /// Which event is asked, as `codes` numbers them.
+    /// The kind of the event, by `codes`.
     pub kind: u32,
     /// The session, from 1.
     pub session: u32,
@@ -28,7 +27,7 @@ pub struct Call {
     pub first: u32,
     /// The second file of a join, from 1.
     pub second: u32,
-    /// What is added.
+    /// The number to add.
     pub delta: i64,
 }
 

@@ -71,7 +71,7 @@ pub const JOINED: u32 = 16;
 pub const REFUSED: u32 = 17;
 /// A text is shown.
 pub const TEXT: u32 = 18;
-/// What was given is kept.
+/// The given bytes are kept.
 pub const GIVEN: u32 = 19;
 /// The store was opened.
 pub const OPENED: u32 = 20;

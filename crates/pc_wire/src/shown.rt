@@ -5,7 +5,7 @@ ghost use Rattle.pc_wire.specs.Shown.{key_shown, value_shown, filled};
 use crate::answers::{key_of_reply, value_of_reply};
 use pc_types::{Items, Reply};
 
-/// What was shown last.
+/// The bytes that were shown last.
 #[derive(Drop)]
 pub enum Shown {
     /// A reply, which may have a key and a value.

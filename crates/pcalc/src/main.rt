@@ -1,5 +1,5 @@
 //! Runs a script of transactions or a workload of clients against a store, joins part files, recovers the state from a folder's files,
-//! shows what a log has, tells whether files are whole, or serves the store of a folder.
+//! prints the entries of a log, checks whether files are whole, or serves the store of a folder.
 #![tactic(auto)]
 
 mod dumping;

@@ -8,7 +8,7 @@ use std::io::Read;
 use std::string::String;
 use std::{fs, io};
 
-/// How many bytes a magic has.
+/// The number of bytes that a magic has.
 const MAGIC: usize = 8;
 
 /// The magics of part files.

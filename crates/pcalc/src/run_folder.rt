@@ -193,7 +193,7 @@ impl<'a> NewFolder<'a> {
     }
 }
 
-// What is on a disk is known to no contract.
+// No contract knows the contents of a disk.
 impl<'a> NewFiles<RunFile<'a>> for NewFolder<'a> {
     ghost use Rattle.std.specs.Prelude.{⊤, None};
 

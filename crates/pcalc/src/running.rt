@@ -40,7 +40,7 @@ const BAD_LINE: u8 = 3;
 pub struct Setting<'a> {
     rt: &'a HostRuntime,
     causes: &'a Causes,
-    /// What is counted and shown of it.
+    /// Its counts, which may be shown.
     pub progress: &'a Progress<'a>,
     // The folder from whose state it starts, if any.
     from: Option<&'a RecoveredFolder>,
@@ -48,7 +48,7 @@ pub struct Setting<'a> {
     is_explained: bool,
 }
 
-/// Runs the workload as the options say, and writes what was asked to be told of it; the status.
+/// Runs the workload as the options say, and writes the reports that were asked for; the status.
 pub fn run_clients<H: Threads + Wait + Sync>(
     rt: &HostRuntime,
     threads: &H,
@@ -108,7 +108,7 @@ fn run_told<H: Threads + Wait + Sync>(
     Ok(status)
 }
 
-// What its faults are about.
+// The subject of its faults.
 fn about<'a>(setting: &Setting<'a>, options: &RunOptions<'_>) -> About<'a> {
     match setting.from {
         Some(from) => About::Start(from.path.as_str(), options.capacity),
@@ -116,7 +116,7 @@ fn about<'a>(setting: &Setting<'a>, options: &RunOptions<'_>) -> About<'a> {
     }
 }
 
-// What is to be counted.
+// The counts that are asked for.
 fn asked(options: &RunOptions<'_>, is_explained: bool) -> Asked {
     Asked {
         is_quiet: options.is_quiet,
@@ -215,7 +215,7 @@ fn write_times<W: Write>(progress: &Progress<'_>, out: &mut W) -> io::Result<()>
     out.flush()
 }
 
-// What a run begins with: the seed of the hashes of its store, its hold on its folder, if there is one, and its workload.
+// The start of a run: the seed of the hashes of its store, its hold on its folder, if there is one, and its workload.
 #[derive(Drop)]
 struct Source<'a, R> {
     seed: RandomState,

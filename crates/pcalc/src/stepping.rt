@@ -46,7 +46,7 @@ fn step_opened<E: Write>(
     }
 }
 
-// What the store is made with.
+// The setup of the store.
 fn setup_of(options: &StepOptions<'_>) -> Setup {
     Setup {
         run: options.run,

@@ -31,7 +31,6 @@ pub fn verify_paths(rt: &HostRuntime, options: &VerifyOptions<'_>) -> io::Result
     Ok(status)
 }
 
-// The first path.
 fn first_of<'a>(options: &VerifyOptions<'a>) -> &'a str {
     match options.paths.first() {
         Some(path) => *path,
@@ -92,7 +91,7 @@ fn verify_path<W: Write, E: Write>(
     }
 }
 
-// By its name's end a file is a base or a log, and else a part.
+// By its name's end a file is a base or a log, and otherwise a part.
 fn kind_of(path: &str) -> FileKind {
     if path.ends_with(".pcb") {
         FileKind::Base
@@ -167,7 +166,7 @@ fn verify_files<R: Read + Drop, W: Write, E: Write>(
     Ok(are_whole && is_whole)
 }
 
-// What recovery makes of the folder, without the pairs; whether it lacks nothing.
+// The result of recovering the folder, without the pairs; whether it lacks nothing.
 fn put_summary<W: Write, E: Write>(
     dir: ReadFolder<'_>,
     out: &mut Tally<W>,

@@ -31,7 +31,6 @@ fn wish(crowd: Crowd, session: u32) -> Ask<'static> {
     }
 }
 
-// All begin.
 fn begin(asker: &mut Asker) -> Result<(), Refusal> {
     for session in 1..=64u32 {
         asker.ask(Ask::Begin(session))?;

@@ -1,4 +1,4 @@
-//! Asks stores for crowds of sessions at one key, for keys that come and go, and for a long walk by chance, and prints how
+//! Asks stores for crowds of sessions at one key, for keys that come and go, and for a long random walk, and prints how
 //! often each kind of reply was given, with sums over them.
 #![tactic(auto)]
 

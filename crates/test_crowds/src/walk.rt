@@ -1,4 +1,4 @@
-//! A long walk by chance of eight sessions and the checkpointer over fifty keys, with joins now and then.
+//! A long random walk of eight sessions and the checkpointer over fifty keys, with joins now and then.
 
 use crate::asker::Asker;
 use pc_engine::World;
@@ -10,7 +10,7 @@ use test_support::{Ask, Sums, drawn, drawn_value, following};
 
 const LETTERS: [u8; 50] = *b"ABCDEFGHIJKLMNOPQRSTUVWXYZabcdefghijklmnopqrstuvwx";
 
-// How many steps there are.
+// The number of steps.
 const STEPS: u32 = 100_000;
 
 fn key_of(seed: u64) -> &'static [u8] {
@@ -40,7 +40,7 @@ fn next_of(cycle: &WalkCycle) -> Ask<'static> {
     }
 }
 
-// What the checkpointer asks: most often what is next, and else any event of its own.
+// What the checkpointer asks: most often what is next, and otherwise any event of its own.
 fn checkpointer(seed: u64, cycle: &WalkCycle) -> Ask<'static> {
     match drawn(seed, 41, 30) {
         0 => Ask::StartPoint,
@@ -123,7 +123,8 @@ struct Walk {
 }
 
 // The next step of the walk: after each part it is joined with the file of all the points before it, so that there are
-// files of the points 1 to n for every n; now and then any two files are joined; else a session or the checkpointer asks.
+// files of the points 1 to n for every n; now and then any two files are joined; otherwise a session or the checkpointer
+// asks.
 fn next_ask(walk: &Walk) -> Ask<'static> {
     if walk.part > 1 {
         return Ask::Join(walk.cycle.whole, walk.part);

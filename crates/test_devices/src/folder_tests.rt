@@ -89,7 +89,7 @@ fn beginnings(alloc: Global, length: usize, torn: u8) -> Result<Folder<Tape<'sta
     })
 }
 
-// How many reads of a file failed, if it is handed back for that; else 0.
+// The number of reads of a file that failed, if it is handed back for that; otherwise 0.
 fn failed_reads<R>(lost: &Option<Lost<R>>) -> u64 {
     let unread = match lost {
         Some(Lost::Base(unread)) => unread,
@@ -103,7 +103,7 @@ fn failed_reads<R>(lost: &Option<Lost<R>>) -> u64 {
     }
 }
 
-// How many reads failed of the file that a recovery of the folder hands back.
+// The number of reads that failed of the file that a recovery of the folder hands back.
 fn failed_reads_of<R: Read + Drop>(alloc: Global, folder: Folder<R>) -> u64 {
     let mut out = Tally::new(Sink::of(b""));
     let mut errors = Tally::new(Sink::of(b""));

@@ -132,7 +132,7 @@ fn a_changed_text_beside_a_whole_one(rt: HostRuntime) -> Result<(), Fail> {
     Ok(())
 }
 
-// The reader fails after each number of its bytes; the count of the one that failed has risen, and no other.
+// The reader fails after each number of its bytes; the count of the one that failed has increased, and no other.
 #[test]
 fn a_reader_that_fails_at_each_place(rt: HostRuntime) -> Result<(), Fail> {
     let alloc = rt.alloc();

@@ -64,7 +64,7 @@ impl Runner {
     }
 }
 
-// How many reads of the script failed, if it is handed back for that; else 0.
+// The number of reads of the script that failed, if it is handed back for that; otherwise 0.
 fn failed_reads<R>(ended: &EndedScript<R>) -> u64 {
     match &ended.unread {
         Some(Unread::Failed(reader)) => reader.failures(),

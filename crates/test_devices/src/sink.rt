@@ -13,7 +13,7 @@ pub struct Sink<'a> {
     pub room: usize,
     /// How many bytes of the text there is no room for.
     pub excess: usize,
-    /// How many bytes are taken at most at a write.
+    /// The number of bytes taken at most at a write.
     pub step: usize,
     /// What is answered once there is no room.
     pub then: Option<ErrorKind>,
@@ -99,8 +99,8 @@ pub fn is_answered(out: Tally<Sink>, refused: Option<Refusal>) -> bool {
     refused == wanted && sink.is_right(failures)
 }
 
-/// Whether what is put is answered so by writers that take each number of bytes in turn, up to one more than the text has; else
-/// the number at which it isn't.
+/// Whether what is put is answered so by writers that take each number of bytes in turn, up to one more than the text has;
+/// otherwise the number at which it isn't.
 pub fn stops_at<F: Fn(&mut Tally<Sink>) -> Result<(), Refusal>>(
     text: &[u8],
     put: F,

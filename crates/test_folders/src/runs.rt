@@ -178,7 +178,7 @@ fn run_from<'a, H: Threads + Wait + Sync>(
     )
 }
 
-// How a run has ended: its status, whether it hands back a folder, and what it has printed and told.
+// How a run has ended: its status, whether it hands back a folder, and its output and its messages.
 #[derive(Drop)]
 struct Ended {
     status: u8,

@@ -8,7 +8,8 @@ use pc_types::Refusal;
 use std::alloc::Global;
 use std::test::Fail;
 
-// How many calls a beginning makes over what is given: the new generation is made, its two files are written, and an older one goes.
+// The number of calls that a beginning makes over what is given: the new generation is made, its two files are written, and an older
+// one goes.
 const CALLS: usize = 4;
 
 fn add(files: &mut Vec<StoredFile>, alloc: Global, number: u32, name: &[u8]) -> Result<(), Fail> {

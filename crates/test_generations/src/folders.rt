@@ -43,7 +43,7 @@ impl MemoryFolders {
         None
     }
 
-    /// How many files a generation has.
+    /// The number of files that a generation has.
     pub fn count(&self, number: u32) -> usize {
         let mut count = 0usize;
         for file in &self.files {

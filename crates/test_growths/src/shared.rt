@@ -94,7 +94,7 @@ const ADDED: Receipts = [Some((1, 0, 2)), None, Some((2, 1, 2)), Some((3, 0, 1))
 // The phases of a point.
 const PHASES: [Phase; 3] = [Phase::Prepare, Phase::Resolve, Phase::Capture];
 
-// How many entries the log has in the end: two commits, and five phases of each of two points.
+// The number of entries that the log has in the end: two commits, and five phases of each of two points.
 const ENTRIES: usize = 12;
 
 // Everybody at a store.
@@ -299,7 +299,7 @@ fn play<N: StoreName, R: Wait>(mut table: Table<N, R>) -> Result<Played, Refusal
     Ok(([first, second, last], taken, left(&table.close(tickets))))
 }
 
-// Everybody at the store; `None` if there was no memory to give it its name.
+// All participants of the store; `None` if the allocation of its name failed.
 fn named<N: StoreName, R: Wait>(rt: &R, alloc: Global, opened: Opened) -> Option<Table<'_, N, R>>
     requires { opened ≡ N.name }
 {
@@ -316,7 +316,7 @@ fn named<N: StoreName, R: Wait>(rt: &R, alloc: Global, opened: Opened) -> Option
     })
 }
 
-// What is played with the store; `None` if there was no memory to give it its name.
+// The results of the play with the store; `None` if the allocation of its name failed.
 fn play_named<N: StoreName, R: Wait>(
     rt: &R,
     alloc: Global,
@@ -333,7 +333,7 @@ fn play_named<N: StoreName, R: Wait>(
 // The number of the first wrong row of the adds, and the receipts.
 type PlayedAdds = (usize, Receipts);
 
-// What is played with adds; `None` if there was no memory to give the store its name.
+// The results of the play with adds; `None` if the allocation of the store's name failed.
 fn add_named<N: StoreName, R: Wait>(rt: &R, alloc: Global, opened: Opened) -> Option<PlayedAdds>
     requires { opened ≡ N.name }
 {

@@ -7,7 +7,7 @@ use pc_types::{Mode, Outcome, SlotId, TxnNo};
 use std::alloc::{AllocError, Global};
 use std::marker::Model;
 
-/// How many slots there are. A greater number is that of a slot by its remainder.
+/// The number of slots. A greater number is that of a slot by its remainder.
 pub const SLOTS: u32 = 16;
 
 /// Locks, and who keeps the ends of their queues.

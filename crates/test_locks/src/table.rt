@@ -13,7 +13,7 @@ pub enum Answer {
     Died,
     Released(u32),
     Nothing,
-    /// A request was answered otherwise than was foretold just before.
+    /// A request was answered otherwise than was previewed just before.
     NotForetold,
 }
 

@@ -221,7 +221,7 @@ fn releases_all(locks: &mut LockSlots) -> bool {
     locks.release_one(TxnNo(1)).is_none()
 }
 
-// Whether one transaction's long list of slots is right.
+// Whether one transaction's long list of slots is correct.
 fn is_long_list_right(alloc: Global) -> Result<bool, AllocError> {
     let mut locks = new_locks(alloc)?;
     Ok(reads_all(&mut locks)? && releases_all(&mut locks))

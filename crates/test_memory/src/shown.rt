@@ -12,7 +12,7 @@ use std::hash::RandomState;
 use std::test::Fail;
 use test_support::{Ask, events_of};
 
-// How many replies there are, and what the second one tells.
+// The number of replies, and what the second one tells.
 fn second_told(replies: &[Reply]) -> (usize, Told) {
     match replies.get(1) {
         Some(reply) => (replies.len(), tell(reply)),
@@ -111,7 +111,7 @@ fn shows_what_it_holds(rt: HostRuntime) -> Result<(), Fail> {
     Ok(())
 }
 
-// How many entries a file has that was handed out before its store went.
+// The number of entries that a file has that was handed out before its store went.
 fn entries_of_handed(alloc: Global, seed: RandomState) -> Result<usize, Refusal> {
     let mut world = new_world(alloc, seed, PAIR, 1, 2)?;
     first_not_shown(alloc, &mut world)?;

@@ -42,10 +42,10 @@ fn first_wrong_file(alloc: Global, world: &World, files: &[StoredFile]) -> Resul
     Ok(0)
 }
 
-/// What comes of rows: the first wrong answer, whether the store is right then, and the first wrong file, or 0.
+/// What comes of rows: the first wrong answer, whether the store is correct then, and the first wrong file, or 0.
 pub(crate) type Ended = (Option<(usize, Told)>, bool, u32);
 
-/// Where all is right.
+/// Everything is correct.
 pub(crate) const RIGHT: Ended = (None, true, 0);
 
 /// Asks the rows of the store; what comes of them and of these files.

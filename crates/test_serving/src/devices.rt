@@ -12,7 +12,7 @@ use std::io::{Error, ErrorKind, Read, Write};
 pub struct MemoryLog {
     /// What was written.
     pub bytes: Vec<u8>,
-    /// How many bytes were written at each `sync` that succeeded.
+    /// The number of bytes written at each `sync` that succeeded.
     pub kept: Vec<usize>,
     /// How many calls succeed.
     pub calls: usize,

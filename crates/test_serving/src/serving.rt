@@ -100,7 +100,7 @@ fn answers_are_the_same_in_pieces_of_any_size(rt: HostRuntime) -> Result<(), Fai
         assert_eq!(rt; left.ended, Ok(Stopped::Ended));
         assert_eq!(rt; left.sent.as_slice(), ANSWERS);
         assert_eq!(rt; left.log.kept.last(), Some(&left.log.bytes.len()));
-        // `stats` has told how many bytes the log has then.
+        // `stats` has printed how many bytes the log has then.
         assert_eq!(rt; HEADER.len() + left.log.bytes.len(), 71);
     }
     Ok(())
@@ -140,7 +140,7 @@ fn filled_generation_leaves_the_rest(rt: HostRuntime) -> Result<(), Fail> {
     Ok(())
 }
 
-// How many commits were answered.
+// The number of commits answered.
 fn commits_in(sent: &[u8]) -> usize {
     let mut commits = 0usize;
     for line in sent.split(|byte| *byte == b'\n') {
@@ -225,7 +225,8 @@ fn as_many_entries_as_the_lag_are_not_kept(rt: HostRuntime) -> Result<(), Fail> 
     Ok(())
 }
 
-// How many pairs the first commits of `LINES` leave, by how many they are: `fig` and `n` are written by the first one, and nothing else.
+// The number of pairs that the first commits of `LINES` leave, by how many they are: `fig` and `n` are written by the first one, and
+// nothing else.
 const PAIRS: [usize; 4] = [0, 2, 2, 2];
 
 // How many pairs are recovered of the base, the files of points, and of the log what was kept.

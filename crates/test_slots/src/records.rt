@@ -16,7 +16,7 @@ enum Ask {
     Release(u64),
     IsFullFor(u8),
     IsWaiting(u64),
-    // How many keys have a value.
+    // The number of keys that have a value.
     Values,
 }
 
@@ -35,7 +35,7 @@ enum Told {
     Is(bool),
     // What a read found.
     Found(Option<u8>),
-    // What a look told, and found.
+    // The answer of a look, and the content found.
     Seen(Outcome, Option<u8>),
     Count(usize),
 }

@@ -54,7 +54,7 @@ pub struct SumLine {
     pub sum: u64,
 }
 
-/// The replies of one run, told by kind in the order in which the kinds first came, and the checks.
+/// The replies of one run, counted by kind in the order in which the kinds first came, and the checks.
 ///
 /// The sum of a kind begins with 14,695,981,039,346,656,037; for each item of each of its replies, in their order, it
 /// becomes (sum xor item) times 1,099,511,628,211, modulo 2^64. The items of a reply are its number among all replies of the
@@ -177,7 +177,7 @@ impl Sums {
         Ok(())
     }
 
-    /// Counts a check of the store, and whether it found the store right.
+    /// Counts a check of the store, and whether it found the store correct.
     pub fn note_check(&mut self, is_right: bool) {
         self.checks = self.checks.wrapping_add(1);
         if is_right {
@@ -195,7 +195,7 @@ impl Sums {
         self.replies
     }
 
-    /// How many checks there were, and how many of them found the store right.
+    /// How many checks there were, and how many of them found the store correct.
     pub fn checks(&self) -> (u32, u32) {
         (self.checks, self.right)
     }

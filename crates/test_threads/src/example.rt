@@ -17,21 +17,21 @@ use std::alloc::Global;
 use std::sync::Wait;
 use std::thread::{Threads, join};
 
-// How many points are taken while the clients run.
+// The number of points taken while the clients run.
 const POINTS: u32 = 3;
 
 /// What the threads leave.
 #[derive(Drop)]
 pub struct Example {
-    /// How many transactions were committed.
+    /// The number of transactions committed.
     pub commits: u64,
-    /// How many receipts the sessions have.
+    /// The number of receipts that the sessions have.
     pub receipts: usize,
-    /// How many entries the log has.
+    /// The number of entries that the log has.
     pub entries: usize,
-    /// How many parts there are.
+    /// The number of parts.
     pub parts: usize,
-    /// The last point of the first part, if that has all points from the first on; else 0.
+    /// The last point of the first part, if that has all points from the first on; otherwise 0.
     pub complete_to: u16,
     /// Whether every session is there.
     pub all: bool,

@@ -5,7 +5,7 @@ use pc_workers::ClientGate;
 use std::sync::atomic::{AtomicBool, AtomicU64, Ordering};
 use std::thread;
 
-/// The so-manyth time that somebody comes to a place.
+/// A place, and the number of a visit to it.
 pub type Visit = (Sign, u64);
 
 /// The thread that makes the first visit waits there until the second was made.

@@ -29,7 +29,7 @@ pub enum Work {
 }
 
 impl Work {
-    /// How many sessions there are.
+    /// The number of sessions.
     pub fn sessions(&self) -> u8 {
         match *self {
             Work::Listed(sessions) => u8::try_from(sessions.len()).unwrap_or(u8::MAX),

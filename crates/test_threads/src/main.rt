@@ -28,10 +28,10 @@ use std::process::ExitCode;
 use std::sync::Wait;
 use std::thread::Threads;
 
-// How many keys a store has room for.
+// The number of keys that a store has room for.
 const CAPACITY: u32 = 8192;
 
-// How many sessions the example has.
+// The number of sessions that the example has.
 const EXAMPLE_SESSIONS: u8 = 2;
 
 // The status is 1 if memory, the output or the draw of a seed failed, or in a meeting threads missed one another, a job was given up

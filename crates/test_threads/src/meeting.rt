@@ -27,14 +27,14 @@ use std::thread::{self, Threads, join};
 pub struct Left {
     /// Whether all came where one waited for them.
     pub have_met: bool,
-    /// How many jobs were committed, and how many were given up.
+    /// The number of jobs committed, and how many were given up.
     pub commits: u64,
     pub given_up: u64,
-    /// How many receipts the sessions have, and how many reads and adds these.
+    /// The number of receipts that the sessions have, and how many reads and adds these.
     pub receipts: usize,
     pub reads: usize,
     pub adds: usize,
-    /// How many commits the log has, and how many tokens.
+    /// The number of commits that the log has, and how many tokens.
     pub entries: usize,
     pub tokens: usize,
     /// How many of the log's entries the logger was handed before the end.
@@ -45,7 +45,7 @@ pub struct Left {
     pub is_written: bool,
     /// Whether the receipts are exact.
     pub are_exact: bool,
-    /// How many files of all points from the first on there are, if they are right.
+    /// How many files of all points from the first on there are, if they are correct.
     pub right_files: Option<usize>,
 }
 
@@ -57,7 +57,7 @@ impl Left {
     }
 }
 
-// How many jobs all clients committed, and how many they gave up.
+// The number of jobs that all clients committed, and how many they gave up.
 #[derive(Drop)]
 struct Done {
     commits: AtomicU64,

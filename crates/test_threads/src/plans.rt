@@ -1,4 +1,4 @@
-//! What is to be done in each meeting.
+//! The jobs of each meeting.
 use crate::gate::{Stop, Visit};
 use crate::jobs::Ask::*;
 use crate::jobs::{Asks, Work};
@@ -16,14 +16,13 @@ pub struct Plan {
     pub work: Work,
     /// How many sessions do nothing: the work is that of those after them, and signs count from there.
     pub idle: u8,
-    /// How many entries a client may leave unwritten after its commit; if none is given it never waits for the log.
+    /// The number of entries that a client may leave unwritten after its commit; if none is given it never waits for the log.
     pub lag: Option<u32>,
     pub stops: &'static [Stop],
     /// The visits that are made while no thread waits.
     pub alone: &'static [Visit],
 }
 
-// Nobody does anything.
 const IDLE: Plan = Plan {
     name: "",
     points: 0,
@@ -36,7 +35,7 @@ const IDLE: Plan = Plan {
 };
 
 impl Plan {
-    /// How many sessions there are.
+    /// The number of sessions.
     pub fn sessions(&self) -> u8 {
         self.work.sessions().saturating_add(self.idle)
     }

@@ -10,7 +10,7 @@ use pc_workers::{client_loop, collapse_loop};
 use std::alloc::Global;
 use std::sync::Wait;
 
-// How many transactions a client commits.
+// The number of transactions that a client commits.
 const COMMITS: u64 = 1000;
 
 /// A store, with what calls of it take.

@@ -116,7 +116,7 @@ const ROWS: [Row; 26] = [
     (Put(b""), Added(1), true, Put(b"")),
     (Put(GREATEST), Added(1), true, Put(GREATEST)),
     (Put(LEAST), Added(-1), true, Put(LEAST)),
-    // Two adds are one of their sum, if that has 64 bits; else the first one stays.
+    // Two adds are one of their sum, if that has 64 bits; otherwise the first one stays.
     (Added(2), Added(3), true, Added(5)),
     (Added(2), Added(-2), true, Added(0)),
     (Added(i64::MAX), Added(0), true, Added(i64::MAX)),

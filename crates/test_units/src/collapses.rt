@@ -78,7 +78,6 @@ fn joined_text(alloc: Global) -> Result<Vec<u8>, AllocError> {
     Ok(text)
 }
 
-// The part's text.
 fn text_of(part: &Part, alloc: Global) -> Result<Vec<u8>, Refusal> {
     let mut out = Tally::new(Vec::new(alloc));
     part.encode(&mut out)?;

@@ -6,7 +6,7 @@ use pc_types::{Change, Key, Refusal, Value, Write};
 use std::alloc::Global;
 use std::test::Fail;
 
-// The key of a number: 20 bytes, which lie in memory. Keys rise with their numbers.
+// The key of a number: 20 bytes, which lie in memory. Keys ascend with their numbers.
 fn key_of(alloc: Global, number: u16) -> Result<Key, Refusal> {
     let mut bytes = Vec::new(alloc);
     bytes.extend_from_slice(b"a key in memory..:")?;

@@ -271,10 +271,10 @@ fn sets_over_one_row(rt: HostRuntime) -> Result<(), Fail> {
     Ok(())
 }
 
-// How many requests the walk has.
+// The number of requests that the walk has.
 const STEPS: u32 = 5000;
 
-// A request by chance: most add or take, and a close is asked for about as often as the closed set is empty.
+// A random request: most add or take, and a close is asked for about as often as the closed set is empty.
 fn drawn_ask(seed: u64) -> Ask {
     match drawn(seed, 33, 18) {
         0..=6 => Add(drawn(seed, 37, 13)),
@@ -286,7 +286,7 @@ fn drawn_ask(seed: u64) -> Ask {
     }
 }
 
-// How many slots there are.
+// The number of slots.
 fn count_of(slots: &[u32]) -> u32 {
     let mut count = 0u32;
     for _ in slots {

@@ -13,9 +13,9 @@ pub struct Found {
     pub cuts: u64,
     /// How many choices of parts there were with them.
     pub choices: u64,
-    /// How many of the choices were recovered right.
+    /// How many of the choices were recovered correctly.
     pub right: u64,
-    /// The length of the log and the number of the choice that were first not recovered right.
+    /// The length of the log and the number of the choice that were first not recovered correctly.
     pub wrong: Option<(usize, usize)>,
 }
 
@@ -207,7 +207,6 @@ fn recover_cut(
     Ok(())
 }
 
-// Counts a choice.
 fn note_choice(found: &mut Found, is_right: bool, length: usize, choice: usize) {
     found.choices = found.choices.saturating_add(1);
     if is_right {

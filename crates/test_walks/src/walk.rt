@@ -8,7 +8,7 @@ use std::alloc::Global;
 use std::hash::RandomState;
 use test_support::{drawn, drawn_value, following};
 
-// How many steps a walk has.
+// The number of steps that a walk has.
 const STEPS: u32 = 250;
 
 const LETTERS: [u8; 5] = *b"abcde";
