@@ -125,8 +125,8 @@ impl Board {
         Point(found as u16)
     }
 
-    /// Ends the board: how many numbers were claimed, and the greatest point that was published. The passes handed in are of
-    /// this board; what each of them has seen is a prefix of the one history that this is read off.
+    /// Ends the board; returns how many numbers were claimed, and the greatest point that was published. The passes handed in
+    /// are of this board; what each of them has seen is a prefix of the one history that this is read off.
     pub fn close(self, passes: Vec<BoardPass>) -> BoardTotals
         requires { All (λ pass. IsOfBoard pass self) passes.items }
         ensures { IsBoardEnd self result.claims result.horizon passes.items }

@@ -8,7 +8,7 @@ pub(crate) const CLAIM_COUNT: usize = 0;
 /// The word with the greatest point.
 pub(crate) const HORIZON: usize = 1;
 
-/// Both words are read off one legal history, of which every pass has seen a beginning with all of its own calls.
+/// Both words are read off one legal history, of which every pass has seen a prefix with all of its own calls.
 pub struct OneCallHistory;
 
 impl<S> TableRule<S, PassSight, u8> for OneCallHistory {

@@ -38,8 +38,8 @@ impl OpenStore {
         }
     }
 
-    /// Answers a call: if it asks an event, as `World::step` answers it, with all that is promised of that, or that an allocation failed,
-    /// which changes nothing; otherwise by why it asks none, which changes nothing. The reply is what is shown from now on.
+    /// Answers a call. If it asks an event, the answer is that of `World::step`, with all that this promises, or `OutOfMemory`, which
+    /// changes nothing; otherwise it is the reason why it asks none, which changes nothing. The reply is what is shown from now on.
     pub fn call(&mut self, alloc: Global, call: &Call, key: &[u8], value: &[u8]) -> Answer
         ensures { IsCalled self.old call.now key.now value.now result self.new }
     {

@@ -28,8 +28,8 @@ impl Store {
         Store::Gathering(Sources::new(alloc))
     }
 
-    /// Returns a text to what the store will be recovered from, as `Sources::give`: `GIVEN`, or the refusal. One that is open takes
-    /// none, and answers `OPEN`. Unless it is `GIVEN`, nothing is changed.
+    /// Adds a text to the sources of the store's recovery, as `Sources::give`: `GIVEN`, or the refusal. An open store takes none, and
+    /// answers `OPEN`. Unless the answer is `GIVEN`, nothing is changed.
     pub fn give(&mut self, alloc: Global, what: u32, bytes: &[u8]) -> Answer
         ensures { IsGivenTo self.old what bytes.now result self.new }
     {

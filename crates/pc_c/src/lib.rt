@@ -14,7 +14,7 @@ use pc_types::Refusal;
 use pc_wire::{Answer, Call, codes, plain, refusal_number, refused};
 use std::alloc::Global;
 
-/// Returns a text to what the store will be recovered from, as `Store::give`.
+/// Adds a text to the sources of the store's recovery, as `Store::give`.
 #[unsafe(no_mangle)]
 pub extern "C" fn pcalc_give(
     alloc: Global,

@@ -43,10 +43,10 @@ impl SharedPart {
         }
     }
 
-    /// The part of the point, of what was taken of it, with one owner, and how many entries it has: what was taken becomes the
-    /// part's entries in place, and nothing is left of it where it was. So it takes constant time, however many keys were taken.
-    /// It is at most as much as a file may have. All memory is made before anything is moved. Refuses with `OutOfMemory` alone;
-    /// what was taken is then as it was.
+    /// The part of the point, made of its captured entries, with one owner, and the number of its entries: the captured entries
+    /// become the part's in place, and nothing is left of them where they were. So it takes constant time, however many keys
+    /// were taken. It is at most as much as a file may have. All memory is allocated before anything is moved. Refuses with
+    /// `OutOfMemory` alone; the captured entries are then as they were.
     pub fn of_taken(
         alloc: Global,
         run: u64,

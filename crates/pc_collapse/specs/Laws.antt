@@ -28,7 +28,7 @@ FilesFoldWell = (run : ℕ) (base : Database) (log : List Entry) (first : File) 
     MatchResult result (IsOfAllPoints run base log (first ∷ others)) (λ why. (why ≡ OutOfMemory) ⊎ (why ≡ Full))
 
 -- the file is made of a run's shelf by joins; it is each other such file of its points; and if these are 1 to n, the
--- base with it applied to is the state of n
+-- base with it applied is the state of n
 pub record IsStateOfItsPoints (st : Setting) (history : History) (file : File) : Type 0 where
   pub is_made : IsMade (shelf st.run history) file
   pub is_only : (other : File) → IsMade (shelf st.run history) other → other.points ≡ file.points → other ≡ file

@@ -18,10 +18,10 @@ use std::thread::Threads;
 
 /// The join of all the parts, as `fold` gives it, in rounds, by 1 to 64 collapsers: in each round the neighbours (1, 2),
 /// (3, 4), .. are dealt to the collapsers in turn, each on a thread of its own, which joins its pairs in order and passes
-/// `Pair` with its number (from 0) at the gate before each; an odd last file goes on unchanged. What the collapsers give
-/// back, those of the first one first, are the files of the next round. The work of a thread that can't be started is done
-/// by the caller. The parts stay as they are; none of them is copied, unless it is the only one. The result is the same for
-/// every number of collapsers. Refuses as `fold` does.
+/// `Pair` with its number (from 0) at the gate before each; an odd last file goes on unchanged. The files that the
+/// collapsers return, those of the first one first, are the files of the next round. The work of a thread that can't be
+/// started is done by the caller. The parts stay as they are; none of them is copied, unless it is the only one. The result
+/// is the same for every number of collapsers. Refuses as `fold` does.
 pub fn collapse_rounds<E: Gate + Sync, R: Threads + Wait + Sync>(
     rt: &R,
     alloc: Global,
@@ -141,7 +141,7 @@ fn empty_hands<G: Given>(alloc: Global, workers: u8) -> Result<Vec<Dealt<G>>, Al
     Ok(all)
 }
 
-// Returns the neighbours to the collapser of this number.
+// Deals the neighbours to the collapser of this number.
 fn give<G: Given>(
     all: &mut [Dealt<G>],
     number: usize,

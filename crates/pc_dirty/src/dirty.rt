@@ -42,8 +42,8 @@ impl Dirty {
         side
     }
 
-    /// Whether a slot is in the open set. It goes along the set, up to all of its slots: whoever keeps the links may know it at
-    /// once.
+    /// Whether a slot is in the open set. It goes along the set, up to all of its slots: whoever keeps the links may know it without
+    /// that.
     #[tactic(auto, using(crate::proofs::Changing::none_told))]
     pub fn in_open<K, L: Links<K, Id = SideSlot>>(&self, links: &L, slot: SlotId) -> bool
         requires { (opened closed : List ℕ) × AreSets (L.has links.now) (L.next_of links.now) self.now opened closed }
@@ -56,8 +56,8 @@ impl Dirty {
         self.opened.contains(links, SideSlot { slot, side })
     }
 
-    /// Whether a slot is in the closed set. It goes along the set, up to all of its slots: whoever keeps the links may know it at
-    /// once.
+    /// Whether a slot is in the closed set. It goes along the set, up to all of its slots: whoever keeps the links may know it
+    /// without that.
     #[tactic(auto, using(crate::proofs::Changing::none_told))]
     pub fn in_closed<K, L: Links<K, Id = SideSlot>>(&self, links: &L, slot: SlotId) -> bool
         requires { (opened closed : List ℕ) × AreSets (L.has links.now) (L.next_of links.now) self.now opened closed }

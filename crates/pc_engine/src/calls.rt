@@ -56,10 +56,10 @@ impl World {
         self.write_key(session, key, None)
     }
 
-    /// The session's transaction adds to the number that the key has, or to 0 if it has no value, if its lock is granted, and
-    /// returns the sum. It is refused as `put` is, and before `OutOfMemory`, if the lock would be granted: with `NotNumber` if the
-    /// key has a value that has not eight bytes, and with `OutOfRange` if the sum, or that of all that the transaction has added
-    /// to the key, leaves 64 bits.
+    /// The session's transaction adds to the number that the key has (0 if it has no value), if its lock is granted, and returns
+    /// the sum. It is refused as `put` is, and before `OutOfMemory`, if the lock would be granted: with `NotNumber` if the key has
+    /// a value that isn't eight bytes long, and with `OutOfRange` if the sum, or that of all that the transaction has added to the
+    /// key, leaves 64 bits.
     pub fn add(&mut self, session: SessionNo, key: &Key, delta: i64) -> Result<AddAnswer, Refusal>
         ensures follows { (history : History) → Stands self.old history → Follows (setting_of self.old) history (Add session key.now delta) (add_reply result) self.new }
         ensures setting { setting_of self.new ≡ setting_of self.old }
@@ -89,8 +89,8 @@ impl World {
         self.abort_transaction(session)
     }
 
-    /// A key of the closed set is taken, with what it has at the point; `None` if the set is empty. Refused with `WrongPhase`
-    /// exactly outside capture, else only with `OutOfMemory`.
+    /// Takes a key of the closed set, with its content at the point; no key if the set is empty. Refused with `WrongPhase` if and
+    /// only if the phase isn't capture, otherwise only with `OutOfMemory`.
     pub fn take(&mut self) -> Result<TakeAnswer, Refusal>
         ensures follows { (history : History) → Stands self.old history → Follows (setting_of self.old) history Take (take_reply result) self.new }
         ensures setting { setting_of self.new ≡ setting_of self.old }

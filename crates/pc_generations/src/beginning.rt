@@ -10,8 +10,8 @@ use crate::names::{BASE_NAME, LOG_NAME, MOST_GENERATIONS};
 use pc_types::Refusal;
 use std::alloc::Global;
 
-/// The number of the generation that counts: the greatest one that has a base. `None` if none has one. Refuses only as the calls refuse
-/// that list the generations and look for their bases.
+/// The number of the generation that counts: the greatest one that has a base. `None` if none has one. Its only errors are those of the
+/// calls that list the generations and look for their bases.
 pub fn latest_generation<G: Generations>(alloc: Global, folders: &G) -> Result<Option<u32>, Refusal>
     ensures { IfOk result (IsLatest (G.stands folders.now)) }
 {

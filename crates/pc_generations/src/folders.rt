@@ -2,9 +2,9 @@
 use pc_types::Refusal;
 use std::alloc::Global;
 
-/// The folders of generations, by their numbers. Contracts see the text in each folder under each name; of folders of which that isn't
-/// known each text counts as standing there, and so does nothing. What a call has done if it refuses, a process that is killed in it
-/// may have done too.
+/// The folders of generations, by their numbers. Contracts see the text in each folder under each name; if that isn't known of a
+/// folder, each text counts as being there, and so does none. A process that is killed in a call may have done whatever the call has
+/// done if it refuses.
 pub trait Generations {
     ghost use Rattle.std.specs.Prelude.{◌⊎◌, ℕ, List, Option, Some, None, IfOk, OnOk, OnErr, MatchBool};
     ghost use Rattle.std.specs.List.{Contains};

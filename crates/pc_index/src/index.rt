@@ -13,9 +13,9 @@ use std::hash::RandomState;
 use std::marker::Model;
 
 /// Tells from a key which slot has its record. The index has a chain for each place that a hash can give, and these go through
-/// the links of the slots. Whoever keeps the slots (`KeyedSlots`) is handed in at each call. That an index is one of these slots
-/// is said by `IsIndex`: each record is found by its key, and no two records have the same one. A record may be changed in
-/// its slot as long as its key stays, but slots are taken and freed by the index alone.
+/// the links of the slots. Whoever keeps the slots (`KeyedSlots`) is handed in at each call. `IsIndex` says that an index is one
+/// of these slots: each record is found by its key, and no two records have the same one. A record may be changed in its slot as
+/// long as its key stays, but slots are taken and freed by the index alone.
 ///
 /// A find goes along one chain, from the record that was made last. There are as many chains as the least power of two at or
 /// above the number of slots, and the hash is SipHash under a seed of two secret words, so whoever picks the keys can't tell
@@ -39,7 +39,7 @@ impl Model for Index {
 
 impl Index {
     /// The index of slots of which none has a record. All its memory is taken here, and it fails only if an allocation fails. The
-    /// seed is the store's own: a random 128-bit number of the operating system (`RandomState::new`), and that no answer shows.
+    /// seed is the store's own: a random 128-bit number of the operating system (`RandomState::new`), which no answer shows.
     pub fn new<K, S: KeyedSlots<K>>(
         alloc: Global,
         slots: &S,

@@ -53,7 +53,7 @@ impl<'a> Model for LentWrite<'a> {
 
 impl<'a> LentWrite<'a> {
     /// The same write, with a key and a value of its own. It allocates memory only for a key with more than 16 bytes of its own and
-    /// for a value of more than 16 bytes, and fails only if that ran out.
+    /// for a value of more than 16 bytes, and fails only if that allocation fails.
     pub fn to_write(&self, alloc: Global) -> Result<Write, AllocError>
         ensures { IfOk result (λ write. write ≡ self.now) }
     {

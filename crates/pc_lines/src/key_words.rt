@@ -48,9 +48,9 @@ impl<'a> KeyText<'a> {
     }
 }
 
-/// The key of a key word: `\sN:` before the rest of the word gives the space, if N is 1 to 65535 in decimal digits without zeros before it,
-/// and the space is 0 without it; the rest, which isn't empty after `\sN:`, spells the key's own bytes as a value word does. `None` for any
-/// other word. It fails only if an allocation fails.
+/// The key of a key word: `\sN:` before the rest of the word gives the space, where N is 1 to 65535 in decimal digits without leading
+/// zeros, and the space is 0 without it; the rest, which isn't empty after `\sN:`, spells the key's own bytes as a value word does. `None`
+/// for any other word. It fails only if an allocation fails.
 pub fn key_text_of(alloc: Global, word: &[u8]) -> Result<Option<KeyText<'_>>, AllocError>
     ensures { IfOk result (λ text. text ≡ key_text_of word.now) }
 {

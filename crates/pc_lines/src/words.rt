@@ -167,7 +167,7 @@ fn are_plain(word: &[u8]) -> bool
     word.iter().all(|byte| is_plain(*byte))
 }
 
-/// The text of a key or value word, in which `\xHH` represents a byte and `-` alone for none; `None` if the word has a byte outside
+/// The text of a key or value word, in which `\xHH` represents a byte and `-` alone no bytes; `None` if the word has a byte outside
 /// 0x21 to 0x7E or any other use of the backslash. The text of a word without escapes is the word itself, borrowed, and takes no
 /// memory; otherwise it fails only if an allocation fails.
 pub fn text_of(alloc: Global, word: &[u8]) -> Result<Option<CowSlice<'_, u8>>, AllocError>

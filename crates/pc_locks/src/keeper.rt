@@ -23,7 +23,7 @@ pub trait QueueEnds<K> {
         ensures { result ≡ ends_of self.now slot };
 
     /// Sets the ends of the slot's queue. What is set is read; the ends of all other slots stay, and so does all that is kept
-    /// beside them.
+    /// besides them.
     fn set_ends(&mut self, slot: SlotId, ends: Chain<usize>)
         requires { has self.old slot }
         ensures set { ends_of self.new slot ≡ ends }

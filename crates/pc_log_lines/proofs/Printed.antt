@@ -21,7 +21,7 @@ use Rattle.pc_log_lines.specs.Runs.{BeginsLines, IsCutOff, IsLogLost, PutsAll}
 pub at_ok : {A E : Type 0} (P : A → Type 0) (answer : Result A E) (x : A) → answer ≡ Ok x → IfOk answer P → P x
 at_ok P answer x e h = rw e at h
 
--- nothing is a beginning
+-- nothing is a prefix
 nothing_begins : (a : Option (List ℕ)) (y : List ℕ) → AppendsBeginning a a y
 nothing_begins None y = tt
 nothing_begins (Some a) y = (0, omega arith, sym (append-nil a))
@@ -47,7 +47,7 @@ module _ {T : Type 0} (contents : T → Option (List ℕ)) where
   stopped_part a b (Ok rest) x y z memory sent counted e = tt
   stopped_part a b (Err why) x y z memory sent counted e = (begins_some (contents a.inner) (contents b.inner) x y z sent e, inl (memory, counted))
 
-  -- of a longer text a beginning is one too
+  -- of a longer text a prefix is one too
   pub cut_longer : (a b : Tally T) (why : Refusal) (x y : List ℕ) → IsCutOff contents a b why x → IsCutOff contents a b why (x ++ y)
   cut_longer a b why x y p = (begins_longer (contents a.inner) (contents b.inner) x y p.0, p.1)
 

@@ -33,7 +33,7 @@ abbrev pub BeginsLines : {R T : Type 0} → (R → Option (List ℕ)) → (T →
 BeginsLines remaining contents opened range old new = (bytes : List ℕ) → HoldsBytes remaining opened bytes →
     AppendsBeginning (contents (inner_of old)) (contents (inner_of new)) (log_lines range bytes)
 
--- Why not all lines went out, and what went out then: the log can't be read, and nothing did; or a beginning, since an allocation
+-- Why not all lines went out, and what went out then: the log can't be read, and nothing did; or a prefix, since an allocation
 -- failed or the output failed, which was counted.
 abbrev pub IsLogLost : {R T : Type 0} → (R → Option (List ℕ)) → (T → Option (List ℕ)) → Result R Refusal → EntryRange → Tally T → Tally T → LostLog R → Type 0
 IsLogLost remaining contents opened range old new (lost.Unread why) = IsUnread opened why × (new ≡ old)

@@ -33,7 +33,7 @@ const WHOLE: u8 = 0;
 const FAULTY: u8 = 4;
 
 /// Writes the lines of a log of these bytes; the status. It allocates memory for one entry at a time. It is refused with `OutOfMemory`
-/// if that ran out, and with `Device` if and only if the device failed; then a prefix of the lines went out.
+/// if an allocation failed, and with `Device` if and only if the device failed; then a prefix of the lines went out.
 pub(crate) fn put_log<W: Write>(
     alloc: Global,
     range: EntryRange,

@@ -1,4 +1,4 @@
--- Laws of sessions' calls and receipts, and of beginnings of histories.
+-- Laws of sessions' calls and receipts, and of prefixes of histories.
 use Rattle.std.specs.Prelude.{◌≡◌, ℕ, List, [], ◌∷◌, ◌++◌, Some, ⊤}
 use Rattle.pc_types.specs.declared.Entry.{Entry}
 use Rattle.pc_types.specs.declared.Event.{Event}
@@ -36,7 +36,7 @@ WritesAreOwnCalls = (s : ℕ) (history : History) → writes_of s (calls_of s hi
 abbrev pub OwnIsOfOwnCalls : Type 0
 OwnIsOfOwnCalls = (s : ℕ) (history : History) → own_of s (calls_of s history) ≡ own_of s history
 
--- A session's notes after a call depend only on its notes before and on the call.
+-- A session's notes after a call are those that the call makes of its notes before.
 abbrev pub CallsMakeOwn : Type 0
 CallsMakeOwn = (st : Setting) (before : History) (step : Step) (after : History) → Extends st before step after → own_of (session_of step.event) after ≡ own_by (session_of step.event) step (own_of (session_of step.event) before)
 
@@ -48,7 +48,7 @@ ReceiptsAreExact = (st : Setting) (s : ℕ) (history : History) → IsLegalHisto
 abbrev pub LegalRepliesFit : Type 0
 LegalRepliesFit = (st : Setting) (history : History) (event : Event) (reply : Reply) → IsLegal st history event reply → IsReplyTo event reply
 
--- The log of a beginning is a prefix of the log.
+-- The log of a prefix is a prefix of the log.
 abbrev pub LogsGrow : Type 0
 LogsGrow = (early late : History) → IsBeginning early late → (more : List Entry) × (log_of late ≡ log_of early ++ more)
 

@@ -1,4 +1,4 @@
-//! Laws of sessions' calls and receipts, and of beginnings of histories. Each function does nothing, and its contract is a law.
+//! Laws of sessions' calls and receipts, and of prefixes of histories. Each function does nothing, and its contract is a law.
 ghost use Rattle.pc_model.specs.SessionLaws.{BeginningsAreLegal, WritesAreOwnCalls, OwnIsOfOwnCalls, CallsMakeOwn, ReceiptsAreExact, LegalRepliesFit, LogsGrow, FilesStay, FilesAreNumbered};
 
 /// A prefix of a legal history is legal.
@@ -16,7 +16,7 @@ pub fn own_is_of_own_calls()
     ensures { OwnIsOfOwnCalls }
 {}
 
-/// A session's notes after a call depend only on its notes before and on the call, whatever others asked between.
+/// A session's notes after a call are those that the call makes of its notes before, whatever others asked between.
 pub fn calls_make_own()
     ensures { CallsMakeOwn }
 {}

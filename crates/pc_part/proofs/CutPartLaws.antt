@@ -24,7 +24,7 @@ entries_behind_cut : (format : Format) (turns fewer : ℕ) (ranges : List Range)
 entries_behind_cut format turns fewer ranges more again None rest = (refl, refl)
 entries_behind_cut format turns fewer ranges more again (Some entry) rest = cut_then _ _ _ _ _ _ (again entry.key rest) (λ others end. (refl, refl))
 
--- a beginning is read in fewer turns
+-- a prefix is read in fewer turns
 entries_cut : (format : Format) (turns fewer : ℕ) (ranges : List Range) (last bytes more : List ℕ) → fewer ≤ turns → IsCut (ReadsAlike more) (entries_at format turns ranges last (bytes ++ more)) (entries_at format fewer ranges last bytes)
 unfolding entries_at
 entries_cut format turns zero ranges last bytes more le = short_is_cut (ReadsAlike more) (entries_at format turns ranges last (bytes ++ more))

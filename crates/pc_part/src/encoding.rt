@@ -42,7 +42,7 @@ impl Part {
 }
 
 /// Writes the start of the text of a part: the magic, the run, and how many ranges follow. Refuses with `Device` if and only
-/// if the device failed; then a beginning went out, and not all.
+/// if the device failed; then a prefix went out, and not all of it.
 pub fn put_head<W: Write>(out: &mut Tally<W>, run: u64, count: u32) -> Result<(), Refusal>
     ensures { Puts W.contents out.old out.new result (head_text run count) }
 {

@@ -72,7 +72,7 @@ impl Part {
         Ok(Part::from_lists(run, ranges, Vec::new(alloc)))
     }
 
-    /// Has what was taken of the point, one of its own, as its entries, in place of those that it had: keys that ascend strictly, no
+    /// Takes over the captured entries of the point, one of its own, in place of those that it had: keys that ascend strictly, no
     /// more than a file may have, 4,294,967,295. It stays in place, so that this takes constant time and no memory.
     pub fn take_over(&mut self, point: Point, taken: Taken)
         requires rise { KeysRise taken }

@@ -159,7 +159,7 @@ impl Counts {
         }
     }
 
-    /// The time since the begin of the run; `None` if it has not.
+    /// The time since the begin of the run; `None` if it has not begun.
     pub fn age(&self, now: u64) -> Option<u64> {
         match self.begun.load(Ordering::SeqCst) {
             0 => None,

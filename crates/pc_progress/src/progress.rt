@@ -206,7 +206,7 @@ impl Counting {
         Some(u64::try_from(elapsed.as_micros()).ok()?.saturating_add(1))
     }
 
-    // How many microseconds ago the run has begun; `None` if it has not.
+    // The microseconds since the begin of the run; `None` if it has not begun.
     fn age(&self, rt: &HostRuntime) -> Option<u64> {
         self.counts.age(self.now(rt)?)
     }

@@ -75,7 +75,7 @@ impl Times {
         }
     }
 
-    /// Writes a line for each hundredth of a run of this length in microseconds, after the heading; `None` if it has
+    /// Writes a line for each hundredth of a run of this length in microseconds, after the heading; no line if it has
     /// none.
     pub fn put<W: Write>(&self, length: Option<u64>, out: &mut W) -> io::Result<()> {
         writeln!(out, "{HEADING}")?;

@@ -316,7 +316,7 @@ fn room_in(alloc: Global, slots: &mut KeySlots) -> Result<Box<Aside>, Refusal>
     }
 }
 
-// Returns a key that has no slot one, with the transaction's request of it, which is granted; if there was no room or an
+// Makes a slot for a key that has none, with the transaction's request of it, which is granted; if there was no room or an
 // allocation failed nothing changed.
 fn request_new(
     alloc: Global,

@@ -16,8 +16,8 @@ use std::io::{IsTerminal, Read, Write};
 /// The prompt on standard error before each line that is typed.
 const PROMPT: &[u8] = b"> ";
 
-/// Standard input. If it is a terminal a prompt is printed on standard error before each line, and after a bad line why it is one;
-/// otherwise nothing does.
+/// Standard input. If it is a terminal a prompt is printed on standard error before each line, and after a bad line the reason why
+/// it is bad; otherwise nothing is.
 #[derive(Drop)]
 pub struct Typed<'a, R> {
     inner: R,

@@ -45,7 +45,7 @@ pub record CameBackServed (st : Setting) (holds : ℕ → List ℕ → Type 0) (
   pub all_kept : Grows kept (Some log)
   pub as_written : Grows (Some log) written
 
--- There is a history that answers some first lines of the input; of its answers a beginning was sent, and nothing else; and whatever came
+-- There is a history that answers some first lines of the input; of its answers a prefix was sent, and nothing else; and whatever came
 -- back, recovery gives each commit that was answered, but for the last entries of the log, as many as the lag.
 abbrev pub LosesNoAnswer : (ℕ → List ℕ → Type 0) → Option (List ℕ) → Option (List ℕ) → List ℕ → Option (List ℕ) → Setting → ℕ → Type 0
 LosesNoAnswer holds written kept sent input st lag =

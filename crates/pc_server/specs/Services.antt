@@ -36,8 +36,8 @@ pub record Holds {T U : Type 0} (written keeps : T → Option (List ℕ)) (conte
   pub logged : Appends log (written service.log) (first_text service.server.written (log_of history))
   pub kept : GrowsFrom log (keeps service.log) (first_text service.server.written (log_of history))
 
--- The state wherever it ends, maybe in the middle of a text. It did the acts `gone`, of whose answers a beginning was sent, and nothing
--- else, and then those of the turn, and a store represents all of them. Of the log a beginning is written; and of the log as it was after
+-- The state wherever it ends, maybe in the middle of a text. It did the acts `gone`, of whose answers a prefix was sent, and nothing
+-- else, and then those of the turn, and a store represents all of them. Of the log a prefix is written; and of the log as it was after
 -- `gone` no more entries aren't kept than the lag.
 pub record IsCutOff {T U : Type 0} (written keeps : T → Option (List ℕ)) (contents : U → Option (List ℕ)) (log out : Option (List ℕ)) (st : Setting) (lag : ℕ) (gone : List Act) (at : History) (turn : List Act) (history : History)
     (log_device : T) (out_device : U) : Type 0 where

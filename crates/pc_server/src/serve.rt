@@ -39,8 +39,8 @@ pub enum Stopped {
     Filled,
 }
 
-/// The destination of the files of points. Contracts see the texts that it has under the points' numbers; of one of which that isn't known
-/// each text counts as had.
+/// The destination of the files of points. Contracts see the texts that it has under the points' numbers; for a number of which that isn't
+/// known each text counts as there.
 pub trait PointFiles {
     ghost use Rattle.std.specs.Prelude.{ℕ, List, OnOk};
     ghost use Rattle.pc_server.specs.Files.{HasFile, HasNoMore, KeepsOthers};
@@ -48,8 +48,8 @@ pub trait PointFiles {
     // It has this text under this point.
     ghost holds: { Self → ℕ → List ℕ → Type 0 };
 
-    /// Keeps the file of a point that was taken, or tells why it can't be. The files of other points stay. If it can't be kept, it may have
-    /// the file all the same, whole or not at all.
+    /// Keeps the file of a point that was taken, or returns the reason why it can't be. The files of other points stay. If it can't be
+    /// kept, it may have the file all the same, whole or not at all.
     fn keep(&mut self, file: &Part) -> Result<(), Refusal>
         ensures kept { OnOk result (HasFile (holds self.new) file.now) }
         ensures others { KeepsOthers (holds self.old) (holds self.new) file.now }
@@ -287,9 +287,9 @@ fn serve_lines<R: Read + Drop, L: LogDevice + Drop, W: Write + Drop, P: PointFil
 /// was read, so it has at most as many bytes of lines as the reader's buffer; the points that are due are taken between the lines. If
 /// nothing fails all lines were answered, or all up to that one, or all that were read before the generation was full, whose rest the input
 /// still has; all answers are sent, and all of the log is kept, whatever the lag. At every other end, and so whatever device fails at
-/// whatever call: some first lines of the input were answered, of their answers a beginning was sent, and nothing else, and of the log as
-/// it was then no more entries aren't kept than the lag. Each file of a point was given to `points`, which has its text, and nothing else
-/// of that run; if the service ends because one can't be kept, `points` may lack that one.
+/// whatever call: some first lines of the input were answered, of their answers a prefix was sent, and nothing else, and of the log as it
+/// was then no more entries aren't kept than the lag. Each file of a point was given to `points`, which has its text, and nothing else of
+/// that run; if the service ends because one can't be kept, `points` may lack that one.
 pub fn serve_input<R: Read + Drop, L: LogDevice + Drop, W: Write + Drop, P: PointFiles>(
     alloc: Global,
     service: &mut Service<L, W>,

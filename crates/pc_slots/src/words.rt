@@ -7,7 +7,7 @@ use pc_dirty::Side;
 /// The data of a slot on one side besides the slot that its link leads to.
 #[derive(Clone, Copy)]
 pub(crate) struct Mark {
-    /// The side on which the link leads to a slot, what is after this one in the set; `None` if it leads to none.
+    /// The side on which the link leads to the next slot of the set; `None` if it leads to none.
     pub(crate) leads_to: Option<Side>,
     /// The slot is in the set on the side.
     pub(crate) is_in: bool,

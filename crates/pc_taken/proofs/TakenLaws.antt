@@ -67,7 +67,7 @@ above_last key (x ∷ xs) e b rise is test = (
     at : slice_get (x ∷ xs) (length xs) ≡ Some e
     at = ap (slice_get (x ∷ xs)) (sym place) ∙ sym is
 
--- a key above a longer list is above its beginning
+-- a key above a longer list is above its prefix
 above_less : (q : List ℕ) (es more : List Captured) → IsAbove q (es ++ more) → IsAbove q es
 above_less q [] more above = tt
 above_less q (e ∷ es) more above = (above.0, above_less q es more above.1)

@@ -11,7 +11,7 @@ appends_kept (Some a) None c x out kept = absurd out
 appends_kept (Some a) (Some b) None x out kept = absurd kept
 appends_kept (Some a) (Some b) (Some c) x out kept = kept ∙ out
 
--- so does a beginning
+-- so does a prefix
 pub begins_kept : (a b c : Option (List ℕ)) (x : List ℕ) → AppendsBeginning a b x → Keeps b c → AppendsBeginning a c x
 begins_kept None b c x out kept = tt
 begins_kept (Some a) None c x out kept = absurd out

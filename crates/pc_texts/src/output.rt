@@ -7,8 +7,8 @@ ghost use Rattle.pc_texts.specs.Outputs.{IsUnprinted};
 use pc_types::{Refusal, Tally};
 use std::io::Write;
 
-/// Ends what a command prints: what was put goes out of whatever keeps it. It is what the put gave, if that was refused, or if all
-/// has gone out; otherwise the device has failed now.
+/// Ends the output of a command: flushes the text that was put. Returns the result of the put if that was refused, or if the flush
+/// succeeds; otherwise `Device`.
 pub fn end_output<T: Copy, W: Write>(
     put: Result<T, Refusal>,
     out: &mut Tally<W>,

@@ -1,4 +1,4 @@
-//! The texts that are printed. They go out in pieces and take no memory, so that no reply is lost for want of it.
+//! The texts that are printed. They go out in pieces and take no memory, so that no reply is lost to an allocation failure.
 ghost use Rattle.std.specs.Prelude.{◌≡◌, ◌<◌, ◌≤◌, ◌+◌, ◌++◌, List, ℕ, IfSome, codes, decimal, length};
 ghost use Rattle.arrayvec.specs.ArrayVec.{array_vec_len};
 ghost use Rattle.std.specs.List.{flat_map};

@@ -1,6 +1,6 @@
 -- The rule of a store's word, and what the steps on it tell. Its seats are the keeper's, which knows the whole history; that of
--- the checkpointer with the number 0, those of sessions with theirs, and those of witnesses, which know a beginning; and such
--- as are gone.
+-- the checkpointer with the number 0, those of sessions with theirs, and those of witnesses, which know a prefix; and such as
+-- are gone.
 use Rattle.std.specs.Prelude.{◌≡◌, ◌≢◌, ℕ, ◌+◌, ◌<◌, ◌≤◌, cond, List, [], ◌∷◌, length}
 use mathlib.Core.Option.{Option, none, some}
 use lib.ListN.{get_elem?}
@@ -190,7 +190,7 @@ alone v = Front (number_of v) (hist_of v)
 abbrev pub witness_out : Sight → Sight
 witness_out v = Front a_witness (other_of v)
 
--- both are beginnings of one history
+-- both are prefixes of one history
 abbrev pub AreOfOne : History → History → Type 0
 AreOfOne seen other = (history : History) × IsBeginning seen history × IsBeginning other history
 

@@ -283,7 +283,7 @@ impl<N: StoreName> Keeper<N> {
         }
     }
 
-    /// The witness sees the history as it is, of which it had seen a beginning.
+    /// The witness sees the history as it is, of which it had seen a prefix.
     pub fn renew(&mut self, tie: &Tie<N>, witness: &mut Witness<N>)
         requires alone { self.old.guests ≡ [] }
         ensures same { self.new ≡ self.old }
@@ -335,7 +335,7 @@ impl<N: StoreName> Keeper<N> {
         self.enter(tie, badge);
     }
 
-    /// Returns back the seat that was taken in last, which is the one of the session of this number.
+    /// Returns the seat that was taken in last, which is the one of the session of this number.
     pub fn give_back(&mut self, tie: &Tie<N>, number: SessionNo) -> SessionSeat<N>
         requires first { first_number self.old.guests ≡ number }
         requires session { All (IsSession N.name.setting) self.old.guests }

@@ -42,7 +42,7 @@ impl<N: StoreName> SessionSeat<N> {
         self.number
     }
 
-    /// Compares what the session has seen with what the witness has: both are beginnings of the store's one history. It needs no
+    /// Compares what the session has seen with what the witness has: both are prefixes of the store's one history. It needs no
     /// keeper.
     pub fn meet(&mut self, tie: &Tie<N>, witness: &mut Witness<N>)
         ensures same { (self.new ≡ self.old) × (witness.new ≡ witness.old) }

@@ -2,7 +2,7 @@
 use std::io;
 
 /// A device that a log is appended to. Contracts see what was written to it, and of that what comes back whatever is killed, or, if
-/// `sync` reaches the disk, whatever fails; of a device of which that isn't known nothing is said.
+/// `sync` reaches the disk, whatever fails; nothing is said of a device of which that isn't known.
 pub trait LogDevice {
     ghost use Rattle.std.specs.Prelude.{◌≡◌, ℕ, List, Option, IfOk, OnOk, OnErr};
     ghost use Rattle.std.specs.Io.KnownBytes.{Appends};

@@ -9,8 +9,8 @@ use Rattle.pc_types.specs.declared.refusal.Refusal.TheVariants.{Short, BadLength
 use Rattle.pc_types.specs.declared.formats.Format.{Format}
 use Rattle.pc_types.specs.Fields.{◌>>=◌, where_true, bytes_at, number_at, format_told, magic_at, sized_key_at, space_bytes, value_at, content_at}
 
--- What is read of a whole text, and then of a prefix of it: the two are alike in this way, or the beginning is short. Of
--- a whole text with a fault nothing is said.
+-- What is read of a whole text, and then of a prefix of it: the two are alike in this way, or the prefix is short. Of a
+-- whole text with a fault nothing is said.
 abbrev pub IsCut : {X : Type 0} → (X → X → Type 0) → Result X Refusal → Result X Refusal → Type 0
 IsCut Alike (Err e) cut = ⊤
 IsCut Alike (Ok x) (Ok y) = Alike x y
@@ -60,7 +60,7 @@ pub cut_either : {X : Type 0} (P : X → X → Type 0) (test : Bool) (p q r s : 
 cut_either P true p q r s h k = h
 cut_either P false p q r s h k = k
 
--- the two are not alike: of the beginning of a text that is read to its end nothing is read
+-- the two are not alike: of the prefix of a text that is read to its end nothing is read
 abbrev pub Never : {X : Type 0} → X → X → Type 0
 Never x y = ⊥
 

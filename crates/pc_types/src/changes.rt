@@ -19,7 +19,8 @@ pub enum Change {
 }
 
 impl Change {
-    /// A copy of the change. It allocates memory only for a value of more than 16 bytes, and fails only if that ran out.
+    /// A copy of the change. It allocates memory only for a value of more than 16 bytes, and fails only if that allocation
+    /// fails.
     pub fn copy(&self, alloc: Global) -> Result<Change, AllocError>
         ensures { IfOk result (λ change. change ≡ self.now) }
     {

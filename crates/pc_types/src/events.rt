@@ -50,8 +50,7 @@ pub enum Entry {
 }
 
 impl Entry {
-    /// The same entry once more; its list of writes has exactly the needed capacity. It fails only if an allocation
-    /// fails.
+    /// A copy of the entry; its list of writes has exactly the needed capacity. It fails only if an allocation fails.
     pub fn copy(&self, alloc: Global) -> Result<Entry, AllocError>
         ensures { IfOk result (λ entry. entry ≡ self.now) }
     {

@@ -23,7 +23,7 @@ use std::marker::Model;
 const MOST_BYTES: usize = SPACE_BYTES + MOST_KEY_BYTES;
 
 /// A key: a space, which is a number from 0 to 65,535, and 1 to 255 bytes of its own, of which up to 16 lie inline. Keys are
-/// ordered by space, and in one space byte by byte, a proper beginning before what it begins.
+/// ordered by space, and in one space byte by byte, a proper prefix first.
 #[derive(Drop)]
 pub struct Key {
     // The space's two bytes, the higher one first, and the key's own after them.
@@ -76,7 +76,7 @@ impl Key {
     }
 
     /// The key that a file has after its length in this format. It allocates memory only for more than 16 bytes of its own, and
-    /// fails only if that ran out.
+    /// fails only if that allocation fails.
     pub(crate) fn of_text(alloc: Global, format: Format, text: &[u8]) -> Result<Key, AllocError>
         requires { IsKey (key_behind format text.now) }
         ensures { IfOk result (λ key. key ≡ key_behind format text.now) }
@@ -89,7 +89,7 @@ impl Key {
     }
 
     /// The key that is ordered by these bytes, which are given as `as_bytes` gives them. It allocates memory only for more than 16
-    /// bytes of its own, and fails only if that ran out.
+    /// bytes of its own, and fails only if that allocation fails.
     pub fn of_bytes(alloc: Global, bytes: &[u8]) -> Result<Key, AllocError>
         requires { IsKey bytes.now }
         ensures key { IfOk result (λ key. key ≡ bytes.now) }

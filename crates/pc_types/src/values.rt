@@ -83,7 +83,7 @@ impl Value {
 }
 
 /// A copy of what a key has, a value or nothing. It allocates memory only for a value of more than 16 bytes, and fails
-/// only if that ran out.
+/// only if that allocation fails.
 pub fn copy_content(alloc: Global, content: &Option<Value>) -> Result<Option<Value>, AllocError>
     ensures { IfOk result (λ copy. copy ≡ content.now) }
 {

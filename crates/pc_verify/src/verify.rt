@@ -12,10 +12,9 @@ use pc_types::{Refusal, Tally};
 use std::alloc::Global;
 use std::io::{Read, Write};
 
-/// Reads a file as a text of this kind, and writes the line that tells of it: its format, its run and what it has, or its fault and with
-/// which of its bytes, from 1, that is seen, or why it can't be opened or read. It gives whether the file is a whole text of its kind. It
-/// is refused with `OutOfMemory`, and then nothing went out, and with `Device` if and only if the output failed, and then a part of the
-/// line did.
+/// Reads a file as a text of this kind, and writes its line: its format, its run and its counts, or its fault and the byte, from 1, with
+/// which that is seen, or why it can't be opened or read. Returns whether the file is a whole text of its kind. It is refused with
+/// `OutOfMemory`, and then nothing went out, and with `Device` if and only if the output failed, and then a part of the line did.
 pub fn verify_file<R: Read + Drop, W: Write>(
     alloc: Global,
     kind: FileKind,

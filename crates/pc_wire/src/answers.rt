@@ -188,7 +188,7 @@ fn phase_number(phase: Phase) -> u32
     }
 }
 
-/// The own bytes of the key that a reply has; `None` if it has no key.
+/// The own bytes of the key that a reply has; no bytes if it has no key.
 pub fn key_of_reply(reply: &Reply) -> &[u8]
     ensures { result.now ≡ key_of_reply reply.now }
 {
@@ -198,7 +198,7 @@ pub fn key_of_reply(reply: &Reply) -> &[u8]
     }
 }
 
-/// The bytes of the value that a reply has; `None` if it has no value.
+/// The bytes of the value that a reply has; no bytes if it has no value.
 pub fn value_of_reply(reply: &Reply) -> &[u8]
     ensures { result.now ≡ value_of_reply reply.now }
 {

@@ -23,7 +23,7 @@ pub fn put_read<W: Write>(
     found_in(alloc, kind, bytes).put(alloc, b"", out)
 }
 
-/// Prints what each proper beginning of the text holds, by its length.
+/// Prints what each proper prefix of the text holds, by its length.
 pub fn put_cuts<W: Write>(
     alloc: Global,
     kind: Kind,

@@ -60,7 +60,7 @@ pub fn put_recovery<W: Write>(
     out.put(&text)
 }
 
-/// Prints the same for each beginning of the log, if it is another than that of the one before, after its length.
+/// Prints the same for each prefix of the log, if it is another than that of the one before, after its length.
 pub fn put_cuts<W: Write>(
     alloc: Global,
     files: &[FolderFile],

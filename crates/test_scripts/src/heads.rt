@@ -18,7 +18,7 @@ pub enum RowHead {
 /// How a folder is recovered.
 #[derive(Clone, Copy)]
 pub struct FolderRow {
-    /// With each beginning of its log, and not with all of it alone.
+    /// With each prefix of its log, and not with all of it alone.
     pub has_cuts: bool,
     /// Strictly, and what is lacking is printed.
     pub is_strict: bool,
