@@ -14,7 +14,7 @@ use pc_types::{Key, Phase, Point, Triple, Value};
 use std::alloc::{AllocError, Global};
 use std::hash::RandomState;
 
-/// Whether each file is correct by the log, as `audit` tells it of a list of entries. The log is read where it lies, and
+/// Whether each file is correct by the log, as `audit` finds it for a list of entries. The log is read where it lies, and
 /// databases are maps by hash under the seed, a random 128-bit number: each file costs at most the sizes of the base, the log
 /// and the file. It fails only if an allocation fails.
 pub(crate) fn audit_log(

@@ -1,4 +1,4 @@
-//! The rule that every atomic step on the board's two words keeps, and what each step tells.
+//! The rule that every atomic step on the board's two words keeps, and the facts that each step gives.
 use crate::sight::PassSight;
 use atomic_table::{Join, Play, Split, TableRule};
 

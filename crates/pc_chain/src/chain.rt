@@ -4,10 +4,10 @@ ghost use Rattle.pc_chain.specs.Chains.{first_of, last_of, rest_of, Avoids, IsCh
 
 use crate::links::Links;
 
-/// A list of ids, each linked to the one after it. The chain has its ends alone; the links are kept by whoever is given at each
-/// call, in the word that the call's marker `K` names. Several chains may share a word, as long as no id is in two of them, and
-/// chains over different words have nothing to do with each other. Whatever else the keeper has stays. No call takes memory,
-/// and each succeeds.
+/// A list of ids, each linked to the one after it. The chain has its ends alone; the links are kept by the keeper that is given
+/// at each call, in the word that the call's marker `K` names. Several chains may share a word, as long as no id is in two of
+/// them, and chains over different words have nothing to do with each other. Whatever else the keeper has stays. No call takes
+/// memory, and each succeeds.
 #[derive(Clone, Copy)]
 pub struct Chain<I> {
     first: Option<I>,
@@ -116,8 +116,8 @@ impl<I: Copy> Chain<I> {
 }
 
 impl<I: Copy + PartialEq> Chain<I> {
-    /// Whether the id is in the list, by going along the list up to it; the list has fewer than 2^64 ids, which `==` tells from
-    /// each other.
+    /// Whether the id is in the list, by going along the list up to it; the list has fewer than 2^64 ids, which `==`
+    /// distinguishes.
     pub fn contains<K, L: Links<K, Id = I>>(&self, links: &L, id: I) -> bool
         requires told { (x y : I) → IsTrue (I.eq x y) ↔ (x ≡ y) }
         requires stands { (xs : List I) × IsChain (L.has links.now) (L.next_of links.now) self.now xs × (length xs < 2 ^ 64) }

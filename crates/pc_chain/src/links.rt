@@ -2,7 +2,7 @@
 ghost use Rattle.std.specs.Prelude.{◌≡◌, ◌≢◌, Option};
 
 /// Keeps a link for each of its ids: to another id, or to none. One keeper may have several links for an id, in words of
-/// their own; each word has a marker `K`, a type that tells it from the others.
+/// their own; each word has a marker `K`, a type that distinguishes it from the others.
 pub trait Links<K> {
     /// The name of a place.
     type Id: Copy;

@@ -7,8 +7,8 @@ use crate::side::{Side, SideSlot};
 use pc_chain::{Chain, Links};
 use pc_types::SlotId;
 
-/// Two sets of slots, the open one and the closed one; a slot can be in both. Each is a list without repeats, in the order of
-/// first addition. The sets have their ends alone: each slot's links, one on either side, are kept by whoever is given at each
+/// Two sets of slots, the open one and the closed one; a slot can be in both. Each is a list without repeats, in the order of first
+/// addition. The sets have their ends alone: each slot's links, one on either side, are kept by the keeper that is given at each
 /// call, in the words that the call's marker `K` names. No call takes memory, none but `in_open`, `in_closed` and `add` goes over the
 /// slots, and each succeeds.
 #[derive(Clone, Copy)]
@@ -42,7 +42,7 @@ impl Dirty {
         side
     }
 
-    /// Whether a slot is in the open set. It goes along the set, up to all of its slots: whoever keeps the links may know it without
+    /// Whether a slot is in the open set. It goes along the set, up to all of its slots: the keeper of the links may know it without
     /// that.
     #[tactic(auto, using(crate::proofs::Changing::none_told))]
     pub fn in_open<K, L: Links<K, Id = SideSlot>>(&self, links: &L, slot: SlotId) -> bool
@@ -56,7 +56,7 @@ impl Dirty {
         self.opened.contains(links, SideSlot { slot, side })
     }
 
-    /// Whether a slot is in the closed set. It goes along the set, up to all of its slots: whoever keeps the links may know it
+    /// Whether a slot is in the closed set. It goes along the set, up to all of its slots: the keeper of the links may know it
     /// without that.
     #[tactic(auto, using(crate::proofs::Changing::none_told))]
     pub fn in_closed<K, L: Links<K, Id = SideSlot>>(&self, links: &L, slot: SlotId) -> bool

@@ -26,7 +26,7 @@ pub enum Doing {
 }
 
 impl Doing {
-    /// The word that tells of it.
+    /// The word that reports it.
     pub fn word(self) -> &'static str {
         match self {
             Doing::Opening => "opening",

@@ -51,7 +51,7 @@ pub fn open_folder<'a>(dir: ReadFolder<'a>) -> Result<FoundFolder<'a>, AllocErro
     Ok(FoundFolder { folder, unopened })
 }
 
-/// Tells of the part files that can't be opened, by their names.
+/// Reports the part files that can't be opened, by their names.
 pub fn tell_unopened<E: Write>(unopened: &[Vec<u8>], errors: &mut Tally<E>) {
     for name in unopened {
         let _ = report(name, Refusal::Device, errors);
@@ -81,7 +81,7 @@ fn open_named<'a>(
     }
 }
 
-/// Why a file can't be opened or a folder can't be listed, as the program tells it.
+/// Why a file can't be opened or a folder can't be listed, as the program reports it.
 pub fn why_not(e: &io::Error) -> Refusal {
     if e.kind() == ErrorKind::NotFound {
         return Refusal::NoFile;

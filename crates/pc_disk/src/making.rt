@@ -147,7 +147,7 @@ pub fn sync_folder(rt: &HostRuntime, path: &str) -> io::Result<()> {
     File::open(rt, path)?.sync_all()
 }
 
-/// Why a file can't be made or get its name, as the program tells it.
+/// Why a file can't be made or get its name, as the program reports it.
 pub fn why_unmade(e: &io::Error) -> Refusal {
     if e.kind() == ErrorKind::OutOfMemory {
         return Refusal::OutOfMemory;

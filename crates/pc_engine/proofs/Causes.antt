@@ -1,4 +1,4 @@
--- What is owed if a cause applies.
+-- The reply that is owed if a cause applies.
 use Rattle.pc_engine.specs.Adds.{add_causes, GoesOn, IsRefusedFor, sum_in}
 use Rattle.pc_types.specs.Changes.{number_of, sum_if, added, can_add}
 use Rattle.pc_types.specs.declared.Outcome.TheVariants.{Granted, Queued, Died}

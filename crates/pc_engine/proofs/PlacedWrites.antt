@@ -33,7 +33,7 @@ by_place ss j x P inside own others i = by_test (eqb j i) refl
 abbrev in_place : Active → Option (List ℕ) → Pending
 in_place a value = record { by = a.number; class = a.class; value = value }
 
--- what stands of a transaction's write has its number and its class
+-- a transaction's write in place has its number and its class
 pub number_of : (rows : List Row) (a : Option Active) (q : List ℕ) (p : Pending) → write_in rows a q ≡ Some p → (p.by ≡ number_in a) × (p.class ≡ class_at a) × (is_some a ≡ true)
 number_of rows None q p e = absurd (let no : false ≡ true = ap is_some e in cc)
 number_of rows (Some a) q p e = by_left (left_by a.writes rows q) e
@@ -66,7 +66,7 @@ value_in rows (Some a) q e = by_left (left_by a.writes rows q)
     by_left None = refl
     by_left (Some v) = refl
 
--- if what is committed of the key stays, what stands of a write of it does
+-- if the committed content of the key stays, so does a write of it
 same_in : (rows now : List Row) (a : Option Active) (q : List ℕ) → stored (record_of now q) ≡ stored (record_of rows q) → write_in now a q ≡ write_in rows a q
 same_in rows now None q e = refl
 same_in rows now (Some a) q e = ap (λ c. option_map (in_place a) (option_map (λ change. changed change c) (written a.writes q))) e
@@ -106,7 +106,7 @@ written_other ws w q other = written_with ws w q ∙ second_of (same_bytes w.key
 written_there : (ws : List Write) (w : Write) → is_some (written (with_write ws w) w.key) ≡ true
 written_there ws w = ap is_some (written_with ws w w.key) ∙ some_first (same_bytes w.key w.key) _ (written ws w.key) ((eq_by_cmp_equiv key_order.total).refl w.key)
 
--- what a transaction's write of a key leaves is in its place once it has made the write, and its other writes stand as they stood
+-- what a transaction's write of a key leaves is in its place once it has made the write, and its other writes are as they were
 write_made : (rows : List Row) (a : Option Active) (w : Write) (value : Option (List ℕ)) (q : List ℕ) → is_some a ≡ true → value ≡ seen_in rows (after_writing a w) w.key →
     write_in rows (after_writing a w) q ≡ cond (same_bytes w.key q) (Some (let p : Pending = record { by = number_in a; class = class_at a; value = value } in p)) (write_in rows a q)
 write_made rows None w value q there leaves = absurd (let no : false ≡ true = there in cc)

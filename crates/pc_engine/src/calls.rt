@@ -1,6 +1,6 @@
 //! The calls of sessions, and the checkpointer's take, each with an answer of its own. For every history that the world
-//! represents, the reply that tells of a call's answer is legal, and the world then represents that history followed by the call's
-//! event and this reply. A refused call changes nothing.
+//! represents, the reply that represents a call's answer is legal, and the world then represents that history followed by the
+//! call's event and this reply. A refused call changes nothing.
 ghost use Rattle.std.specs.Prelude.{◌≡◌, OnErr};
 ghost use Rattle.pc_types.specs.declared.Event.TheVariants.{Begin, Get, Put, Del, Add, Commit, Abort, Take};
 ghost use Rattle.pc_model.specs.History.{History};

@@ -21,8 +21,7 @@ pub struct Damage<'a> {
 }
 
 impl<'a> Damage<'a> {
-    /// Tells of the first of the parts with the fault, or of the first that can't be joined with those before it; whether there is
-    /// one.
+    /// Describes the first part with the fault, or the first that can't be joined with those before it; whether there is one.
     pub fn put_of_parts(&self, paths: &[&str], lines: &mut Lines) -> Result<bool, Refusal> {
         let mut joined: Option<Part> = None;
         for path in paths {
@@ -149,7 +148,7 @@ impl<'a> Damage<'a> {
         Ok(())
     }
 
-    /// Tells of the fault of a text, and where in it.
+    /// Describes the fault of a text, and its place.
     pub fn put_text_fault(
         &self,
         kind: TextKind,

@@ -38,7 +38,7 @@ pub fn is_explained(rt: &HostRuntime, is_asked: bool) -> bool {
     is_asked || rt.stderr().is_terminal()
 }
 
-/// A writer to standard error that explains each line that tells of a fault, right after it.
+/// A writer to standard error that explains each line that reports a fault, right after it.
 #[derive(Drop)]
 pub struct Explained<'a, W> {
     inner: W,
@@ -86,7 +86,7 @@ impl<'a, W: Write> Write for Explained<'a, W> {
 pub type Lines = Tally<Vec<u8>>;
 
 impl<'a> Explainer<'a> {
-    /// The lines that explain this one: none if it tells of no fault, or an allocation failed.
+    /// The lines that explain this one: none if it reports no fault, or an allocation failed.
     fn explanation(&self, line: &[u8]) -> Vec<u8> {
         let mut lines = Tally::new(Vec::new(self.rt.alloc()));
         if let Some((name, word)) = fault_in(line) {
@@ -121,7 +121,7 @@ impl<'a> Explainer<'a> {
         }
     }
 
-    // The system's error about it: of a file of this name, or else, if the word tells of the system's failures, the first that
+    // The system's error about it: of a file of this name, or else, if the word reports failures of the system, the first that
     // there was.
     fn cause_of(&self, name: &[u8], word: &[u8]) -> Option<&'a Cause> {
         if !is_of_system(word) {
@@ -148,7 +148,7 @@ pub fn explain_output<E: Write>(explainer: &Explainer<'_>, errors: &mut E) {
     }
 }
 
-// The name and the word of a line that tells of a fault.
+// The name and the word of a line that reports a fault.
 fn fault_in(line: &[u8]) -> Option<(&[u8], &[u8])> {
     let rest = line.strip_prefix(b"pcalc: ")?;
     let mut colon = None;
@@ -166,7 +166,7 @@ fn is_of_folder(name: &[u8], dir: &str) -> bool {
     name == dir.as_bytes() || name == BASE.as_bytes()
 }
 
-// Whether the word tells of a failure of the system's.
+// Whether the word reports a failure of the system.
 fn is_of_system(word: &[u8]) -> bool {
     word == b"Device".as_slice()
         || word == b"NoFile".as_slice()

@@ -12,14 +12,14 @@ use std::alloc::{AllocError, Global};
 use std::hash::RandomState;
 use std::marker::Model;
 
-/// Tells from a key which slot has its record. The index has a chain for each place that a hash can give, and these go through
-/// the links of the slots. Whoever keeps the slots (`KeyedSlots`) is handed in at each call. `IsIndex` says that an index is one
-/// of these slots: each record is found by its key, and no two records have the same one. A record may be changed in its slot as
-/// long as its key stays, but slots are taken and freed by the index alone.
+/// Finds the slot of a key's record. The index has a chain for each place that a hash can give, and these go through the links of
+/// the slots. Whoever keeps the slots (`KeyedSlots`) is handed in at each call. `IsIndex` says that an index is one of these
+/// slots: each record is found by its key, and no two records have the same one. A record may be changed in its slot as long as
+/// its key stays, but slots are taken and freed by the index alone.
 ///
 /// A find goes along one chain, from the record that was made last. There are as many chains as the least power of two at or
-/// above the number of slots, and the hash is SipHash under a seed of two secret words, so whoever picks the keys can't tell
-/// which share a chain.
+/// above the number of slots, and the hash is SipHash under a seed of two secret words, so a client that picks the keys can't
+/// tell which share a chain.
 #[derive(Drop)]
 pub struct Index {
     chains: Vec<Stack<SlotId>>,

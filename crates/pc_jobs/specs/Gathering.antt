@@ -9,7 +9,7 @@ use Rattle.pc_jobs.specs.Workloads.{points_in, clients_in, works_in, ops_in}
 abbrev pub gathered_of : List Phrase → Gathered
 gathered_of lines = record { points = points_in lines; clients = reverse (clients_in lines); works = reverse (works_in lines); ops = reverse (ops_in lines) }
 
--- what a line after a `txn` tells of the transaction's end
+-- what a line after a `txn` means for the transaction's end
 abbrev pub closing : Phrase → Option Bool
 closing phrase.Silent = None
 closing (phrase.Does op) = None

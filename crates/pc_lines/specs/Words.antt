@@ -81,7 +81,7 @@ unescaped (b ∷ word) = with_plain b (unescaped word)
 abbrev pub text_of : List ℕ → Option (List ℕ)
 text_of word = if bytes_eq word (45 ∷ []) then Some [] else unescaped word
 
--- Key words. `\sN:` before the word of a key's own bytes tells its space, N from 1 to 65535; without it the space is 0.
+-- Key words. `\sN:` before the word of a key's own bytes gives its space, N from 1 to 65535; without it the space is 0.
 
 -- the space of this number; none if it is above 65,535
 abbrev pub space_within : Option ℕ → Option ℕ

@@ -6,7 +6,8 @@ use pc_chain::Chain;
 use pc_types::SlotId;
 
 /// Keeps the ends of the queue of each of its slots, in what it has of the slot. The requests between them are the locks'.
-/// The marker `K` is a type of whoever says how the ends are kept, so that he may say it of a keeper from elsewhere.
+/// The marker `K` is a type of the crate that says how the ends are kept, so that it may say so of a keeper from another
+/// crate.
 pub trait QueueEnds<K> {
     /// The slot has ends here.
     ghost has: { Self → ℕ → Type 0 };

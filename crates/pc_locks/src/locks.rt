@@ -13,11 +13,11 @@ use pc_types::{Mode, Outcome, SlotId, TxnNo};
 use std::alloc::{AllocError, Global};
 use std::marker::Model;
 
-/// The locks of slots, and what each transaction has requested. The ends of each slot's queue are kept by whoever is given at
-/// each call; what is seen of the locks is read off both (`specs/Keepers`, `state_of`). As long as both are consistent, the
-/// granted requests of each queue are in front and compatible, a slot is in a transaction's list if and only if the
-/// transaction has a request in its queue, only the last slot of a list may be one that its transaction waits for, and no
-/// transaction without a request has a list.
+/// The locks of slots, and what each transaction has requested. The ends of each slot's queue are kept by the keeper that is
+/// given at each call; what is seen of the locks is read off both (`specs/Keepers`, `state_of`). As long as both are
+/// consistent, the granted requests of each queue are in front and compatible, a slot is in a transaction's list if and only
+/// if the transaction has a request in its queue, only the last slot of a list may be one that its transaction waits for, and
+/// no transaction without a request has a list.
 #[derive(Drop)]
 pub struct Locks {
     table: RequestTable,

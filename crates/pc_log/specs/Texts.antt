@@ -19,7 +19,7 @@ use Rattle.pc_types.specs.Fields.{key_text_in, content_text, HasKey}
 use Rattle.pc_types.specs.Limits.{IsKey, IsValue}
 use Rattle.pc_types.specs.declared.limits.TheConstants.{MOST_POINTS, MOST_SESSIONS, MOST_WRITES}
 
--- the bytes that tell a log of a format
+-- the magic of a log of a format
 abbrev pub log_magic : Format → List ℕ
 log_magic First = codes "PCALCL01"
 log_magic Second = codes "PCALCL02"

@@ -41,9 +41,9 @@ pub struct LogText {
     pub fault: Option<Refusal>,
 }
 
-/// Reads a log's text, of either format: the header tells which, for all of it. Refuses with `Short`, `BadMagic` or `BadRanges`
-/// if the header of 20 bytes has that fault, and with `OutOfMemory` only if a growth was refused. It allocates memory for the
-/// entries alone.
+/// Reads a log's text, of either format: the header determines which, for all of it. Refuses with `Short`, `BadMagic` or
+/// `BadRanges` if the header of 20 bytes has that fault, and with `OutOfMemory` only if a growth was refused. It allocates memory
+/// for the entries alone.
 pub fn read_log(alloc: Global, bytes: &[u8]) -> Result<LogText, Refusal>
     ensures exact { Gives text_of result (log_at bytes.now) }
     ensures whole { IfOk result (λ text. AreWholeEntries bytes.now text.run text.entries.items text.rest) }

@@ -112,7 +112,7 @@ fn read_bytes<R: Read + Drop>(
     }
 }
 
-// Tells why not all lines of the log of this name went out. Of a fault of the output it tells nothing.
+// Reports why not all lines of the log of this name went out. A fault of the output isn't reported.
 fn tell_lost<R, E: Write>(name: &[u8], lost: &LostLog<R>, errors: &mut Tally<E>)
     ensures { IsLostTold E.contents errors.old errors.new name.now lost.now }
 {

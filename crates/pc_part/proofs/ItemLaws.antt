@@ -1,4 +1,4 @@
--- That many items, in order: as a loop reads them, what is read of a text, its text read again, and a text truncated.
+-- That many items, in order: as a loop reads them, what is read of a text, its text read again, and a truncated text.
 use Rattle.std.proofs.Common.{◌≡◌, ℕ, zero, suc, ◌+◌, ◌-◌, ◌<◌, ◌≤◌, List, [], ◌∷◌, ◌++◌, length, Result, Ok, Err, refl, sym, ap, subst, ◌∙◌, append_assoc, arith}
 use Rattle.std.specs.List.{flat_map}
 use Rattle.std.proofs.lemmas.List.{append-nil}

@@ -97,7 +97,7 @@ have_by_low : (q : ℕ) (xs ys : List Range) → have_point (by_low xs ys) q ≡
 have_by_low q [] ys = refl
 have_by_low q (x ∷ xs) ys = have_at q x xs (have_by_low q xs) ys
 
--- if the last of the ranges begins, or this point if there are none
+-- where the last of the ranges begins, or this point if there are none
 abbrev pub last_low : ℕ → List Range → ℕ
 last_low least [] = least
 last_low least (r ∷ ranges) = last_low r.low ranges

@@ -1,5 +1,5 @@
--- Reading part files and base files: field by field, from left to right, with the first fault that is met. The magic tells the
--- format of the text.
+-- Reading part files and base files: field by field, from left to right, with the first fault that is met. The magic determines
+-- the format of the text.
 use Rattle.std.specs.Prelude.{ℕ, zero, suc, ◌+◌, ◌-◌, ◌==◌, ◌&&◌, nat_lt, nat_le, if◌then◌else◌, List, [], ◌∷◌, length, slice_get, Option, Some, None, Result, Ok, Err}
 use Rattle.std.specs.Int.{w16, w32, w64}
 use Rattle.std.specs.Ordering.{is_lt}

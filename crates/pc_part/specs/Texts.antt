@@ -16,7 +16,7 @@ use Rattle.pc_types.specs.declared.Triple.{Triple}
 use Rattle.pc_part.specs.declared.ranges.Range.{Range}
 use Rattle.pc_part.specs.Parts.{bounds}
 
--- the bytes that tell a part file
+-- the magic of a part file
 abbrev pub part_magic : Format → List ℕ
 part_magic First = codes "PCALCP01"
 part_magic Second = codes "PCALCP02"
@@ -73,7 +73,7 @@ part_text_in format file = text_of_in format file.run (ranges_of (set.items file
 abbrev pub part_text : File → List ℕ
 part_text file = part_text_in Second file
 
--- the bytes that tell a base file
+-- the magic of a base file
 abbrev pub base_magic : Format → List ℕ
 base_magic First = codes "PCALCB01"
 base_magic Second = codes "PCALCB02"

@@ -23,7 +23,7 @@ impl Base {
     /// with the first fault from the left:
     ///
     /// - `Short` if the bytes end inside a field;
-    /// - `BadMagic` if the first 8 bytes tell neither format;
+    /// - `BadMagic` if the first 8 bytes are the magic of neither format;
     /// - `BadRanges` if the point is above 65,535;
     /// - `BadLength` if the length of a key or value is not within its limits;
     /// - `KeyOrder` if a key does not ascend;

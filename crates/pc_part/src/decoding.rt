@@ -27,7 +27,7 @@ impl Part {
     /// with the first fault from the left:
     ///
     /// - `Short` if the bytes end inside a field;
-    /// - `BadMagic` if the first 8 bytes tell neither format;
+    /// - `BadMagic` if the first 8 bytes are the magic of neither format;
     /// - `BadRanges` if there are no ranges, or one breaks their rule;
     /// - `BadLength` if the length of a key or value is not within its limits, or the entry count is wrong;
     /// - `KeyOrder` if a key does not ascend;

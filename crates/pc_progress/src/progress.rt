@@ -127,7 +127,7 @@ impl<'a> Progress<'a> {
         }
     }
 
-    /// The session's transaction was refused for this; if it is given up, `put_report` tells it.
+    /// The session's transaction was refused for this; if it is given up, `put_report` reports it.
     pub fn note_refusal(&self, session: SessionNo, why: Refusal) {
         if let Some(counting) = &self.counting {
             counting.counts.note_refusal(session, why);

@@ -1,4 +1,4 @@
--- The lines that tell why lines are bad.
+-- The lines that report why lines are bad.
 use Rattle.std.specs.Prelude.{◌≡◌, ◌⊎◌, ℕ, ◌-◌, nat_le, List, ◌++◌, Option, Result, Err, if◌then◌else◌, length, take, codes, decimal}
 use Rattle.std.specs.List.{flat_map}
 use Rattle.pc_types.specs.declared.refusal.Refusal.{Refusal}

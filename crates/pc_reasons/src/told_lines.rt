@@ -1,4 +1,4 @@
-//! The lines that tell which lines of a script are bad, and why.
+//! The lines that report which lines of a script are bad, and why.
 ghost use Rattle.std.specs.Prelude.{◌<◌, ◌-◌, ◌++◌, length, take, codes, decimal};
 ghost use Rattle.std.specs.List.{flat_map};
 ghost use Rattle.pc_types.specs.Tallies.{Puts};
@@ -24,7 +24,7 @@ pub struct BadLine {
 /// The most lines whose faults are reported.
 pub const MOST_TOLD: usize = 20;
 
-/// Tells of the first 20 lines, and how many more there are.
+/// Reports the first 20 lines, and how many more there are.
 pub(crate) fn put_bad_lines<W: Write>(
     name: &[u8],
     bad: &[BadLine],

@@ -66,7 +66,7 @@ impl Model for Records {
 
 impl Records {
     /// The records of these committed pairs. The seed is that of the hashes of keys: a random 128-bit number
-    /// (`RandomState::new`), so that whoever picks the keys can't make them share a chain.
+    /// (`RandomState::new`), so that a client that picks the keys can't make them share a chain.
     pub fn of_pairs(
         alloc: Global,
         capacity: u32,

@@ -1,4 +1,4 @@
--- The exit status of a run, and what it tells of a fault.
+-- The exit status of a run, and its report of a fault.
 use Rattle.std.specs.Prelude.{◌≡◌, ◌⊎◌, ℕ, List, Option, IsOk, IfOk, IfSome, MatchOption}
 use Rattle.std.specs.declared.result.Result.{Result}
 use Rattle.std.specs.Io.KnownBytes.{Appends}

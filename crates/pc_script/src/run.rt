@@ -36,8 +36,8 @@ pub struct EndedScript<R> {
 }
 
 /// Reads a script, answers its lines and returns the exit status: 0 if each line was answered, 3 if some line is a bad line,
-/// and otherwise 1. If the script isn't there, can't be read or is too large for memory, a line on the error writer tells; if
-/// the output fails, or the store can't be made because an allocation failed, nothing is reported there. It gives 1 for no
+/// and otherwise 1. If the script isn't there, can't be read or is too large for memory, a line on the error writer reports it;
+/// if the output fails, or the store can't be made because an allocation failed, nothing is reported there. It gives 1 for no
 /// other cause: the script's fault is reported, the output's failures have increased, or the lines end with the store not made.
 /// Of a script that can't be read nothing went out; otherwise at the status 1 a prefix of what its first lines print. The seed
 /// is that of the hashes of the store's keys: a random 128-bit number (`RandomState::new`), so that no script can pick keys

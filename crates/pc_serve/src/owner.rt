@@ -26,7 +26,7 @@ pub enum Unowned {
 }
 
 impl Unowned {
-    /// The word that tells of it.
+    /// The word that reports it.
     pub fn word(&self) -> &'static [u8] {
         match self {
             Unowned::Busy => b"Busy",

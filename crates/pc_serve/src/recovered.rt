@@ -30,7 +30,7 @@ impl RecoveredFolder {
         Ok(RecoveredFolder { path, generation })
     }
 
-    /// Tells by the line `generation N` which generation is recovered, if one is.
+    /// Prints the line `generation N` for the recovered generation, if there is one.
     pub fn tell<E: Write>(&self, errors: &mut Tally<E>) -> Result<(), Refusal> {
         match self.generation {
             Some(number) => {

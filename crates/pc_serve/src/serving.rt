@@ -88,7 +88,7 @@ fn run_of(drawn: u64) -> u32
     1 + (drawn % u64::from(MOST_DRAWN)) as u32
 }
 
-// Tells why the folder isn't this process's own.
+// Reports why the folder isn't this process's own.
 fn tell_unowned(dir: ReadFolder<'_>, options: &ServeOptions<'_>, why: Unowned) {
     let explainer = Explainer {
         rt: dir.rt,
@@ -123,7 +123,7 @@ fn serve_owned<'a>(
     serve_told(store_of(dir, options, drawn, latest, &from))
 }
 
-// Serves the store, and tells its faults; the status.
+// Serves the store, and reports its faults; the status.
 fn serve_told<'a>(store: Store<'a>) -> io::Result<u8> {
     let explainer = Explainer {
         rt: store.dir.rt,
@@ -302,7 +302,7 @@ fn put_ready<W: Write>(world: &World, out: &mut Tally<W>) -> Result<(), Refusal>
     }
 }
 
-// Tells why the process ended before its input did; the status. Of a fault of the output it tells nothing.
+// Reports why the process ended before its input did; the status. A fault of the output isn't reported.
 fn tell_failure<E: Write>(
     store: &Store<'_>,
     failure: Failure,

@@ -73,7 +73,7 @@ impl<'a, R: Read> Read for Typed<'a, R> {
     }
 }
 
-// Tells of each of the lines that is bad why it is one.
+// Reports why a line is bad.
 fn explain_lines<W: Write>(alloc: Global, lines: &[u8], out: &mut Tally<W>) -> Result<(), Refusal> {
     for line in lines.split(|byte| *byte == b'\n') {
         if let Some(fault) = line_fault(alloc, line)? {

@@ -263,7 +263,7 @@ same_ends written kept contents entries log lag sent answers before after log_ol
     subst (λ l. TurnEnds written kept contents l lag answers before after log_old log_new out_old out_new result) same
     (subst (λ t. TurnEnds written kept contents entries lag t before after log_old log_new out_old out_new result) told ends)
 
--- if the log went out, no more entries aren't kept than the lag
+-- if the log went out, at most as many entries as the lag are not kept
 pub kept_enough : {T : Type 0} (written kept : T → Option (List ℕ)) (log : List Entry) (lag before after : ℕ) (old new : T) → IsLogOut written kept log lag before after old new true → length log ≤ after + lag
 kept_enough written kept log lag before after old new out = by (is_due lag before log) refl out
   where
@@ -271,7 +271,7 @@ kept_enough written kept log lag before after old new out = by (is_due lag befor
     by true e (kept, all) = omega (arith, all)
     by false e (same, none) = grind (arith, nat_tests, e, none)
 
--- after a whole turn no more entries aren't kept than the lag
+-- after a whole turn at most as many entries as the lag are not kept
 pub turn_keeps : {T U : Type 0} (written kept : T → Option (List ℕ)) (contents : U → Option (List ℕ)) (log : List Entry) (answers : List ℕ) (before after : ℕ) (log_old log_new : T) (out_old out_new : Tally U) (result : TurnEnd) (lag : ℕ)
     → TurnEnds written kept contents log lag answers before after log_old log_new out_old out_new result → result ≡ end.Whole → length log ≤ after + lag
 turn_keeps written kept contents log answers before after log_old log_new out_old out_new result lag ends whole =

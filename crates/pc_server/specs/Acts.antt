@@ -27,7 +27,7 @@ abbrev pub is_quit : Request → Bool
 is_quit request.Quit = true
 is_quit other = false
 
--- the line that tells the number of the run
+-- the line with the number of the run
 abbrev pub run_line : ℕ → List ℕ
 run_line run = codes "run " ++ (decimal run ++ codes "\n")
 
@@ -55,7 +55,7 @@ abbrev pub stats_line : ℕ → ℕ → ℕ → ℕ → ℕ → ℕ → List ℕ
 stats_line entries commits points open_sessions bytes pairs =
     codes "entries=" ++ (decimal entries ++ (codes " commits=" ++ (decimal commits ++ (codes " points=" ++ (decimal points ++ (codes " open=" ++ (decimal open_sessions ++ (codes " bytes=" ++ (decimal bytes ++ (codes " pairs=" ++ (decimal pairs ++ codes "\n")))))))))))
 
--- the line that tells what was done so far, in numbers
+-- the line with the counts so far
 abbrev pub stats_of : Setting → History → List ℕ
 stats_of st history = stats_line (length (log_of history)) (commits_in (log_of history)) (length (shelf st.run history)) (open_after st history) (log_size st.run (log_of history)) (len (contents st.base history))
 

@@ -17,7 +17,7 @@ use Rattle.pc_turn.specs.Devices.{Grows}
 use Rattle.pc_server.specs.Acts.{Act, Lead, answers_of, lines_of}
 use Rattle.pc_server.specs.Inputs.{AreFirstLines}
 
--- the line that tells of the commit with this number
+-- the line of the commit with this number
 abbrev pub committed_line : ℕ → List ℕ
 committed_line number = reply_text (told.Committed number) ++ codes "\n"
 

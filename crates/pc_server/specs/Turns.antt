@@ -25,7 +25,7 @@ pub record IsNoted (commits : Bool) (log : List Entry) (before : ℕ) (old new :
   pub some : (entry : Entry) → slice_get log before ≡ Some entry → new ≡ record { commits = if commits then min (old.commits + 1) (2 ^ 64 - 1) else old.commits; bytes = min (old.bytes + length (entry_text entry)) (2 ^ 64 - 1) }
 
 -- It did the acts `gone`, whose answers were sent, and then those of the turn, whose answers wait. Of the log as it was when the last
--- answers were sent no more entries aren't kept than the lag.
+-- answers were sent at most as many entries as the lag are not kept.
 pub record Stays (st : Setting) (gone : List Act) (at : History) (turn : List Act) (history : History) (server : Server) : Type 0 where
   pub serves : Serves st server.served.world server.served.waiting history
   pub gone_by : Lead st [] gone at

@@ -288,8 +288,8 @@ fn serve_lines<R: Read + Drop, L: LogDevice + Drop, W: Write + Drop, P: PointFil
 /// nothing fails all lines were answered, or all up to that one, or all that were read before the generation was full, whose rest the input
 /// still has; all answers are sent, and all of the log is kept, whatever the lag. At every other end, and so whatever device fails at
 /// whatever call: some first lines of the input were answered, of their answers a prefix was sent, and nothing else, and of the log as it
-/// was then no more entries aren't kept than the lag. Each file of a point was given to `points`, which has its text, and nothing else of
-/// that run; if the service ends because one can't be kept, `points` may lack that one.
+/// was then at most as many entries as the lag are not kept. Each file of a point was given to `points`, which has its text, and nothing
+/// else of that run; if the service ends because one can't be kept, `points` may lack that one.
 pub fn serve_input<R: Read + Drop, L: LogDevice + Drop, W: Write + Drop, P: PointFiles>(
     alloc: Global,
     service: &mut Service<L, W>,

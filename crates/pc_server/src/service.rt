@@ -121,9 +121,9 @@ impl<L: LogDevice + Drop, W: Write + Drop> Service<L, W> {
         self.server.is_filled(entries)
     }
 
-    /// The turn ends: what the log has more than was kept is kept, if it is more than the lag, and then the answers of the turn are
-    /// sent. If a device fails, what was sent before, or a prefix of it with the answers of this turn, is all that was, and of the log
-    /// as it was then no more entries aren't kept than the lag.
+    /// Ends the turn: the log entries that aren't kept yet are kept if they are more than the lag, and then the answers of the turn
+    /// are sent. If a device fails, only the answers sent before were sent, or a prefix of them with those of this turn, and of the
+    /// log as it was then at most as many entries as the lag are not kept.
     pub fn end_turn(&mut self, alloc: Global) -> Result<(), CutOff>
         requires within { self.old.server.written ≤ length self.old.server.served.world.log }
         ensures ended { (st : Setting) (log out : Option (List ℕ)) (gone turn : List Act) (at history : History) → Holds L.written L.kept W.contents log out st gone at turn history self.old

@@ -42,7 +42,7 @@ awaits st s (step ∷ history) =
 abbrev pub is_granted_by : Setting → ℕ → Step → History → Bool
 is_granted_by st s step history = awaits st s history && not (waits_after st s (step ∷ history)) && not (s == session_of step.event)
 
--- the line that tells that the session's request was granted
+-- the line that reports that the session's request was granted
 abbrev pub granted_line : ℕ → List ℕ
 granted_line s = codes "granted " ++ (decimal s ++ codes "\n")
 

@@ -107,7 +107,7 @@ impl Served {
         self.tell(session_of(event), &reply, out)
     }
 
-    // Tells the reply to the session's event, and whose requests were granted by it.
+    // Prints the reply to the session's event, and the sessions whose requests it granted.
     fn tell<W: Write>(
         &mut self,
         own: SessionNo,
@@ -134,7 +134,7 @@ impl Served {
         }
     }
 
-    // Tells, after an event of the session, which other sessions' requests were granted.
+    // Prints, after an event of the session, which other sessions' requests were granted.
     fn sweep<W: Write>(&mut self, own: SessionNo, out: &mut Tally<W>) -> Result<(), Refusal>
         ensures world { self.new.world ≡ self.old.world }
         ensures left { OnOk result ((s : ℕ) → has_session self.new.waiting s ≡ (has_session self.old.waiting s && waits_now self.old.world s)) }
@@ -146,7 +146,7 @@ impl Served {
         Ok(())
     }
 
-    // Tells it if the session's request was granted, unless it is the one that asks; then it waits no more.
+    // Prints the line of a session whose request was granted, unless it is the one that asks; then it waits no more.
     fn grant<W: Write>(
         &mut self,
         session: SessionNo,

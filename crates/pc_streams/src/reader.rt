@@ -187,10 +187,10 @@ impl<R: Read> Entries for PartReader<R> {
 
     ghost refusals = { IsReadRefusal };
 
-    /// The next entry, kept in this memory, or `None` at the end. The header is read before the first. After the last one it sees
-    /// that the text tells how many there were, and ends. Fails with `OutOfMemory` and, if and only if the count of failures has
-    /// increased, with `Device`, else with the first fault of the text, which is that of `Part::decode`. After a refusal it answers
-    /// the same one from then on.
+    /// The next entry, kept in this memory, or `None` at the end. The header is read before the first. After the last one it checks
+    /// that the text has their number, and ends. Fails with `OutOfMemory` and, if and only if the count of failures has increased,
+    /// with `Device`, else with the first fault of the text, which is that of `Part::decode`. After a refusal it answers the same
+    /// one from then on.
     #[inline(always)]
     fn next(&mut self, memory: Vec<u8>) -> Result<Option<EntryText>, Refusal>
         ensures given { GivesNext (coming_of R.remaining self.old) (coming_of R.remaining self.new) result }

@@ -38,8 +38,8 @@ impl<T> Model for Table<T> {
 
 impl<T: Blank> Table<T> {
     /// A table for at most the given number of keys, itself at most 2^20; none has a row yet. It fails only if an allocation
-    /// fails. The seed is that of the hashes of keys: a random 128-bit number (`RandomState::new`), so that whoever picks the
-    /// keys can't make them share a chain.
+    /// fails. The seed is that of the hashes of keys: a random 128-bit number (`RandomState::new`), so that a client that picks
+    /// the keys can't make them share a chain.
     pub fn new(alloc: Global, capacity: u32, seed: RandomState) -> Result<Table<T>, AllocError>
         requires { capacity ≤ MOST_KEYS }
         ensures { IfOk result (λ table. table ≡ record { capacity = capacity; rows = [] }) }

@@ -13,11 +13,11 @@ use Rattle.pc_texts.specs.declared.files.Unread.{Unread}
 use Rattle.pc_texts.specs.declared.files.Unread.TheVariants as unread
 use Rattle.pc_texts.specs.Texts.{printed_name}
 
--- the line that tells something of a file, by its name as printed
+-- a line about a file, by its name as printed
 abbrev pub line_about : List ℕ → List ℕ → List ℕ
 line_about name words = (codes "pcalc: " ++ printed_name name) ++ (codes ": " ++ (words ++ codes "\n"))
 
--- the line that tells why a command failed
+-- the error line of a command
 abbrev pub report_text : List ℕ → Refusal → List ℕ
 report_text name why = line_about name (name_of why)
 

@@ -114,10 +114,10 @@ check_line sound = if sound then codes "check ok\n" else codes "check failed\n"
 abbrev pub file_line : List ℕ → List ℕ → ℕ → List ℕ
 file_line word points count = (word ++ ranges_text (ranges_of points)) ++ (codes " entries " ++ (decimal count ++ codes "\n"))
 
--- what tells of a joined file
+-- the line of a joined file
 abbrev pub joined_line : List ℕ → ℕ → List ℕ
 joined_line points count = file_line (codes "points ") points count
 
--- what tells of the file of all points of a run
+-- the line of the file of all points of a run
 abbrev pub collapsed_line : List ℕ → ℕ → List ℕ
 collapsed_line points count = file_line (codes "collapsed ") points count

@@ -1,4 +1,4 @@
-//! Files that may have been opened: their bytes, and the line that tells why a command failed.
+//! Files that may have been opened: their bytes, and the error line of a command.
 ghost use Rattle.std.specs.Prelude.{◌≡◌, ◌++◌, codes, IsOk, IfOk, IfErr, IfSome, OnOk};
 ghost use Rattle.std.specs.declared.result.Result.{Result};
 ghost use Rattle.pc_types.specs.declared.refusal.Refusal.{Refusal};
@@ -66,15 +66,15 @@ pub fn read_opened<R: Read + Drop>(
     }
 }
 
-/// Writes the line that tells why a command failed, by the name of a file or a word of the command line. Returns `Device` if and
-/// only if the device failed in this call.
+/// Writes the error line of a command, by the name of a file or a word of the command line. Returns `Device` if and only if the
+/// device failed in this call.
 pub fn report<E: Write>(name: &[u8], why: Refusal, errors: &mut Tally<E>) -> Result<(), Refusal>
     ensures { Puts E.contents errors.old errors.new result (report_text name.now why) }
 {
     report_words(name, why.name().as_bytes(), errors)
 }
 
-/// Writes the line that tells something that is no refusal, by the name of a file or a word of the command line. Returns `Device`
+/// Writes the error line of a cause that is no refusal, with the name of a file or a word of the command line. Returns `Device`
 /// if and only if the device failed in this call.
 pub fn report_words<E: Write>(
     name: &[u8],

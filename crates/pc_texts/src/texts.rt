@@ -201,7 +201,7 @@ fn put_range<W: Write>(out: &mut Tally<W>, low: u16, high: u16, end: &[u8]) -> R
     ])
 }
 
-/// Writes the line that tells of a joined file: its points, which ascend, and how many entries it has.
+/// Writes the line of a joined file: its points, which ascend, and how many entries it has.
 pub fn put_joined<W: Write>(
     out: &mut Tally<W>,
     points: &[Point],
@@ -212,7 +212,7 @@ pub fn put_joined<W: Write>(
     put_file_line(out, b"points ", points, entries)
 }
 
-/// Writes the line that tells of the file of all points of a run: its points, which ascend, and how many entries it has.
+/// Writes the line of the file of all points of a run: its points, which ascend, and how many entries it has.
 pub fn put_collapsed<W: Write>(
     out: &mut Tally<W>,
     points: &[Point],

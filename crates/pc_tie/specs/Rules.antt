@@ -1,6 +1,6 @@
--- The rule of a store's word, and what the steps on it tell. Its seats are the keeper's, which knows the whole history; that of
--- the checkpointer with the number 0, those of sessions with theirs, and those of witnesses, which know a prefix; and such as
--- are gone.
+-- The rule of a store's word, and the facts that the steps on it give. Its seats are the keeper's, which knows the whole
+-- history; that of the checkpointer with the number 0, those of sessions with theirs, and those of witnesses, which know a
+-- prefix; and such as are gone.
 use Rattle.std.specs.Prelude.{◌≡◌, ◌≢◌, ℕ, ◌+◌, ◌<◌, ◌≤◌, cond, List, [], ◌∷◌, length}
 use mathlib.Core.Option.{Option, none, some}
 use lib.ListN.{get_elem?}
@@ -163,7 +163,7 @@ new_front v = Front (dealt_of v) []
 abbrev pub AreTold : History → List Sitting → Type 0
 AreTold hist guests = ((k : ℕ) (x : Sitting) → get_elem? guests k ≡ some x → IsBeginning x.seen hist × (Speaks x.number → calls_of x.number hist ≡ calls_of x.number x.seen)) × AreGuestsApart guests
 
--- what a look tells of the seats that were taken in; it changes nothing
+-- the result of comparing the seats that were taken in; it changes nothing
 abbrev pub Compared : Exchange Step → Me Step Sight → ℕ → Me Step Sight → Type 0
 Compared st v found w = (w ≡ v) × AreTold (hist_of v.0) (guests_of v.0)
 

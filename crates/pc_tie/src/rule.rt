@@ -1,4 +1,4 @@
-//! The rule that every atomic step on a store's word keeps, and what each step tells.
+//! The rule that every atomic step on a store's word keeps, and the facts that each step gives.
 use crate::noted::NotedStep;
 use crate::sight::Sight;
 use crate::start::Start;

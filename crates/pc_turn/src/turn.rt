@@ -20,7 +20,7 @@ pub enum TurnEnd {
     AnswersCut,
 }
 
-/// The turn in which the log has become what it is ends: first the texts of the entries after the first `written` are appended to the
+/// Ends the turn in which the log has become what it is: first the texts of the entries after the first `written` are appended to the
 /// device, if they are more than the lag, and all that was written to it is kept; then the answers go out, which were made in the
 /// turn. So no answer goes out as long as more entries than the lag, of those that the log has, aren't kept, wherever a device fails.
 /// `written` is then how many entries are kept.

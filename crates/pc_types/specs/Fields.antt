@@ -66,11 +66,11 @@ bytes_at missing count bytes = if nat_lt (length bytes) count then Err missing e
 abbrev pub number_at : Refusal → Width → List ℕ → Result (ℕ × List ℕ) Refusal
 number_at missing w bytes = if nat_lt (length bytes) (byte_len w) then Err missing else Ok (from_be_bytes w (take (byte_len w) bytes), drop (byte_len w) bytes)
 
--- the format that these bytes tell, of which the first magic tells format 01, and the second one 02
+-- the format of these bytes: 01 if they are the first magic, and 02 if the second
 abbrev pub format_told : List ℕ → List ℕ → List ℕ → Result Format Refusal
 format_told first second magic = if pointwise nat_eq magic second then Ok Second else where_true (pointwise nat_eq magic first) BadMagic First
 
--- the format that one of two magics of 8 bytes tells, and the bytes after it
+-- the format of one of two magics of 8 bytes, and the bytes after it
 unfoldable pub magic_at : List ℕ → List ℕ → List ℕ → Result (Format × List ℕ) Refusal
 magic_at first second bytes = do
   magic ← bytes_at Short 8 bytes

@@ -60,8 +60,8 @@ pub fn read_u64(bytes: &[u8], missing: Refusal) -> Result<(u64, &[u8]), Refusal>
     Ok((number, rest))
 }
 
-/// The format that the magic of 8 bytes means, the first of the given ones format 01, and the second 02; and the bytes after it.
-/// Returns `Short` if and only if there are fewer than 8, else `BadMagic` if and only if the first 8 are neither.
+/// The format of the magic of 8 bytes: 01 for the first of the given ones, 02 for the second; and the bytes after it. Returns
+/// `Short` if and only if there are fewer than 8, else `BadMagic` if and only if the first 8 are neither.
 #[tactic(auto, unfolding(crate::specs::Fields::magic_at))]
 pub fn read_magic<'a>(
     bytes: &'a [u8],

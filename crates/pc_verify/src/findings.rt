@@ -141,7 +141,7 @@ fn head_of(bytes: &[u8], run: u64) -> Head
     }
 }
 
-// The format that the last byte of a magic tells.
+// The format of the last byte of a magic.
 fn format_of(bytes: &[u8]) -> Format
     ensures { result ≡ format_of bytes.now }
 {

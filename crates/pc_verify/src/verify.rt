@@ -1,4 +1,4 @@
-//! A file, from its reader to the line that tells of it.
+//! A file, from its reader to its line.
 ghost use Rattle.std.specs.Prelude.{◌≡◌, ◌≢◌, IfOk, IfErr};
 ghost use Rattle.pc_types.specs.declared.refusal.Refusal.{Refusal};
 ghost use Rattle.pc_verify.specs.declared.findings.Finding.{Finding};

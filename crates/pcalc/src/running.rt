@@ -81,7 +81,7 @@ fn found_start(
     }
 }
 
-// Runs the workload, and tells its faults; the status.
+// Runs the workload, and reports its faults; the status.
 fn run_told<H: Threads + Wait + Sync>(
     setting: &Setting<'_>,
     threads: &H,
@@ -289,7 +289,7 @@ fn run_opened<H: Threads + Wait + Sync, E: Write>(
     Ok(status)
 }
 
-// Tells why the first bad line of the workload is one.
+// Reports why the first bad line of the workload is bad.
 fn tell_bad_line<E: Write>(
     alloc: Global,
     name: &str,

@@ -15,7 +15,7 @@ use std::{fs, io};
 /// The status if a file or a folder isn't whole.
 const LACKING: u8 = 4;
 
-/// Tells of each of the files and folders whether it is whole, as the options say; the status.
+/// Reports for each of the files and folders whether it is whole, as the options say; the status.
 pub fn verify_paths(rt: &HostRuntime, options: &VerifyOptions<'_>) -> io::Result<u8> {
     let causes = Causes::new(rt.alloc())?;
     let explainer = Explainer {
@@ -188,7 +188,7 @@ fn put_summary<W: Write, E: Write>(
     Ok(ended.status == 0)
 }
 
-// The lines of a recovery up to that which tells how many pairs there are.
+// The lines of a recovery up to that with the number of pairs.
 #[derive(Drop)]
 struct BeforePairs {
     lines: Vec<u8>,

@@ -69,7 +69,7 @@ fn recover<R: Read + Drop>(alloc: Global, folder: Folder<R>, out: Sink, told: &s
     recover_as(alloc, folder, false, out, told)
 }
 
-// Whether the recovery of the folder has the status 1, prints nothing and tells this.
+// Whether the recovery of the folder has the status 1, prints nothing and reports this.
 fn is_told<R: Read + Drop>(alloc: Global, folder: Folder<R>, told: &str) -> bool {
     recover(alloc, folder, Sink::of(b""), told) == (1, true)
 }

@@ -53,7 +53,7 @@ impl Runner {
         self.run(name, opened, Sink::of(b""), told) == (1, true)
     }
 
-    // The status of a script, and how much it prints and tells.
+    // The status of a script, and how much it prints and reports.
     fn outcome_of(&self, script: &[u8]) -> (u8, usize, usize) {
         let Runner { alloc, seed } = *self;
         let mut out = Tally::new(Vec::new(alloc));

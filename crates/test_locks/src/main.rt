@@ -1,4 +1,4 @@
-//! Goes through every short list of requests and releases of locks, and tells how many there are and what they came to.
+//! Goes through every short list of requests and releases of locks, and prints how many there are and their outcomes.
 //!
 //! A list isn't gone on with once its last event was not asked: a transaction that waits only releases, and so does one that
 //! died, until it has released all. Of each list the answer to its last event is counted, and who waits then, and at how many

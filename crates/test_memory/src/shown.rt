@@ -12,7 +12,7 @@ use std::hash::RandomState;
 use std::test::Fail;
 use test_support::{Ask, events_of};
 
-// The number of replies, and what the second one tells.
+// The number of replies, and the content of the second one.
 fn second_told(replies: &[Reply]) -> (usize, Told) {
     match replies.get(1) {
         Some(reply) => (replies.len(), tell(reply)),

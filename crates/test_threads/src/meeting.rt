@@ -234,7 +234,7 @@ impl<'a, N: StoreName + Send + Sync, R: Threads + Wait + Sync> Room<'a, N, R> {
     }
 }
 
-/// Opens no store, but runs this one to its close by the plan, and tells what it leaves.
+/// Opens no store, but runs this one to its close by the plan, and returns what it leaves.
 pub fn meet<N: StoreName + Send + Sync, R: Threads + Wait + Sync>(
     rt: &R,
     alloc: Global,

@@ -93,7 +93,7 @@ fn with(sum: Sum, told: Told) -> Sum {
     }
 }
 
-// Tells what was first not recovered correctly of a walk, if there is such.
+// Prints what was first not recovered correctly of a walk, if anything.
 fn tell_wrong(rt: &HostRuntime, walk: u64, found: Found) -> io::Result<()> {
     match found.wrong {
         Some((length, choice)) => println!(rt;
