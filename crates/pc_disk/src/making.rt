@@ -62,7 +62,7 @@ impl<'a> Target<'a> {
             .open(self.rt, self.path.as_str())
     }
 
-    // A new file in the same folder. It gets the permissions of the file at the destination.
+    // A new file in the same folder, with the permissions of the file at the destination, if there is one and they can be set.
     fn make_apart(&mut self, standing: Option<Metadata>) -> io::Result<File> {
         for number in 0..MOST_NAMES {
             let path = self.path_apart(number)?;

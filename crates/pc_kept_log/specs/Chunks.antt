@@ -23,7 +23,7 @@ pub record AreTexts (bytes starts : List ℕ) : Type 0 where
   pub lawful : All IsEntry (entries_in bytes)
   pub begin : starts ≡ starts_from 0 (entries_in bytes)
 
--- the number of bytes that are used: they are the texts of entries, which begin at these places
+-- this many of the bytes are used: they are the texts of entries, which begin at these places
 pub record IsFilled (bytes : List ℕ) (used : ℕ) (starts : List ℕ) : Type 0 where
   pub inside : used ≤ length bytes
   pub texts : AreTexts (take used bytes) starts

@@ -1,5 +1,5 @@
--- A file of points of a legal history has fewer entries than a file may have, and the base with it applied to no more pairs than there
--- is room for.
+-- A file of points of a legal history has fewer entries than a file may have, and the base with it applied has no more pairs than
+-- there is room for.
 use Rattle.std.proofs.Common.{◌≡◌, ℕ, ◌+◌, ◌≤◌, ◌<◌, ◌||◌, ◌&&◌, not, Bool, true, false, cond, List, [], ◌∷◌, Some, None, refl, sym, ap, ◌∙◌, arith}
 use Rattle.std.specs.Prelude.{nat_le, nat_lt}
 use Rattle.std.specs.List.{find}
