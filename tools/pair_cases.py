@@ -4,6 +4,7 @@ import os
 import random
 import re
 
+import json_cases
 import look_cases
 import plain_files
 from plain_files import commit
@@ -54,7 +55,7 @@ def dump_cases(folder):
     os.remove(os.path.join(folder, "logged", "log.pcl"))
     yield Case("a dump without its log", ("dump", "logged"), 1, err=b"pcalc: logged: Damaged\n")
     yield Case("a dump without its log that is wanted", ("dump", "logged", "--damaged"), 0, b"a 1\nb 2\n")
-    yield Case("dump --help", ("dump", "--help"), 0, parts=[b"<DIR>", b"--space <N>", b"--prefix <WORD>", b"--damaged"])
+    yield Case("dump --help", ("dump", "--help"), 0, parts=[b"<DIR>", b"--space <N>", b"--prefix <WORD>", b"--json", b"--damaged"])
 
 
 def hostile_cases(folder):
@@ -176,12 +177,13 @@ def load_cases(folder):
     yield Case("no lines for a folder that isn't there", ("load", "nowhere", "lines"), 1, err=b"pcalc: nowhere: NoFile\n")
     yield Case("no lines", ("load", "spare", "lines", "--run", "9"), 0, files={"spare/base.pcb": plain_files.Base(9, 0, {}).text(), "spare/log.pcl": plain_files.Log(9).text()})
     yield Case("a folder of no pairs", ("dump", "spare"), 0, b"")
-    yield Case("load --help", ("load", "--help"), 0, parts=[b"<DIR>", b"[FILE]", b"--run <N>"])
+    yield Case("load --help", ("load", "--help"), 0, parts=[b"<DIR>", b"[FILE]", b"--json", b"--run <N>"])
 
 
 def cases(folder):
     """Each case, whose files are written into the folder right before it."""
     yield from dump_cases(folder)
     yield from load_cases(folder)
+    yield from json_cases.cases(folder, odd_pairs())
     yield from hostile_cases(folder)
     yield from foreign_cases(folder)

@@ -137,7 +137,7 @@ def usage_cases(folder):
     yield Case("an empty word for a folder", ("recover", ""), 2, err=[b"error: a value is required for '<DIR>' but none was supplied\n"])
     for words in (("\udcff",), ("step", "\udcff.pcs"), ("recover", "a\udcff"), ("run", "empty.pcs", "--dir", "\udcff")):
         yield Case("a word that is no UTF-8", words, 2, err=[b"error: a word is no UTF-8\n", b"Usage: pcalc"])
-    yield Case("--version", ("--version",), 0, b"pcalc 0.1.0, formats 01 and 02\n")
+    yield Case("--version", ("--version",), 0, b"pcalc 1.0.0, formats 01 and 02\n")
     yield Case("--help", ("--help",), 0, parts=[b"Usage: pcalc", b"\n  step ", b"\n  run ", b"\n  collapse ", b"\n  recover ", b"\n  log ", b"\n  verify ", b"\n  serve "])
     options = [b"<SCRIPT>", b"--sessions <N>", b"[default: 8]", b"--capacity <N>", b"[default: 1024]", b"--run <N>", b"[default: 1]", FAULTS]
     yield Case("step --help", ("step", "--help"), 0, parts=options)

@@ -65,6 +65,11 @@ class Edits(InFolder):
         self.assertEqual(self.read("docs/PROMISES.md"), PAGE % " `body`, +1 ")
         self.assertEqual(self.printed(check_edits.main, []), (0, "2 edits, 0 faults\n"))
 
+    def test_a_name_of_two_rows_counts_the_bodies_of_the_heading_s_crates(self):
+        found = {"kept": {("pc_low", "a"): True, ("pc_high", "b"): True, ("pc_high", "c"): False}}
+        page = "## `pc_low`\n| **kept**: it is | `lowest` |%s|\n## `pc_high`, `pc_more`\n| **kept**: it is | `twice` |%s|\n"
+        self.assertEqual(check_edits.marked(page % (" ", " "), found), page % (" `a` ", " `b`, +1 "))
+
     def test_promises_that_are_not_there(self):
         self.faults("old: + lowest(a)", "new: + 7", "promise: gone")
         self.assertEqual(self.printed(check_edits.main, []), (1, "docs/PROMISES.md: no row has the name gone\n1 edits, 1 faults\n"))

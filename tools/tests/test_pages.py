@@ -53,6 +53,10 @@ class Tables(InFolder):
         self.assertEqual(crate_tables.page_of("pc_low"), "What is low: all of it.")
         self.write("crates/pc_low/src/lib.rt", "//! What is very low: all\n//! of it; and more.\nmod a;\n")
         self.assertEqual(crate_tables.page_of("pc_low"), "What is very low.")
+        self.write("crates/pc_low/src/lib.rt", "//! Reads a file to its end, over any reader.\n")
+        self.assertEqual(crate_tables.page_of("pc_low"), "Reads a file to its end.")
+        self.write("crates/pc_low/src/lib.rt", "//! Files, over any reader.\n")
+        self.assertEqual(crate_tables.page_of("pc_low"), "Files, over any reader.")
 
     def test_a_table_that_is_not_marked(self):
         self.write("docs/ARCHITECTURE.md", TABLES.replace("<!-- crates gate -->\n", ""))

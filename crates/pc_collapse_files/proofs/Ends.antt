@@ -33,7 +33,7 @@ module _ {R : Type 0} (remaining : R → Option (List ℕ)) (files : List (Named
     unwritten_cause inputs Refuses made (fault.Unopened name why) is = absurd is
     unwritten_cause inputs Refuses made (fault.Refused why) is = absurd is
     unwritten_cause inputs Refuses made (fault.Unmade why) is = (is.0, is.1)
-    unwritten_cause inputs Refuses made (fault.Unjoined why) is = (is.0, is.1, is.2)
+    unwritten_cause inputs Refuses made (fault.Unjoined why) is = (is.0, is.1, is.2, is.3)
     unwritten_cause inputs Refuses made fault.Unwritten is = is.0
     unwritten_cause inputs Refuses made (fault.Unnamed why) is = absurd is
     unwritten_cause inputs Refuses made fault.Output is = absurd is
@@ -61,7 +61,7 @@ module _ {R : Type 0} (remaining : R → Option (List ℕ)) (files : List (Named
       unwritten_leaves inputs Refuses made (fault.Unopened name why) is = absurd is
       unwritten_leaves inputs Refuses made (fault.Refused why) is = absurd is
       unwritten_leaves inputs Refuses made (fault.Unmade why) is = (is.2, stays, refl)
-      unwritten_leaves inputs Refuses made (fault.Unjoined why) is = (is.3, stays, refl)
+      unwritten_leaves inputs Refuses made (fault.Unjoined why) is = (is.4, stays, refl)
       unwritten_leaves inputs Refuses made fault.Unwritten is = (is.1, stays, refl)
       unwritten_leaves inputs Refuses made (fault.Unnamed why) is = absurd is
       unwritten_leaves inputs Refuses made fault.Output is = absurd is

@@ -1,20 +1,20 @@
 -- The headers of part files, as their readers have them.
-use Rattle.std.proofs.Common.{◌≡◌, ◌⊎◌, ℕ, List, [], ◌∷◌, length, map, suc, Option, Some, Result, inl, inr, refl, sym, ap, ◌∙◌}
+use Rattle.std.proofs.Common.{◌≡◌, ◌⊎◌, ℕ, List, [], ◌∷◌, length, map, suc, Option, Some, Result, inl, inr, refl, sym, ap, subst, ◌∙◌}
 use Rattle.std.specs.Vec.{with_items}
 use Rattle.std.specs.declared.alloc.Global.{Global}
 use Rattle.std.specs.declared.vec.Vec.{Vec}
-use Rattle.std.proofs.lemmas.List.{with_items_is}
+use Rattle.std.proofs.lemmas.List.{nil_from_length, with_items_is}
 use Rattle.pc_types.specs.declared.Refusal.{Refusal}
 use Rattle.pc_types.specs.declared.Refusal.TheVariants.{OutOfMemory}
 use Rattle.pc_part.specs.declared.ranges.Range.{Range}
 use Rattle.pc_streams.specs.declared.reader.PartReader.{PartReader}
 use Rattle.pc_streams.specs.Coming.{part_coming, part_header}
 use Rattle.pc_streams.specs.Readers.{coming_of, header_of}
-use Rattle.pc_stream_join.specs.Headers.{AreHeaded, IsHeadersFault, StayKnown}
+use Rattle.pc_stream_join.specs.Headers.{AreHeaded, HaveTwoRuns, IsHeadersFault, IsHeadersRefusal, StayKnown}
 use Rattle.pc_stream_join.proofs.AgreeLaws.{comings_stay, headers_stay, one_header, stay_known}
 use Rattle.pc_texts.specs.declared.files.NamedFile.{NamedFile}
 use Rattle.pc_texts.specs.Files.{AreOpened}
-use Rattle.pc_collapse_files.specs.Collapses.{HaveHeader, HaveNoHeader}
+use Rattle.pc_collapse_files.specs.Collapses.{HaveHeader, HaveNoHeader, IsHeadRefusal}
 use Rattle.pc_collapse_files.specs.Inputs.{AreReadersOf}
 
 module _ {R : Type 0} (remaining : R → Option (List ℕ)) where
@@ -31,6 +31,14 @@ module _ {R : Type 0} (remaining : R → Option (List ℕ)) where
   -- the readers of the files still are, once their headers are read
   pub still_readers : (files : List (NamedFile R)) (was now : List (PartReader R)) → StayKnown remaining was now → AreReadersOf remaining files was → AreReadersOf remaining files now
   still_readers files was now stay are texts hold = (stay_known (header_of remaining) part_header was now texts (headers_stay remaining was now stay) (are texts hold).0, stay_known (coming_of remaining) part_coming was now texts (comings_stay remaining was now stay) (are texts hold).1)
+
+module _ {R : Type 0} (remaining : R → Option (List ℕ)) where
+  -- what is refused of the readers of files, which a vector has as they are now, is what is refused of the files
+  pub head_refusal : (files : List (NamedFile R)) (v : Vec (PartReader R) Global) (now : List (PartReader R)) (why : Refusal) → length v.items ≡ length files → length now ≡ length v.items → IsHeadersRefusal remaining v.items now why
+      → IsHeadRefusal remaining files (with_items v now).items why
+  head_refusal files v now why many same (inl (is, none)) = inl (is, nil_from_length files (sym many ∙ ap length none))
+  head_refusal files v now why many same (inr (inl (is, two))) = inr (inl (is, subst (HaveTwoRuns remaining) (sym (with_items_is v now (same ∙ sym v.ok.0))) two))
+  head_refusal files v now why many same (inr (inr read)) = inr (inr read)
 
 -- ---- the header of all
 

@@ -1,5 +1,5 @@
 -- Part files as readers, one after the other.
-use Rattle.std.proofs.Common.{◌≡◌, ℕ, List, [], ◌∷◌, ◌++◌, map, Option, Some, Err, refl, sym, ap, subst, ◌∙◌, append_assoc}
+use Rattle.std.proofs.Common.{◌≡◌, ℕ, ◌+◌, List, [], ◌∷◌, ◌++◌, length, length-append, map, Option, Some, Err, refl, sym, ap, subst, ◌∙◌, append_assoc}
 use Rattle.std.specs.Prelude.{IsOk, option_map, Result}
 use Rattle.std.proofs.lemmas.List.{append-nil, map-append}
 use Rattle.std.proofs.lemmas.List.Elements.{All-nil, All-push}
@@ -26,7 +26,7 @@ known_coming text = Some (part_coming text)
 
 -- the files left are the last ones; those before them were opened, and these are their readers
 abbrev pub AreLeft : {R : Type 0} → (R → Option (List ℕ)) → List (NamedFile R) → List (NamedFile R) → List (PartReader R) → Type 0
-AreLeft {R} remaining files left readers = (done : List (NamedFile R)) × (files ≡ done ++ left) × AreOpened done × AreReadersOf remaining done readers
+AreLeft {R} remaining files left readers = (done : List (NamedFile R)) × (files ≡ done ++ left) × AreOpened done × AreReadersOf remaining done readers × (length readers ≡ length done)
 
 -- the reader of an opened file has what its bytes say
 pub reader_is : {R : Type 0} (remaining : R → Option (List ℕ)) (reader : R) (header : Option (Result (ℕ × List Range) Refusal)) (coming : Option Coming) → header ≡ option_map part_header (remaining reader) → coming ≡ option_map part_coming (remaining reader)
@@ -70,7 +70,7 @@ module _ {R : Type 0} (remaining : R → Option (List ℕ)) where
   module _ (files : List (NamedFile R)) where
     -- at first all are left
     pub all_left : (left : List (NamedFile R)) → files ≡ left → AreLeft remaining files left []
-    all_left left same = ([], same, All-nil (λ file. IsOk file.opened), none_read)
+    all_left left same = ([], same, All-nil (λ file. IsOk file.opened), none_read, refl)
 
     -- of the files left one less is left
     pub one_less : (left : List (NamedFile R)) (file : NamedFile R) (readers : List (PartReader R)) (reader : PartReader R) → AreLeft remaining files (file ∷ left) readers → IsOk file.opened
@@ -80,6 +80,7 @@ module _ {R : Type 0} (remaining : R → Option (List ℕ)) where
       are.1 ∙ sym (append_assoc are.0 (file ∷ []) left),
       All-push (λ f. IsOk f.opened) are.0 file are.2 opened,
       read_append are.0 (file ∷ []) readers (reader ∷ []) are.3 (one_read file reader read),
+      length-append readers (reader ∷ []) ∙ ap (λ (n : ℕ). n + 1) are.4 ∙ sym (length-append are.0 (file ∷ [])),
     )
 
     -- once none is left all were opened
@@ -89,6 +90,10 @@ module _ {R : Type 0} (remaining : R → Option (List ℕ)) where
     -- and these are the readers of all
     pub all_read : (left : List (NamedFile R)) (readers : List (PartReader R)) → left ≡ [] → AreLeft remaining files left readers → AreReadersOf remaining files readers
     all_read left readers none are = subst (λ xs. AreReadersOf remaining xs readers) (sym (are.1 ∙ ap (λ xs. are.0 ++ xs) none ∙ append-nil are.0)) are.3
+
+    -- as many
+    pub all_many : (left : List (NamedFile R)) (readers : List (PartReader R)) → left ≡ [] → AreLeft remaining files left readers → length readers ≡ length files
+    all_many left readers none are = are.4 ∙ ap length (sym (are.1 ∙ ap (λ xs. are.0 ++ xs) none ∙ append-nil are.0))
 
     -- the first one that is left can't be opened
     pub unopened : (left : List (NamedFile R)) (file : NamedFile R) (readers : List (PartReader R)) (f : CollapseFault) → AreLeft remaining files (file ∷ left) readers → (why : Refusal) × (f ≡ fault.Unopened file.name why) × (file.opened ≡ Err why)

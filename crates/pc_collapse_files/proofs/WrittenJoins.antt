@@ -22,7 +22,7 @@ use Rattle.pc_streams.specs.declared.reader.PartReader.{PartReader}
 use Rattle.pc_streams.specs.Coming.{part_coming, part_header}
 use Rattle.pc_streams.specs.Readers.{coming_of, header_of}
 use Rattle.pc_stream_join.specs.Headers.{AreHeaded}
-use Rattle.pc_stream_join.specs.Joining.{IsUnjoinedFor, file_of}
+use Rattle.pc_stream_join.specs.Joining.{IsJoinRefusal, IsUnjoinedFor, file_of}
 use Rattle.pc_texts.specs.declared.files.NamedFile.{NamedFile}
 use Rattle.pc_collapse_files.specs.declared.inputs.CollapseFault.{CollapseFault}
 use Rattle.pc_collapse_files.specs.declared.inputs.CollapseFault.TheVariants as fault
@@ -105,9 +105,9 @@ module _ {R : Type 0} (remaining : R → Option (List ℕ)) (files : List (Named
 
 -- what a file that was begun is left with
 pub unwritten : {R F : Type 0} (remaining : R → Option (List ℕ)) (contents : F → Option (List ℕ)) (files : List (NamedFile R)) (inputs : List (PartReader R)) (Refuses : Refusal → Type 0) (file : Tally F) (why : Refusal) (f : CollapseFault)
-    → HaveHeader remaining files → AreUnjoined remaining files why → (nat_lt 0 (failures_of file) ≡ false → TellsReads inputs why) → IsShortIn contents file → IsFaultOf file why f → IsUnwritten remaining contents files inputs Refuses (Some file) f
-unwritten remaining contents files inputs Refuses file why f have cause tells short is = by (nat_lt 0 (failures_of file)) refl is
+    → HaveHeader remaining files → AreUnjoined remaining files why → (nat_lt 0 (failures_of file) ≡ false → TellsReads inputs why) → IsJoinRefusal why → IsShortIn contents file → IsFaultOf file why f → IsUnwritten remaining contents files inputs Refuses (Some file) f
+unwritten remaining contents files inputs Refuses file why f have cause tells refusal short is = by (nat_lt 0 (failures_of file)) refl is
   where
     by : (t : Bool) → nat_lt 0 (failures_of file) ≡ t → MatchBool t (f ≡ fault.Unwritten) (f ≡ fault.Unjoined why) → IsUnwritten remaining contents files inputs Refuses (Some file) f
     by true above same = subst (IsUnwritten remaining contents files inputs Refuses (Some file)) (sym same) (have, (ltb-true 0 (failures_of file) above, short))
-    by false none same = subst (IsUnwritten remaining contents files inputs Refuses (Some file)) (sym same) (have, cause, tells none, short)
+    by false none same = subst (IsUnwritten remaining contents files inputs Refuses (Some file)) (sym same) (have, cause, tells none, refusal, short)

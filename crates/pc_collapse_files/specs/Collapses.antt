@@ -4,7 +4,7 @@ use Rattle.std.specs.Io.KnownBytes.{Appends}
 use Rattle.std.specs.List.{list_any}
 use Rattle.std.specs.Str.{bytes_eq}
 use Rattle.pc_types.specs.declared.refusal.Refusal.{Refusal}
-use Rattle.pc_types.specs.declared.refusal.Refusal.TheVariants.{OutOfMemory, Device, Short}
+use Rattle.pc_types.specs.declared.refusal.Refusal.TheVariants.{OutOfMemory, Device, NoFile, OtherRun, Short}
 use Rattle.pc_types.specs.declared.tally.Tally.{Tally}
 use Rattle.pc_types.specs.Counted.{HasRisen, AppendsBeginning}
 use Rattle.pc_types.specs.Fields.{◌>>=◌}
@@ -16,9 +16,10 @@ use Rattle.pc_part.specs.Reading.{part_at}
 use Rattle.pc_part.specs.Texts.{part_text}
 use Rattle.pc_merge.specs.Folds.{Folds}
 use Rattle.pc_streams.specs.Coming.{part_coming, part_header}
-use Rattle.pc_stream_join.specs.Headers.{all_headers, headers_fault}
+use Rattle.pc_streams.specs.Refusals.{IsReadRefusal}
+use Rattle.pc_stream_join.specs.Headers.{HaveTwoRuns, all_headers, headers_fault}
 use Rattle.pc_streams.specs.declared.reader.PartReader.{PartReader}
-use Rattle.pc_stream_join.specs.Joining.{IsJoinCause}
+use Rattle.pc_stream_join.specs.Joining.{IsJoinCause, IsJoinRefusal}
 use Rattle.pc_texts.specs.Texts.{joined_line}
 use Rattle.pc_texts.specs.declared.files.NamedFile.{NamedFile}
 use Rattle.pc_texts.specs.Files.{TellsOf, AreOpened, HoldsBytes, line_about}
@@ -77,6 +78,11 @@ abbrev pub HaveNoHeader : {R : Type 0} → (R → Option (List ℕ)) → List (N
 HaveNoHeader remaining files why =
     AreOpened files × ((why ≡ OutOfMemory) ⊎ (why ≡ Device) ⊎ ((texts : List (List ℕ)) → HoldTexts remaining files texts → texts_fault texts ≡ Some why))
 
+-- What may be refused of files that have no header together, whether their bytes are known or not: NoFile where there are none,
+-- OtherRun where all headers were read and two are of different runs, and what a reader refuses.
+abbrev pub IsHeadRefusal : {R : Type 0} → (R → Option (List ℕ)) → List (NamedFile R) → List (PartReader R) → Refusal → Type 0
+IsHeadRefusal remaining files inputs why = ((why ≡ NoFile) × (files ≡ [])) ⊎ ((why ≡ OtherRun) × HaveTwoRuns remaining inputs) ⊎ IsReadRefusal why
+
 -- files that were opened have a header together
 abbrev pub HaveHeader : {R : Type 0} → (R → Option (List ℕ)) → List (NamedFile R) → Type 0
 HaveHeader remaining files = AreOpened files × ((texts : List (List ℕ)) → HoldTexts remaining files texts → texts_fault texts ≡ None)
@@ -87,12 +93,12 @@ AreUnjoined remaining files why = (texts : List (List ℕ)) → HoldTexts remain
 
 -- Why a collapse failed: a file can't be opened; the files have no header together; or they have one, and what is to be made of it can't
 -- be made, joined, written or told of. Device is told of the inputs exactly where a read of theirs failed, and what the maker refused is
--- told of it.
+-- told of it. What is refused of the files is one of what readers and joins refuse, whether their bytes are known or not.
 abbrev pub IsCollapseCause : {R : Type 0} → (R → Option (List ℕ)) → List (NamedFile R) → List (PartReader R) → (Refusal → Type 0) → CollapseFault → Type 0
 IsCollapseCause {R} remaining files inputs Refuses (fault.Unopened name why) = (file : NamedFile R) × IsFirstUnopened files file why × (name ≡ file.name)
-IsCollapseCause remaining files inputs Refuses (fault.Refused why) = ((why ≡ OutOfMemory) ⊎ HaveNoHeader remaining files why) × TellsReads inputs why
+IsCollapseCause remaining files inputs Refuses (fault.Refused why) = ((why ≡ OutOfMemory) ⊎ HaveNoHeader remaining files why) × TellsReads inputs why × IsHeadRefusal remaining files inputs why
 IsCollapseCause remaining files inputs Refuses (fault.Unmade why) = HaveHeader remaining files × Refuses why
-IsCollapseCause remaining files inputs Refuses (fault.Unjoined why) = HaveHeader remaining files × AreUnjoined remaining files why × TellsReads inputs why
+IsCollapseCause remaining files inputs Refuses (fault.Unjoined why) = HaveHeader remaining files × AreUnjoined remaining files why × TellsReads inputs why × IsJoinRefusal why
 IsCollapseCause remaining files inputs Refuses (fault.Unnamed why) = AreOpened files × ((file : File) × IsJoinOf remaining files file) × Refuses why
 IsCollapseCause remaining files inputs Refuses fault.Output = AreOpened files × ((file : File) × IsJoinOf remaining files file)
 IsCollapseCause remaining files inputs Refuses fault.Unwritten = HaveHeader remaining files

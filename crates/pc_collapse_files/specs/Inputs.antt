@@ -13,6 +13,7 @@ use Rattle.pc_streams.specs.declared.reader.PartReader.{PartReader}
 use Rattle.pc_streams.specs.Coming.{part_coming, part_header}
 use Rattle.pc_streams.specs.Readers.{coming_of, header_of}
 use Rattle.pc_stream_join.specs.Headers.{AreHeaded}
+use Rattle.pc_stream_join.specs.Joining.{IsJoinRefusal}
 use Rattle.pc_texts.specs.declared.files.NamedFile.{NamedFile}
 use Rattle.pc_texts.specs.Files.{AreOpened, HoldsBytes}
 use Rattle.pc_collapse_files.specs.declared.inputs.CollapseFault.{CollapseFault}
@@ -20,7 +21,7 @@ use Rattle.pc_collapse_files.specs.declared.inputs.CollapseFault.TheVariants as 
 use Rattle.pc_collapse_files.specs.declared.inputs.OpenedInputs.{OpenedInputs}
 use Rattle.pc_collapse_files.specs.declared.output.WrittenFile.{WrittenFile}
 use Rattle.pc_collapse_files.specs.Reads.{AreSound, TellsReads}
-use Rattle.pc_collapse_files.specs.Collapses.{AreUnjoined, HasFailed, HaveHeader, HaveNoHeader, HoldTexts, IsFirstUnopened, IsJoinOf, IsShortIn, IsWholeIn}
+use Rattle.pc_collapse_files.specs.Collapses.{AreUnjoined, HasFailed, HaveHeader, HaveNoHeader, HoldTexts, IsFirstUnopened, IsHeadRefusal, IsJoinOf, IsShortIn, IsWholeIn}
 
 -- a reader has the header of the file's text, and all that is to come of it, where the bytes are known
 abbrev pub IsReaderOf : {R : Type 0} → (R → Option (List ℕ)) → NamedFile R → PartReader R → Type 0
@@ -36,7 +37,7 @@ AreReadersOf remaining files readers =
 -- no file is made: one can't be opened, memory ran out, or the files have no header together
 abbrev pub IsHeadFault : {R : Type 0} → (R → Option (List ℕ)) → List (NamedFile R) → List (PartReader R) → CollapseFault → Type 0
 IsHeadFault {R} remaining files inputs (fault.Unopened name why) = (file : NamedFile R) × IsFirstUnopened files file why × (name ≡ file.name)
-IsHeadFault remaining files inputs (fault.Refused why) = ((why ≡ OutOfMemory) ⊎ HaveNoHeader remaining files why) × TellsReads inputs why
+IsHeadFault remaining files inputs (fault.Refused why) = ((why ≡ OutOfMemory) ⊎ HaveNoHeader remaining files why) × TellsReads inputs why × IsHeadRefusal remaining files inputs why
 IsHeadFault remaining files inputs other = ⊥
 
 -- The files were opened, and their headers read: this is the header of their join, and these its points.
@@ -59,7 +60,7 @@ pub record IsWrittenOf {R F : Type 0} (remaining : R → Option (List ℕ)) (con
 -- the join wasn't written: no file was made, or one that is read as Short, and that has failed where its device did
 abbrev pub IsUnwritten : {R F : Type 0} → (R → Option (List ℕ)) → (F → Option (List ℕ)) → List (NamedFile R) → List (PartReader R) → (Refusal → Type 0) → Option (Tally F) → CollapseFault → Type 0
 IsUnwritten remaining contents files inputs Refuses made (fault.Unmade why) = HaveHeader remaining files × Refuses why × (made ≡ None)
-IsUnwritten remaining contents files inputs Refuses made (fault.Unjoined why) = HaveHeader remaining files × AreUnjoined remaining files why × TellsReads inputs why × MatchOption made ⊥ (IsShortIn contents)
+IsUnwritten remaining contents files inputs Refuses made (fault.Unjoined why) = HaveHeader remaining files × AreUnjoined remaining files why × TellsReads inputs why × IsJoinRefusal why × MatchOption made ⊥ (IsShortIn contents)
 IsUnwritten remaining contents files inputs Refuses made fault.Unwritten = HaveHeader remaining files × MatchOption made ⊥ (λ f. HasFailed f × IsShortIn contents f)
 IsUnwritten remaining contents files inputs Refuses made other = ⊥
 

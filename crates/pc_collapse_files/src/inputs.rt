@@ -1,11 +1,11 @@
 //! The part files of a collapse, as readers of their parts.
-ghost use Rattle.std.specs.Prelude.{◌≡◌, ◌++◌, ◌∷◌, [], IsOk, IfOk, IfErr, OnOk, map};
+ghost use Rattle.std.specs.Prelude.{◌≡◌, ◌++◌, ◌∷◌, [], IsOk, IfOk, IfErr, OnOk, length, map};
 ghost use Rattle.pc_types.specs.declared.refusal.Refusal.{Refusal};
 ghost use Rattle.pc_model.specs.Sets as set;
 ghost use Rattle.pc_part.specs.Parts.{points_of};
 ghost use Rattle.pc_merge.specs.Standings.{AllStand};
 ghost use Rattle.pc_streams.specs.Readers.{header_of, standing_of};
-ghost use Rattle.pc_stream_join.specs.Headers.{AreHeaded, IsHeadersFault, StayKnown};
+ghost use Rattle.pc_stream_join.specs.Headers.{AreHeaded, IsHeadersFault, IsHeadersRefusal, StayKnown};
 ghost use Rattle.pc_texts.specs.Files.{AreOpened};
 ghost use Rattle.pc_collapse_files.specs.Collapses.{IsFirstUnopened, is_one_of};
 ghost use Rattle.pc_collapse_files.specs.Reads.{AreSound, sound};
@@ -99,6 +99,8 @@ fn join_headers<R: Read>(
     ensures points { IfOk result (λ joined. joined.1 ≡ set.items (points_of joined.0.ranges.items)) }
     ensures stays { OnOk result (StayKnown R.remaining readers.old readers.new) }
     ensures cause { IfErr result (IsHeadersFault (map (header_of R.remaining) readers.old)) }
+    ensures refusals { IfErr result (IsHeadersRefusal R.remaining readers.old readers.new) }
+    ensures many { length readers.new ≡ length readers.old }
     ensures stand { AllStand (map standing_of readers.old) (map standing_of readers.new) result }
 {
     let header = read_headers(alloc, readers)?;
@@ -113,6 +115,7 @@ fn readers_of<R: Read + Drop>(
 ) -> Result<Vec<PartReader<R>>, CollapseFault>
     ensures opened { OnOk result (AreOpened files.items) }
     ensures readers { IfOk result (λ readers. AreReadersOf R.remaining files.items readers.items) }
+    ensures many { IfOk result (λ readers. length readers.items ≡ length files.items) }
     ensures sound { IfOk result (λ readers. AreSound readers.items) }
     ensures cause { IfErr result (IsHeadFault R.remaining files.items []) }
 {

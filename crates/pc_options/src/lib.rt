@@ -4,6 +4,7 @@
 mod looking;
 mod moving;
 mod options;
+mod said;
 
 pub use looking::{LogOptions, VerifyOptions};
 pub use moving::{DumpOptions, LoadOptions};

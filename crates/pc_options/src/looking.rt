@@ -1,7 +1,7 @@
 //! The commands that look into files.
-use crate::options::{FAULTS, explain_arg};
-use clap::builder::ValueParser;
-use clap::{Arg, ArgAction, ArgMatches, Command, Error};
+use crate::options::explain_option;
+use crate::said::{Said, command_of};
+use clap::{ArgMatches, Command, Error};
 use std::alloc::{AllocError, Global};
 
 /// What `pcalc log` is asked to do.
@@ -19,31 +19,15 @@ pub struct LogOptions<'a> {
 
 /// What is said of `pcalc log` in a command line.
 pub(crate) fn log_command<'a>(alloc: Global) -> Result<Command<'a>, Error> {
-    let file = Arg::new(alloc, "FILE")
-        .help("The log's file")
-        .value_parser(ValueParser::NonEmptyString)
-        .required(true)
-        .action(ArgAction::Set);
     let low = "The number of the first entry that is printed, 1 to 16777216";
     let high = "The number of the last entry that is printed, 1 to 16777216";
-    Ok(
-        Command::new(alloc, "log")
-            .about("Prints the entries of a log")
-            .after_help(FAULTS)
-            .arg(file)?
-            .arg(entry_arg(alloc, "from", low, "1"))?
-            .arg(entry_arg(alloc, "to", high, "16777216"))?
-            .arg(explain_arg(alloc))?,
-    )
-}
-
-fn entry_arg<'a>(alloc: Global, name: &'a str, help: &'a str, default: &'a str) -> Arg<'a> {
-    Arg::new(alloc, name)
-        .long(name)
-        .value_name("N")
-        .help(help)
-        .value_parser(clap::value_parser!(u32).range(1..=16_777_216))
-        .default_value(default)
+    let said = [
+        Said::word("FILE", "The log's file"),
+        Said::number("from", "N", 1, 16_777_216, low).or("1"),
+        Said::number("to", "N", 1, 16_777_216, high).or("16777216"),
+        explain_option(),
+    ];
+    command_of(alloc, "log", "Prints the entries of a log", &said)
 }
 
 /// What the words of `pcalc log` ask for.
@@ -67,18 +51,18 @@ pub struct VerifyOptions<'a> {
 
 /// What is said of `pcalc verify` in a command line.
 pub(crate) fn verify_command<'a>(alloc: Global) -> Result<Command<'a>, Error> {
-    let path = Arg::new(alloc, "PATH")
-        .help("Files of stores, and folders of runs or of served stores")
-        .value_parser(ValueParser::NonEmptyString)
-        .required(true)
-        .num_args(1..)
-        .action(ArgAction::Append);
-    Ok(
-        Command::new(alloc, "verify")
-            .about("Tells of each file whether it is whole")
-            .after_help(FAULTS)
-            .arg(path)?
-            .arg(explain_arg(alloc))?,
+    let said = [
+        Said::words(
+            "PATH",
+            "Files of stores, and folders of runs or of served stores",
+        ),
+        explain_option(),
+    ];
+    command_of(
+        alloc,
+        "verify",
+        "Tells of each file whether it is whole",
+        &said,
     )
 }
 

@@ -10,19 +10,16 @@ use crate::looking::{
 use crate::moving::{
     DumpOptions, LoadOptions, dump_command, dump_options_of, load_command, load_options_of,
 };
-use clap::builder::ValueParser;
+use crate::said::{Said, command_of};
 use clap::error::ErrorKind;
-use clap::{Arg, ArgAction, ArgMatches, Command, Error};
+use clap::{ArgMatches, Command, Error};
 use pc_collapse::MOST_COLLAPSERS;
 use pc_jobs::MOST_WORKERS;
 use pc_types::{MOST_KEYS, MOST_SESSIONS};
 use std::alloc::{AllocError, Global};
 
-/// Where the help of each command points to.
-pub(crate) const FAULTS: &str = "What each fault means: docs/MANUAL.md";
-
 /// What `pcalc --version` prints behind the program's name.
-const VERSION: &str = "0.1.0, formats 01 and 02";
+const VERSION: &str = "1.0.0, formats 01 and 02";
 
 /// What `pcalc step` is asked to do.
 #[derive(Drop)]
@@ -197,350 +194,226 @@ pub fn unreadable(alloc: Global) -> Result<Error, Error> {
 }
 
 fn command<'a>(alloc: Global) -> Result<Command<'a>, Error> {
-    Ok(
-        Command::new(alloc, "pcalc")
-            .about("A transactional key-value store in memory")
-            .version(VERSION)
-            .subcommand_required(true)
-            .subcommand(step_command(alloc)?)?
-            .subcommand(run_command(alloc)?)?
-            .subcommand(collapse_command(alloc)?)?
-            .subcommand(recover_command(alloc)?)?
-            .subcommand(log_command(alloc)?)?
-            .subcommand(verify_command(alloc)?)?
-            .subcommand(dump_command(alloc)?)?
-            .subcommand(load_command(alloc)?)?
-            .subcommand(serve_command(alloc)?)?,
-    )
+    let command = Command::new(alloc, "pcalc")
+        .about("A transactional key-value store in memory")
+        .version(VERSION)
+        .subcommand_required(true);
+    let command = with_command(command, step_command(alloc)?)?;
+    let command = with_command(command, run_command(alloc)?)?;
+    let command = with_command(command, collapse_command(alloc)?)?;
+    let command = with_command(command, recover_command(alloc)?)?;
+    let command = with_command(command, log_command(alloc)?)?;
+    let command = with_command(command, verify_command(alloc)?)?;
+    let command = with_command(command, dump_command(alloc)?)?;
+    let command = with_command(command, load_command(alloc)?)?;
+    with_command(command, serve_command(alloc)?)
 }
 
-fn step_command<'a>(alloc: Global) -> Result<Command<'a>, Error> {
-    Ok(
-        Command::new(alloc, "step")
-            .about("Answers the lines of a script")
-            .after_help(FAULTS)
-            .arg(script_arg(alloc))?
-            .arg(sessions_arg(alloc, "8"))?
-            .arg(capacity_arg(alloc, "1024"))?
-            .arg(run_arg(alloc))?
-            .arg(explain_arg(alloc))?,
-    )
+fn with_command<'a>(command: Command<'a>, inner: Command<'a>) -> Result<Command<'a>, Error> {
+    Ok(command.subcommand(inner)?)
 }
 
 /// The option that has faults explained.
-pub(crate) fn explain_arg<'a>(alloc: Global) -> Arg<'a> {
-    Arg::new(alloc, "explain")
-        .long("explain")
-        .help(
-            "Says behind each fault what it is about, as it does where standard error is a terminal",
-        )
-        .action(ArgAction::SetTrue)
-}
-
-fn script_arg<'a>(alloc: Global) -> Arg<'a> {
-    Arg::new(alloc, "SCRIPT")
-        .help("The script's file")
-        .required(true)
-        .action(ArgAction::Set)
-}
-
-fn sessions_arg<'a>(alloc: Global, default: &'a str) -> Arg<'a> {
-    Arg::new(alloc, "sessions")
-        .long("sessions")
-        .value_name("N")
-        .help("How many sessions the store has, 1 to 64")
-        .value_parser(clap::value_parser!(u8).range(1..=i64::from(MOST_SESSIONS)))
-        .default_value(default)
-}
-
-fn capacity_arg<'a>(alloc: Global, default: &'a str) -> Arg<'a> {
-    Arg::new(alloc, "capacity")
-        .long("capacity")
-        .value_name("N")
-        .help("How many keys the store has room for, 1 to 1048576")
-        .value_parser(clap::value_parser!(u32).range(1..=i64::from(MOST_KEYS)))
-        .default_value(default)
+pub(crate) fn explain_option() -> Said {
+    Said::flag(
+        "explain",
+        "Says behind each fault what it is about, as it does where standard error is a terminal",
+    )
 }
 
 /// The option of a run's number.
-pub(crate) fn run_arg<'a>(alloc: Global) -> Arg<'a> {
-    Arg::new(alloc, "run")
-        .long("run")
-        .value_name("N")
-        .help("The run's number, 1 to 2147483647")
-        .value_parser(clap::value_parser!(u32).range(1..=2_147_483_647))
-        .default_value("1")
+pub(crate) fn run_option() -> Said {
+    let help = "The run's number, 1 to 2147483647";
+    Said::number("run", "N", 1, 2_147_483_647, help).or("1")
+}
+
+fn sessions_option(default: &'static str) -> Said {
+    let help = "How many sessions the store has, 1 to 64";
+    Said::number("sessions", "N", 1, i64::from(MOST_SESSIONS), help).or(default)
+}
+
+fn capacity_option(default: &'static str) -> Said {
+    let help = "How many keys the store has room for, 1 to 1048576";
+    Said::number("capacity", "N", 1, i64::from(MOST_KEYS), help).or(default)
+}
+
+fn lag_option(help: &'static str, default: &'static str) -> Said {
+    Said::number("lag", "N", 0, 16_777_216, help).or(default)
+}
+
+fn step_command<'a>(alloc: Global) -> Result<Command<'a>, Error> {
+    let said = [
+        Said::text("SCRIPT", "The script's file"),
+        sessions_option("8"),
+        capacity_option("1024"),
+        run_option(),
+        explain_option(),
+    ];
+    command_of(alloc, "step", "Answers the lines of a script", &said)
 }
 
 fn run_command<'a>(alloc: Global) -> Result<Command<'a>, Error> {
-    let workload = Arg::new(alloc, "WORKLOAD")
-        .help("The workload's file")
-        .required(true)
-        .action(ArgAction::Set);
-    let command = Command::new(alloc, "run")
-        .about("Runs clients on threads beside a checkpointer and collapsers")
-        .after_help(FAULTS)
-        .arg(workload)?
-        .arg(workers_arg(alloc))?
-        .arg(collapsers_arg(alloc))?
-        .arg(every_arg(alloc))?
-        .arg(capacity_arg(alloc, "65536"))?
-        .arg(run_arg(alloc))?
-        .arg(from_arg(alloc)?)?
-        .arg(damaged_arg(alloc)?)?
-        .arg(explain_arg(alloc))?;
-    Ok(telling_args(alloc, file_args(alloc, command)?)?)
+    let about = "Runs clients on threads beside a checkpointer and collapsers";
+    let [workers, collapsers] = threads_options();
+    let [every, from, damaged] = start_options();
+    let [dir, lag, sync] = file_options();
+    let [quiet, report, times] = telling_options();
+    let said = [
+        Said::text("WORKLOAD", "The workload's file"),
+        workers,
+        collapsers,
+        every,
+        capacity_option("65536"),
+        run_option(),
+        from,
+        damaged,
+        explain_option(),
+        dir,
+        lag,
+        sync,
+        quiet,
+        report,
+        times,
+    ];
+    command_of(alloc, "run", about, &said)
 }
 
-// What is said of the files that a run leaves.
-fn file_args<'a>(alloc: Global, command: Command<'a>) -> Result<Command<'a>, Error> {
-    let folder = Arg::new(alloc, "dir")
-        .long("dir")
-        .value_name("DIR")
-        .help(
-            "A folder without such files, to which base.pcb, the points' part files and log.pcl are written",
-        )
-        .value_parser(ValueParser::NonEmptyString)
-        .action(ArgAction::Set);
-    let help =
+fn threads_options() -> [Said; 2] {
+    let workers = "To how many threads the clients are dealt, 1 to 64";
+    let collapsers = "How many threads join the points' files, 1 to 64";
+    [
+        Said::number("workers", "N", 1, i64::from(MOST_WORKERS), workers).or("4"),
+        Said::number("collapsers", "N", 1, i64::from(MOST_COLLAPSERS), collapsers).or("2"),
+    ]
+}
+
+// Of when points begin, and what a run starts from.
+fn start_options() -> [Said; 3] {
+    let every =
+        "After how many commits a further point begins, 1 to 1000000000; else the points are spread over the run";
+    let from =
+        "A folder of an earlier run: the store starts from its state, as the run of the next number";
+    let damaged =
+        "Starts from OLD also where a part of it was skipped, or its log is missing or damaged";
+    [
+        Said::number("every", "COMMITS", 1, 1_000_000_000, every),
+        Said::value("from", "OLD", from).excludes("run"),
+        Said::flag("damaged", damaged).needs("from"),
+    ]
+}
+
+// Of the files that a run leaves.
+fn file_options() -> [Said; 3] {
+    let dir =
+        "A folder without such files, to which base.pcb, the points' part files and log.pcl are written";
+    let lag =
         "How many entries of the log may wait to be written before the clients wait, 0 to 16777216";
-    let lag = lag_arg(alloc, help, "65536").requires_arg("dir")?;
-    let help = "Counts what was written to a file only once it is on the disk";
-    let sync = sync_arg(alloc, help).requires_arg("dir")?;
-    Ok(command.arg(folder)?.arg(lag)?.arg(sync)?)
+    let sync = "Counts what was written to a file only once it is on the disk";
+    [
+        Said::value("dir", "DIR", dir),
+        lag_option(lag, "65536").needs("dir"),
+        Said::flag("sync", sync).needs("dir"),
+    ]
 }
 
-fn lag_arg<'a>(alloc: Global, help: &'a str, default: &'a str) -> Arg<'a> {
-    Arg::new(alloc, "lag")
-        .long("lag")
-        .value_name("N")
-        .help(help)
-        .value_parser(clap::value_parser!(u32).range(0..=16_777_216))
-        .default_value(default)
-}
-
-fn sync_arg<'a>(alloc: Global, help: &'a str) -> Arg<'a> {
-    Arg::new(alloc, "sync")
-        .long("sync")
-        .help(help)
-        .action(ArgAction::SetTrue)
-}
-
-// What is said of what a run shows and tells.
-fn telling_args<'a>(alloc: Global, command: Command<'a>) -> Result<Command<'a>, Error> {
-    let quiet = Arg::new(alloc, "quiet")
-        .long("quiet")
-        .help("Shows nothing on a terminal while it runs")
-        .action(ArgAction::SetTrue);
-    let report = Arg::new(alloc, "report")
-        .long("report")
-        .help(
-            "Prints also how fast it was, how many transactions died, and the longest wait and pause",
-        )
-        .action(ArgAction::SetTrue);
-    let times = Arg::new(alloc, "times")
-        .long("times")
-        .value_name("FILE")
-        .help("A file to which the commits in each hundredth of a second are written")
-        .value_parser(ValueParser::NonEmptyString)
-        .action(ArgAction::Set);
-    Ok(command.arg(quiet)?.arg(report)?.arg(times)?)
-}
-
-fn every_arg<'a>(alloc: Global) -> Arg<'a> {
-    Arg::new(alloc, "every")
-        .long("every")
-        .value_name("COMMITS")
-        .help(
-            "After how many commits a further point begins, 1 to 1000000000; else the points are spread over the run",
-        )
-        .value_parser(clap::value_parser!(u32).range(1..=1_000_000_000))
-        .action(ArgAction::Set)
-}
-
-fn from_arg<'a>(alloc: Global) -> Result<Arg<'a>, AllocError> {
-    Arg::new(alloc, "from")
-        .long("from")
-        .value_name("OLD")
-        .help(
-            "A folder of an earlier run: the store starts from its state, as the run of the next number",
-        )
-        .value_parser(ValueParser::NonEmptyString)
-        .action(ArgAction::Set)
-        .conflicts_with("run")
-}
-
-fn damaged_arg<'a>(alloc: Global) -> Result<Arg<'a>, AllocError> {
-    Arg::new(alloc, "damaged")
-        .long("damaged")
-        .help(
-            "Starts from OLD also where a part of it was skipped, or its log is missing or damaged",
-        )
-        .action(ArgAction::SetTrue)
-        .requires_arg("from")
-}
-
-fn workers_arg<'a>(alloc: Global) -> Arg<'a> {
-    Arg::new(alloc, "workers")
-        .long("workers")
-        .value_name("N")
-        .help("To how many threads the clients are dealt, 1 to 64")
-        .value_parser(clap::value_parser!(u8).range(1..=i64::from(MOST_WORKERS)))
-        .default_value("4")
+// Of what a run shows and tells.
+fn telling_options() -> [Said; 3] {
+    let quiet = "Shows nothing on a terminal while it runs";
+    let report =
+        "Prints also how fast it was, how many transactions died, and the longest wait and pause";
+    let times = "A file to which the commits in each hundredth of a second are written";
+    [
+        Said::flag("quiet", quiet),
+        Said::flag("report", report),
+        Said::value("times", "FILE", times),
+    ]
 }
 
 fn collapse_command<'a>(alloc: Global) -> Result<Command<'a>, Error> {
-    Ok(
-        Command::new(alloc, "collapse")
-            .about("Joins part files into one")
-            .after_help(FAULTS)
-            .arg(target_arg(alloc))?
-            .arg(inputs_arg(alloc))?
-            .arg(explain_arg(alloc))?,
-    )
-}
-
-fn target_arg<'a>(alloc: Global) -> Arg<'a> {
-    Arg::new(alloc, "OUT")
-        .help("The file that is written")
-        .required(true)
-        .action(ArgAction::Set)
-}
-
-fn inputs_arg<'a>(alloc: Global) -> Arg<'a> {
-    Arg::new(alloc, "IN")
-        .help("The part files that are joined")
-        .required(true)
-        .num_args(1..)
-        .action(ArgAction::Append)
-}
-
-fn collapsers_arg<'a>(alloc: Global) -> Arg<'a> {
-    Arg::new(alloc, "collapsers")
-        .long("collapsers")
-        .value_name("N")
-        .help("How many threads join the points' files, 1 to 64")
-        .value_parser(clap::value_parser!(u8).range(1..=i64::from(MOST_COLLAPSERS)))
-        .default_value("2")
+    let said = [
+        Said::text("OUT", "The file that is written"),
+        Said::texts("IN", "The part files that are joined"),
+        explain_option(),
+    ];
+    command_of(alloc, "collapse", "Joins part files into one", &said)
 }
 
 fn recover_command<'a>(alloc: Global) -> Result<Command<'a>, Error> {
-    let dir = Arg::new(alloc, "DIR")
-        .help("The folder of base.pcb, the .pcp files and log.pcl, or of a served store")
-        .value_parser(ValueParser::NonEmptyString)
-        .required(true)
-        .action(ArgAction::Set);
-    Ok(
-        Command::new(alloc, "recover")
-            .about("Prints the state that a folder's files are worth")
-            .after_help(FAULTS)
-            .arg(dir)?
-            .arg(strict_arg(alloc))?
-            .arg(explain_arg(alloc))?,
+    let strict = "Ends with the status 4 where the folder lacks something: a part, or a whole log";
+    let said = [
+        recovered_folder(),
+        Said::flag("strict", strict),
+        explain_option(),
+    ];
+    command_of(
+        alloc,
+        "recover",
+        "Prints the state that a folder's files are worth",
+        &said,
     )
+}
+
+/// The folder that is recovered.
+pub(crate) fn recovered_folder() -> Said {
+    let help = "The folder of base.pcb, the .pcp files and log.pcl, or of a served store";
+    Said::word("DIR", help)
 }
 
 fn serve_command<'a>(alloc: Global) -> Result<Command<'a>, Error> {
-    let dir = Arg::new(alloc, "DIR")
-        .help("The folder of the store")
-        .value_parser(ValueParser::NonEmptyString)
-        .required(true)
-        .action(ArgAction::Set);
     let lag = "How many entries of the log may be answered and not written, 0 to 16777216";
-    let sync = "Answers commits only once they are on the disk";
-    Ok(
-        Command::new(alloc, "serve")
-            .about("Answers lines over the store of a folder")
-            .after_help(FAULTS)
-            .arg(dir)?
-            .arg(create_arg(alloc))?
-            .arg(first_run_arg(alloc)?)?
-            .arg(import_arg(alloc)?)?
-            .arg(sessions_arg(alloc, "64"))?
-            .arg(capacity_arg(alloc, "1048576"))?
-            .arg(every_commits_arg(alloc))?
-            .arg(roll_arg(alloc))?
-            .arg(keep_arg(alloc))?
-            .arg(lag_arg(alloc, lag, "0"))?
-            .arg(sync_arg(alloc, sync))?
-            .arg(stored_damage_arg(alloc))?
-            .arg(explain_arg(alloc))?,
+    let damaged =
+        "Goes on also where the log of what it starts from is missing or damaged, or a part of it was skipped";
+    let [create, run, import] = making_options();
+    let [every, roll, keep] = generation_options();
+    let said = [
+        Said::word("DIR", "The folder of the store"),
+        create,
+        run,
+        import,
+        sessions_option("64"),
+        capacity_option("1048576"),
+        every,
+        roll,
+        keep,
+        lag_option(lag, "0"),
+        Said::flag("sync", "Answers commits only once they are on the disk"),
+        Said::flag("damaged", damaged),
+        explain_option(),
+    ];
+    command_of(
+        alloc,
+        "serve",
+        "Answers lines over the store of a folder",
+        &said,
     )
 }
 
-fn every_commits_arg<'a>(alloc: Global) -> Arg<'a> {
-    Arg::new(alloc, "every")
-        .long("every")
-        .value_name("COMMITS")
-        .help("A point is taken after this many commits; none is with 0")
-        .value_parser(clap::value_parser!(u32))
-        .default_value("0")
+// Of a store that is made where there is none.
+fn making_options() -> [Said; 3] {
+    let create = "Makes the folder and a store in it, where there is none";
+    let run =
+        "The number of the first run of a store that is made, 1 to 2147483647; else it is drawn at random";
+    let import =
+        "A folder of a run or of a served store: the store that is made starts from its state, as the run of the next number";
+    [
+        Said::flag("create", create),
+        Said::number("run", "N", 1, 2_147_483_647, run).needs("create"),
+        Said::value("import", "OLD", import)
+            .needs("create")
+            .excludes("run"),
+    ]
 }
 
-fn roll_arg<'a>(alloc: Global) -> Arg<'a> {
-    Arg::new(alloc, "roll")
-        .long("roll")
-        .value_name("ENTRIES")
-        .help("A new generation begins once the log has this many entries, 1 to 16777216")
-        .value_parser(clap::value_parser!(u32).range(1..=16_777_216))
-        .default_value("1000000")
-}
-
-fn keep_arg<'a>(alloc: Global) -> Arg<'a> {
-    Arg::new(alloc, "keep")
-        .long("keep")
-        .value_name("N")
-        .help("How many generations before the one that counts are kept, 1 to 9999999")
-        .value_parser(clap::value_parser!(u32).range(1..=9_999_999))
-        .default_value("1")
-}
-
-fn create_arg<'a>(alloc: Global) -> Arg<'a> {
-    Arg::new(alloc, "create")
-        .long("create")
-        .help("Makes the folder and a store in it, where there is none")
-        .action(ArgAction::SetTrue)
-}
-
-fn first_run_arg<'a>(alloc: Global) -> Result<Arg<'a>, AllocError> {
-    Arg::new(alloc, "run")
-        .long("run")
-        .value_name("N")
-        .help(
-            "The number of the first run of a store that is made, 1 to 2147483647; else it is drawn at random",
-        )
-        .value_parser(clap::value_parser!(u32).range(1..=2_147_483_647))
-        .action(ArgAction::Set)
-        .requires_arg("create")
-}
-
-fn import_arg<'a>(alloc: Global) -> Result<Arg<'a>, AllocError> {
-    Arg::new(alloc, "import")
-        .long("import")
-        .value_name("OLD")
-        .help(
-            "A folder of a run or of a served store: the store that is made starts from its state, as the run of the next number",
-        )
-        .value_parser(ValueParser::NonEmptyString)
-        .action(ArgAction::Set)
-        .requires_arg("create")?
-        .conflicts_with("run")
-}
-
-fn stored_damage_arg<'a>(alloc: Global) -> Arg<'a> {
-    Arg::new(alloc, "damaged")
-        .long("damaged")
-        .help(
-            "Goes on also where the log of what it starts from is missing or damaged, or a part of it was skipped",
-        )
-        .action(ArgAction::SetTrue)
-}
-
-fn strict_arg<'a>(alloc: Global) -> Arg<'a> {
-    Arg::new(alloc, "strict")
-        .long("strict")
-        .help("Ends with the status 4 where the folder lacks something: a part, or a whole log")
-        .action(ArgAction::SetTrue)
+// Of points and generations.
+fn generation_options() -> [Said; 3] {
+    let every = "A point is taken after this many commits; none is with 0";
+    let roll = "A new generation begins once the log has this many entries, 1 to 16777216";
+    let keep = "How many generations before the one that counts are kept, 1 to 9999999";
+    [
+        Said::number("every", "COMMITS", 0, i64::from(u32::MAX), every).or("0"),
+        Said::number("roll", "ENTRIES", 1, 16_777_216, roll).or("1000000"),
+        Said::number("keep", "N", 1, 9_999_999, keep).or("1"),
+    ]
 }
 
 fn options_of<'a>(matches: &ArgMatches<'a>) -> Option<StepOptions<'a>> {

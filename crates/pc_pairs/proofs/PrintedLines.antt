@@ -1,22 +1,24 @@
 -- The lines of pairs are read back.
 use Rattle.std.proofs.Common.{◌≡◌, ◌≢◌, inr, ℕ, zero, suc, ◌+◌, ◌-◌, ◌<◌, ◌≤◌, ◌==◌, ◌&&◌, not, Bool, true, false, cond, nat_lt, List, [], ◌∷◌, ◌++◌, length, map, take, drop, Some, slice_index, refl, ap, ◌∙◌, arith, length-append}
 use Rattle.std.specs.Prelude.{if◌then◌else◌}
-use Rattle.std.specs.List.{All, flat_map, list_all}
+use Rattle.std.specs.List.{All, list_all}
 use Rattle.std.proofs.lemmas.Bool.Decides.{nat_tests}
 use Rattle.std.proofs.lemmas.List.Folds.{list_all-append}
 use Rattle.bstr.specs.Text.{lines_of, no_cr, without_terminator}
 use Rattle.bstr.proofs.lemmas.LineLemmas.{EndsLine, lines-append, lines-nil, lines-one}
 use Rattle.pc_lines.specs.Lines.{is_key, is_value, lines_in}
 use Rattle.pc_lines.specs.Words.{key_text_of, text_of}
-use Rattle.pc_texts.specs.Texts.{pair_text, printed, printed_key}
-use Rattle.pc_pairs.specs.Loads.{IsStorable, pair_around, pair_in, pair_of}
+use Rattle.pc_texts.specs.Texts.{printed, printed_key}
+use Rattle.pc_types.specs.Keys.{own_bytes, space_of}
+use Rattle.pc_json.proofs.JsonLaws.{json_again}
+use Rattle.pc_json.proofs.KeptByteLaws.{line_kept as json_kept}
+use Rattle.pc_pairs.specs.Dumps.{line_of, pair_lines}
+use Rattle.pc_pairs.specs.declared.form.Form.{Form}
+use Rattle.pc_pairs.specs.declared.form.Form.TheVariants as form
+use Rattle.pc_pairs.specs.Loads.{IsStorable, pair_around, pair_in, pair_of, pair_of_json, words_pair}
 use Rattle.pc_pairs.specs.declared.reading.PairLine.TheVariants as line
 use Rattle.pc_pairs.specs.declared.reading.Fault.TheVariants as fault
-use Rattle.pc_pairs.proofs.PrintedWords.{and_parts, dropped, found_at, is_shown, key_again, shown_key, shown_value, taken, value_again}
-
--- a pair's line without its end
-abbrev pub line_of : List ℕ × List ℕ → List ℕ
-line_of pair = printed_key pair.0 ++ (32 ∷ printed pair.1)
+use Rattle.pc_pairs.proofs.PrintedWords.{and_parts, dropped, found_at, is_shown, key_again, key_parts, shown_key, shown_value, taken, value_again}
 
 -- a byte that ends no line
 abbrev is_kept : ℕ → Bool
@@ -40,28 +42,48 @@ shown_kept (b ∷ word) all =
     let kept : is_kept b ≡ true = let first = parts.0 in grind (arith, nat_tests) in
     and_true (is_kept b) (list_all is_kept word) kept (shown_kept word parts.1)
 
-line_kept : (pair : List ℕ × List ℕ) → IsStorable pair → list_all is_kept (line_of pair) ≡ true
-line_kept pair storable =
+words_kept : (pair : List ℕ × List ℕ) → IsStorable pair → list_all is_kept (line_of form.Words pair) ≡ true
+words_kept pair storable =
     list_all-append is_kept (printed_key pair.0) (32 ∷ printed pair.1)
     ∙ and_true (list_all is_kept (printed_key pair.0)) (list_all is_kept (32 ∷ printed pair.1))
     (shown_kept (printed_key pair.0) (shown_key pair.0 storable.1.0 (let key = storable.0.0 in omega (arith, key.0))))
     (shown_kept (printed pair.1) (shown_value pair.1 storable.1.1))
 
+line_kept : (form : Form) (pair : List ℕ × List ℕ) → IsStorable pair → list_all is_kept (line_of form pair) ≡ true
+line_kept form.Words pair storable = words_kept pair storable
+line_kept form.Json pair storable =
+    let parts = key_parts pair.0 storable.1.0 (let key = storable.0.0 in omega (arith, key.0)) in
+    json_kept (space_of pair.0) (own_bytes pair.0) pair.1 parts.0
+
 -- the pair of a pair's line
-pub pair_again : (pair : List ℕ × List ℕ) → IsStorable pair → pair_in (line_of pair) ≡ line.Pair pair.0 pair.1
-pair_again pair storable =
+
+-- a storable pair's bytes give it
+fitting : (pair : List ℕ × List ℕ) → IsStorable pair → pair_of (Some pair.0) (Some pair.1) ≡ line.Pair pair.0 pair.1
+fitting pair storable =
+    let key_fits : is_key pair.0 ≡ true = let key = storable.0.0 in grind (arith, nat_tests, key.0, key.1) in
+    let value_fits : is_value pair.1 ≡ true = let fits = storable.0.1 in grind (arith, nat_tests, fits) in
+    ap (λ x. if x then (if is_value pair.1 then line.Pair pair.0 pair.1 else line.Bad fault.ValueLength) else line.Bad fault.KeyLength) key_fits
+    ∙ ap (λ x. if x then line.Pair pair.0 pair.1 else line.Bad fault.ValueLength) value_fits
+
+words_again : (pair : List ℕ × List ℕ) → IsStorable pair → words_pair (line_of form.Words pair) ≡ line.Pair pair.0 pair.1
+words_again pair storable =
     let word = printed_key pair.0 in
     let value = printed pair.1 in
     let long : 2 ≤ length pair.0 = let key = storable.0.0 in omega (arith, key.0) in
-    let key_fits : is_key pair.0 ≡ true = let key = storable.0.0 in grind (arith, nat_tests, key.0, key.1) in
-    let value_fits : is_value pair.1 ≡ true = let fits = storable.0.1 in grind (arith, nat_tests, fits) in
     ap (pair_around (word ++ 32 ∷ value)) (found_at (λ b. b == 32) word 32 value (no_space word (shown_key pair.0 storable.1.0 long)) refl)
     ∙ ap (λ t. pair_of (key_text_of t) (text_of (drop (length word + 1) (word ++ 32 ∷ value)))) (taken word (32 ∷ value))
     ∙ ap (λ t. pair_of (key_text_of word) (text_of t)) (dropped word 32 value)
     ∙ ap (λ t. pair_of t (text_of value)) (key_again pair.0 storable.1.0 long)
     ∙ ap (pair_of (Some pair.0)) (value_again pair.1 storable.1.1)
-    ∙ ap (λ x. if x then (if is_value pair.1 then line.Pair pair.0 pair.1 else line.Bad fault.ValueLength) else line.Bad fault.KeyLength) key_fits
-    ∙ ap (λ x. if x then line.Pair pair.0 pair.1 else line.Bad fault.ValueLength) value_fits
+    ∙ fitting pair storable
+
+pub pair_again : (form : Form) (pair : List ℕ × List ℕ) → IsStorable pair → pair_in form (line_of form pair) ≡ line.Pair pair.0 pair.1
+pair_again form.Words pair storable = words_again pair storable
+pair_again form.Json pair storable =
+    let parts = key_parts pair.0 storable.1.0 (let key = storable.0.0 in omega (arith, key.0)) in
+    ap pair_of_json (json_again (space_of pair.0) (own_bytes pair.0) pair.1 parts.0 parts.2 storable.1.1)
+    ∙ ap (λ key. pair_of (Some key) (Some pair.1)) parts.1
+    ∙ fitting pair storable
 
 -- The end of a line.
 
@@ -125,12 +147,12 @@ pub rest_storable : (pair : List ℕ × List ℕ) (pairs : List (List ℕ × Lis
 rest_storable pair pairs all = λ k d within. all (suc k) d (omega arith)
 
 -- the lines of pairs are a line for each
-pub lines_again : (pairs : List (List ℕ × List ℕ)) → All IsStorable pairs → lines_in (flat_map pair_text pairs) ≡ map line_of pairs
-lines_again [] all = ap (map without_terminator) lines-nil
-lines_again (pair ∷ pairs) all =
-    let word = line_of pair in
-    let kept = line_kept pair (first_storable pair pairs all) in
-    ap (map without_terminator) (lines-append (length (word ++ 10 ∷ [])) (word ++ 10 ∷ []) (flat_map pair_text pairs) (omega arith) (line_ends word)
-    ∙ ap (λ t. t ++ lines_of (flat_map pair_text pairs)) (one_line word kept))
-    ∙ ap (λ t. t ∷ lines_in (flat_map pair_text pairs)) (ended_again word kept)
-    ∙ ap (λ t. word ∷ t) (lines_again pairs (rest_storable pair pairs all))
+pub lines_again : (form : Form) (pairs : List (List ℕ × List ℕ)) → All IsStorable pairs → lines_in (pair_lines form pairs) ≡ map (line_of form) pairs
+lines_again form [] all = ap (map without_terminator) lines-nil
+lines_again form (pair ∷ pairs) all =
+    let word = line_of form pair in
+    let kept = line_kept form pair (first_storable pair pairs all) in
+    ap (map without_terminator) (lines-append (length (word ++ 10 ∷ [])) (word ++ 10 ∷ []) (pair_lines form pairs) (omega arith) (line_ends word)
+    ∙ ap (λ t. t ++ lines_of (pair_lines form pairs)) (one_line word kept))
+    ∙ ap (λ t. t ∷ lines_in (pair_lines form pairs)) (ended_again word kept)
+    ∙ ap (λ t. word ∷ t) (lines_again form pairs (rest_storable pair pairs all))

@@ -282,7 +282,7 @@ spaced_again (suc n) own small fit =
     ∙ ap (key_behind (Some (suc n))) (dropped ds 58 (printed own))
     ∙ behind_again (suc n) own fit
 
-key_parts : (key : List ℕ) → IsBytes key → 2 ≤ length key → (space_of key < 65536) × (key_of (space_of key) (own_bytes key) ≡ key) × IsBytes (own_bytes key)
+pub key_parts : (key : List ℕ) → IsBytes key → 2 ≤ length key → (space_of key < 65536) × (key_of (space_of key) (own_bytes key) ≡ key) × IsBytes (own_bytes key)
 key_parts [] fit long = absurd (omega (arith, long))
 key_parts (a ∷ []) fit long = absurd (omega (arith, long))
 key_parts (a ∷ b ∷ own) fit long =

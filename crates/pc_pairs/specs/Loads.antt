@@ -9,6 +9,10 @@ use Rattle.pc_model.specs.Maps.{empty, get, insert, len}
 use Rattle.pc_model.specs.Database.{Database}
 use Rattle.pc_lines.specs.Lines.{is_key, is_value, lines_in}
 use Rattle.pc_lines.specs.Words.{key_text_of, text_of}
+use Rattle.pc_json.specs.JsonLines.{Pair, json_pair}
+use Rattle.pc_types.specs.Keys.{key_of}
+use Rattle.pc_pairs.specs.declared.form.Form.{Form}
+use Rattle.pc_pairs.specs.declared.form.Form.TheVariants as form
 use Rattle.pc_pairs.specs.declared.loading.Unloaded.{Unloaded}
 use Rattle.pc_pairs.specs.declared.loading.Unloaded.TheVariants as unloaded
 use Rattle.pc_pairs.specs.declared.reading.Fault.{Fault}
@@ -28,14 +32,24 @@ abbrev pub pair_of : Option (List ℕ) → Option (List ℕ) → PairLine
 pair_of (Some key) (Some value) = if is_key key then (if is_value value then line.Pair key value else line.Bad fault.ValueLength) else line.Bad fault.KeyLength
 pair_of key value = line.Bad fault.Malformed
 
--- the pair of a line whose first space stands at this place: the key's word is before it, the value's word behind it
+-- the pair of a line whose first space is at this place: the key's word is before it, the value's word behind it
 abbrev pub pair_around : List ℕ → Option ℕ → PairLine
 pair_around text None = line.Bad fault.Malformed
 pair_around text (Some at) = pair_of (key_text_of (take at text)) (text_of (drop (at + 1) text))
 
+-- the pair of a line of words
+abbrev pub words_pair : List ℕ → PairLine
+words_pair text = pair_around text (position (λ b. b == 32) text)
+
+-- the pair that a line of JSON tells, where it tells one
+abbrev pub pair_of_json : Option Pair → PairLine
+pair_of_json None = line.Bad fault.Malformed
+pair_of_json (Some pair) = pair_of (Some (key_of pair.0 pair.1)) (Some pair.2)
+
 -- the pair of a line
-abbrev pub pair_in : List ℕ → PairLine
-pair_in text = pair_around text (position (λ b. b == 32) text)
+abbrev pub pair_in : Form → List ℕ → PairLine
+pair_in form.Words text = words_pair text
+pair_in form.Json text = pair_of_json (json_pair text)
 
 -- the database with the pair of the line of this number, which has no key of an earlier line
 abbrev pub with_line : Database → ℕ → PairLine → Result Database (ℕ × Fault)
@@ -48,13 +62,13 @@ and_then (Ok db) next = next db
 and_then (Err why) next = Err why
 
 -- the database with the pairs of the lines from this number on, or the number of the first line at fault, and the fault
-abbrev pub with_lines : Database → ℕ → List (List ℕ) → Result Database (ℕ × Fault)
-with_lines db number [] = Ok db
-with_lines db number (text ∷ texts) = and_then (with_line db number (pair_in text)) (λ next. with_lines next (number + 1) texts)
+abbrev pub with_lines : Form → Database → ℕ → List (List ℕ) → Result Database (ℕ × Fault)
+with_lines form db number [] = Ok db
+with_lines form db number (text ∷ texts) = and_then (with_line db number (pair_in form text)) (λ next. with_lines form next (number + 1) texts)
 
 -- the database of a text's lines
-abbrev pub database_in : List ℕ → Result Database (ℕ × Fault)
-database_in text = with_lines empty 1 (lines_in text)
+abbrev pub database_in : Form → List ℕ → Result Database (ℕ × Fault)
+database_in form text = with_lines form empty 1 (lines_in text)
 
 -- each byte of a key and of a value is one
 abbrev pub HasBytes : List ℕ × List ℕ → Type 0

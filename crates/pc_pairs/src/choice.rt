@@ -1,16 +1,19 @@
-//! Which pairs of a database are written.
+//! Which pairs of a database are written, and how.
 ghost use Rattle.std.specs.Prelude.{◌≡◌, filter};
 ghost use Rattle.pc_pairs.specs.Dumps.{chosen, is_chosen, is_in_space};
 
+use crate::form::Form;
 use pc_types::{Key, Value};
 
-/// Which pairs are written: those whose key is of this space, where one is given, and has own bytes that begin with these.
+/// Which pairs are written, and how: those whose key is of this space, where one is given, and has own bytes that begin with these.
 #[derive(Clone, Copy, Debug)]
 pub struct Choice<'a> {
     /// The space; `None` chooses the keys of all spaces.
     pub space: Option<u16>,
     /// The bytes with which a key's own bytes begin. No bytes choose all.
     pub prefix: &'a [u8],
+    /// How each is written.
+    pub form: Form,
 }
 
 impl Choice<'_> {

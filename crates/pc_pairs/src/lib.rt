@@ -3,11 +3,14 @@
 
 mod choice;
 mod dumping;
+mod form;
 mod gathered;
+mod json;
 mod loading;
 mod reading;
 
 pub use choice::Choice;
 pub use dumping::run_dump;
+pub use form::Form;
 pub use loading::{Unloaded, load_base};
 pub use reading::Fault;

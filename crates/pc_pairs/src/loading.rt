@@ -8,6 +8,7 @@ ghost use Rattle.pc_lines.specs.Lines.{lines_in};
 ghost use Rattle.pc_pairs.specs.Dumps.{pair_lines};
 ghost use Rattle.pc_pairs.specs.Loads.{IsLoaded, IsStorable, IsUnloaded, database_in, pair_in, with_line, with_lines};
 
+use crate::form::Form;
 use crate::gathered::Gathered;
 use crate::reading::{Fault, PairLine, pair_in};
 use bstr::ByteSlice;
@@ -25,15 +26,15 @@ pub enum Unloaded {
 }
 
 /// The base of a run of this number that has the pairs of a text's lines, at point 0; nothing where they are more than the 4,294,967,295
-/// that a base may have. A line is a key's word and a value's word as they are printed, with one space between them; the keys come in any
-/// order, and none comes twice. The lines of all pairs of a database give a base with that database.
-pub fn load_base(alloc: Global, run: u64, text: &[u8]) -> Result<Option<Base>, Unloaded>
-    ensures loaded { IfOk result (IsLoaded run (database_in text.now)) }
-    ensures unloaded { IfErr result (IsUnloaded (database_in text.now)) }
-    ensures dumped { (db : Database) → All IsStorable db.entries → text.now ≡ pair_lines db.entries → IfOk result (λ made. IfSome made (λ base. base.pairs ≡ db)) }
-    ensures memory { (db : Database) → All IsStorable db.entries → text.now ≡ pair_lines db.entries → IfErr result (λ why. why ≡ Unloaded.NoMemory) }
+/// that a base may have. A line is a pair in this form; the keys come in any order, and none comes twice. The lines of all pairs of a
+/// database give a base with that database.
+pub fn load_base(alloc: Global, run: u64, form: Form, text: &[u8]) -> Result<Option<Base>, Unloaded>
+    ensures loaded { IfOk result (IsLoaded run (database_in form text.now)) }
+    ensures unloaded { IfErr result (IsUnloaded (database_in form text.now)) }
+    ensures dumped { (db : Database) → All IsStorable db.entries → text.now ≡ pair_lines form db.entries → IfOk result (λ made. IfSome made (λ base. base.pairs ≡ db)) }
+    ensures memory { (db : Database) → All IsStorable db.entries → text.now ≡ pair_lines form db.entries → IfErr result (λ why. why ≡ Unloaded.NoMemory) }
 {
-    let pairs = load_pairs(alloc, text)?;
+    let pairs = load_pairs(alloc, form, text)?;
     Ok(base_of(run, pairs))
 }
 
@@ -50,25 +51,25 @@ fn base_of(run: u64, pairs: Vec<(Key, Value)>) -> Option<Base>
 }
 
 // The pairs of a text's lines, ascending by key.
-fn load_pairs(alloc: Global, text: &[u8]) -> Result<Vec<(Key, Value)>, Unloaded>
+fn load_pairs(alloc: Global, form: Form, text: &[u8]) -> Result<Vec<(Key, Value)>, Unloaded>
     ensures rise { IfOk result (λ pairs. KeysRise pairs.items) }
-    ensures loaded { IfOk result (λ pairs. database_in text.now ≡ Ok (database_of pairs.items)) }
-    ensures unloaded { IfErr result (IsUnloaded (database_in text.now)) }
-    ensures dumped { (db : Database) → All IsStorable db.entries → text.now ≡ pair_lines db.entries → IfOk result (λ pairs. database_of pairs.items ≡ db) }
-    ensures memory { (db : Database) → All IsStorable db.entries → text.now ≡ pair_lines db.entries → IfErr result (λ why. why ≡ Unloaded.NoMemory) }
+    ensures loaded { IfOk result (λ pairs. database_in form text.now ≡ Ok (database_of pairs.items)) }
+    ensures unloaded { IfErr result (IsUnloaded (database_in form text.now)) }
+    ensures dumped { (db : Database) → All IsStorable db.entries → text.now ≡ pair_lines form db.entries → IfOk result (λ pairs. database_of pairs.items ≡ db) }
+    ensures memory { (db : Database) → All IsStorable db.entries → text.now ≡ pair_lines form db.entries → IfErr result (λ why. why ≡ Unloaded.NoMemory) }
 {
-    load_lines(alloc, text)
+    load_lines(alloc, form, text)
 }
 
-fn load_lines(alloc: Global, text: &[u8]) -> Result<Vec<(Key, Value)>, Unloaded>
+fn load_lines(alloc: Global, form: Form, text: &[u8]) -> Result<Vec<(Key, Value)>, Unloaded>
     ensures rise { IfOk result (λ pairs. KeysRise pairs.items) }
-    ensures loaded { IfOk result (λ pairs. database_in text.now ≡ Ok (database_of pairs.items)) }
-    ensures unloaded { IfErr result (IsUnloaded (database_in text.now)) }
+    ensures loaded { IfOk result (λ pairs. database_in form text.now ≡ Ok (database_of pairs.items)) }
+    ensures unloaded { IfErr result (IsUnloaded (database_in form text.now)) }
 {
     let Ok(lines) = lines_in(alloc, text) else {
         return Err(Unloaded::NoMemory);
     };
-    let gathered = gather(alloc, &lines)?;
+    let gathered = gather(alloc, form, &lines)?;
     match gathered.into_pairs(alloc) {
         Ok(pairs) => Ok(pairs),
         Err(_) => Err(Unloaded::NoMemory),
@@ -87,13 +88,13 @@ fn lines_in<'a>(alloc: Global, text: &'a [u8]) -> Result<Vec<&'a [u8]>, AllocErr
 }
 
 // The database of the lines.
-fn gather(alloc: Global, lines: &[&[u8]]) -> Result<Gathered, Unloaded>
-    ensures gathered { IfOk result (λ db. with_lines empty 1 (map (λ line. line.now) lines.now) ≡ Ok db) }
-    ensures ungathered { IfErr result (IsUnloaded (with_lines empty 1 (map (λ line. line.now) lines.now))) }
+fn gather(alloc: Global, form: Form, lines: &[&[u8]]) -> Result<Gathered, Unloaded>
+    ensures gathered { IfOk result (λ db. with_lines form empty 1 (map (λ line. line.now) lines.now) ≡ Ok db) }
+    ensures ungathered { IfErr result (IsUnloaded (with_lines form empty 1 (map (λ line. line.now) lines.now))) }
 {
     let mut gathered = Gathered::new(alloc);
     for i in 0..lines.len() {
-        add_line(alloc, &mut gathered, i as u64 + 1, lines[i])?;
+        add_line(alloc, form, &mut gathered, i as u64 + 1, lines[i])?;
     }
     Ok(gathered)
 }
@@ -101,14 +102,15 @@ fn gather(alloc: Global, lines: &[&[u8]]) -> Result<Gathered, Unloaded>
 // Adds the pair of the line of this number.
 fn add_line(
     alloc: Global,
+    form: Form,
     gathered: &mut Gathered,
     number: u64,
     text: &[u8],
 ) -> Result<(), Unloaded>
-    ensures added { OnOk result (with_line gathered.old number (pair_in text.now) ≡ Ok gathered.new) }
-    ensures fault { IfErr result (IsUnloaded (with_line gathered.old number (pair_in text.now))) }
+    ensures added { OnOk result (with_line gathered.old number (pair_in form text.now) ≡ Ok gathered.new) }
+    ensures fault { IfErr result (IsUnloaded (with_line gathered.old number (pair_in form text.now))) }
 {
-    match pair_in(alloc, text) {
+    match pair_in(alloc, form, text) {
         Ok(PairLine::Pair(key, value)) => add_pair(gathered, number, key, value),
         Ok(PairLine::Bad(fault)) => Err(Unloaded::Line(number, fault)),
         Err(_) => Err(Unloaded::NoMemory),

@@ -2,8 +2,10 @@
 ghost use Rattle.std.specs.Prelude.{◌≡◌, ◌==◌, ◌<◌, length, IfOk, IfErr, IfSome, Some};
 ghost use Rattle.std.specs.List.{position};
 ghost use Rattle.pc_lines.specs.Words.{key_text_of, text_of};
-ghost use Rattle.pc_pairs.specs.Loads.{fault_name, pair_around, pair_in, pair_of};
+ghost use Rattle.pc_pairs.specs.Loads.{fault_name, pair_around, pair_in, pair_of, words_pair};
 
+use crate::form::Form;
+use crate::json::json_pair_in;
 use pc_lines::{KeyText, is_value, key_text_of, text_of};
 use pc_types::{Key, Refusal, Value};
 use std::alloc::Global;
@@ -11,7 +13,7 @@ use std::alloc::Global;
 /// Why a line gives no pair.
 #[derive(Clone, Copy, Debug, PartialEq, Eq)]
 pub enum Fault {
-    /// It is not a key's word and a value's word with one space between them.
+    /// It is not a key's word and a value's word with one space between them, or no object of JSON with just a key and a value.
     Malformed,
     /// The key has no own bytes, or more than 255.
     KeyLength,
@@ -42,9 +44,19 @@ pub(crate) enum PairLine {
     Bad(Fault),
 }
 
-/// What the line, without its end, spells. Refuses only with `OutOfMemory`.
-pub(crate) fn pair_in(alloc: Global, text: &[u8]) -> Result<PairLine, Refusal>
-    ensures line { IfOk result (λ line. line ≡ pair_in text.now) }
+/// What the line of this form, without its end, spells. Refuses only with `OutOfMemory`.
+pub(crate) fn pair_in(alloc: Global, form: Form, text: &[u8]) -> Result<PairLine, Refusal>
+    ensures line { IfOk result (λ line. line ≡ pair_in form text.now) }
+    ensures refusals { IfErr result (λ why. why ≡ Refusal.OutOfMemory) }
+{
+    match form {
+        Form::Words => words_pair(alloc, text),
+        Form::Json => json_pair_in(alloc, text),
+    }
+}
+
+fn words_pair(alloc: Global, text: &[u8]) -> Result<PairLine, Refusal>
+    ensures line { IfOk result (λ line. line ≡ words_pair text.now) }
     ensures refusals { IfErr result (λ why. why ≡ Refusal.OutOfMemory) }
 {
     match space(text) {
@@ -73,7 +85,8 @@ fn pair_of_words(alloc: Global, first: &[u8], second: &[u8]) -> Result<PairLine,
     }
 }
 
-fn pair_of(alloc: Global, key: &KeyText<'_>, value: &[u8]) -> Result<PairLine, Refusal>
+/// The pair of a key's and a value's bytes. Refuses only with `OutOfMemory`.
+pub(crate) fn pair_of(alloc: Global, key: &KeyText<'_>, value: &[u8]) -> Result<PairLine, Refusal>
     ensures line { IfOk result (λ line. line ≡ pair_of (Some key.now) (Some value.now)) }
     ensures refusals { IfErr result (λ why. why ≡ Refusal.OutOfMemory) }
 {

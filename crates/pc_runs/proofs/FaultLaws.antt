@@ -73,7 +73,6 @@ module _ (st : Setting) (workload : Workload) (there : Bool) where
   of_threads writes count (fault.Refused why.Full) on same many = inr (omega (arith, same, many))
   of_threads writes count (fault.Refused why.PointsFull) on same end = end
   of_threads writes count (fault.Refused why.LogFull) on same end = end
-  of_threads writes count (fault.Refused why.NoFile) on same end = end
   of_threads writes count (fault.Refused other) on same end = absurd end
   of_threads writes count (fault.Unmade file why) on same end = on end
   of_threads writes count fault.NoThread on same end = tt

@@ -15,14 +15,13 @@ use Rattle.pc_threads.specs.declared.fault.ThreadsFault.TheVariants as fault
 -- * a file of the folder can't be written;
 -- * the store has no room for all pairs of its base, or more transactions were given up than 64 bits can count;
 -- * there are too many points;
--- * there are points, and the log has no place left, or the file of one of them isn't there.
+-- * there are points, and the log has no place left.
 abbrev pub IsRunRefused : Setting → Workload → Bool → Refusal → Type 0
 IsRunRefused st workload there refusal.OutOfMemory = ⊤
 IsRunRefused st workload there refusal.Device = IsTrue there
 IsRunRefused st workload there refusal.Full = (st.capacity < len st.base) ⊎ (2 ^ 64 ≤ transactions_in workload.clients)
 IsRunRefused st workload there refusal.PointsFull = MOST_POINTS < workload.points
 IsRunRefused st workload there refusal.LogFull = 0 < workload.points
-IsRunRefused st workload there refusal.NoFile = 0 < workload.points
 IsRunRefused st workload there other = ⊥
 
 -- The fault ends such a run: it is refused for one of these, a file of the folder can't be made, or a thread can't be started.

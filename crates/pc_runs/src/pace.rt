@@ -1,33 +1,49 @@
 //! How the points of a run are spread over its transactions.
+ghost use Rattle.std.specs.Prelude.{◌≡◌, ◌-◌, ◌^◌, min};
+ghost use Rattle.std.specs.List.{sum_by};
+ghost use Rattle.pc_runs.specs.Pace.{count_of, every_of, most_in};
+
 use pc_jobs::{Client, ClientTask};
 use pc_types::Items;
 
-// How many transactions the works have.
-fn transactions_in(works: &[ClientTask]) -> u32 {
+// How many transactions the work has.
+fn count_of(work: &ClientTask) -> u32
+    ensures { result ≡ count_of work.now }
+{
+    match work {
+        ClientTask::Once(_) => 1,
+        ClientTask::Fill(fill) => fill.count,
+    }
+}
+
+// How many transactions the works have, up to the greatest number of 32 bits.
+fn transactions_in(works: &[ClientTask]) -> u32
+    ensures { result ≡ min (sum_by count_of works.now) (2 ^ 32 - 1) }
+{
     let mut count = 0u32;
     for work in works {
-        let more = match work {
-            ClientTask::Once(_) => 1,
-            ClientTask::Fill(fill) => fill.count,
-        };
-        count = count.saturating_add(more);
+        count = count.saturating_add(count_of(work));
     }
     count
 }
 
-// How many transactions the clients are to make.
-fn transactions_of(clients: &Items<Client>) -> u32 {
+// How many transactions the clients are to make, up to that.
+fn transactions_of(clients: &[Client]) -> u32
+    ensures { result ≡ min (sum_by most_in clients.now) (2 ^ 32 - 1) }
+{
     let mut count = 0u32;
-    for client in clients.as_slice() {
+    for client in clients {
         count = count.saturating_add(transactions_in(client.works.as_slice()));
     }
     count
 }
 
 /// How many transactions are to commit between two points: as many as are asked for, or else those of the clients by the points.
-pub fn every_of(asked: Option<u32>, points: u32, clients: &Items<Client>) -> u32 {
+pub fn every_of(asked: Option<u32>, points: u32, clients: &Items<Client>) -> u32
+    ensures { result ≡ every_of asked points clients.now }
+{
     match asked {
         Some(every) => every,
-        None => transactions_of(clients) / points.max(1),
+        None => transactions_of(clients.as_slice()) / points.max(1),
     }
 }

@@ -1,5 +1,6 @@
 -- Keys of a point that a checkpointer takes, one after the other.
 use Rattle.std.specs.Prelude.{◌≡◌, ◌<◌, ℕ, zero, suc, List, Option}
+use Rattle.pc_types.specs.declared.Reply.{Reply}
 use Rattle.pc_types.specs.declared.Reply.TheVariants as told
 use Rattle.pc_model.specs.History.{History}
 use Rattle.pc_model.specs.Replies.{Setting}
@@ -19,6 +20,11 @@ abbrev pub HasEndedTakes : Setting → ℕ → ℕ → TakesEnd → History → 
 HasEndedTakes st most keys ended.Enough before after = (keys ≡ most) × (after ≡ before)
 HasEndedTakes st most keys ended.NoneLeft before after = (keys < most) × IsTakeCalled st before told.NoneLeft after
 HasEndedTakes st most keys (ended.Refused why) before after = (keys < most) × IsTakeCalled st before (told.Refused why) after
+
+-- who waits is told of them as of one such reply, without a key: that none is left, where none was taken, and else that one was found
+abbrev pub told_of_takes : ℕ → Reply
+told_of_takes zero = told.NoneLeft
+told_of_takes (suc keys) = told.Absent
 
 -- the turn's keys were taken, and then it ended so
 pub record IsTurnOfTakes (st : Setting) (most : ℕ) (before : History) (takes : Takes) (after : History) : Type 0 where

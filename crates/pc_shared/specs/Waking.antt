@@ -12,6 +12,14 @@ use Rattle.pc_shared.specs.declared.waits.Woken.{Woken}
 abbrev pub none_due : ℕ
 none_due = 2 ^ 32 - 1
 
+-- it has not come yet, and no call waits for it
+abbrev pub none_come : Awaited
+none_come = record { count = 0; waiting = 0 }
+
+-- nobody waits, and nothing has changed
+abbrev pub none_wait : Waits
+none_wait = record { for_locks = 0; changes = none_come; phases = none_come; due = none_due; has_last = false }
+
 -- it comes once more; after the greatest number of 64 bits the count goes on from 0
 abbrev pub come : Awaited → Awaited
 come a = record a { count = (a.count + 1) % 2 ^ 64 }

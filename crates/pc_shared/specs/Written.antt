@@ -5,6 +5,8 @@ use Rattle.pc_types.specs.Tallies.{Puts}
 use Rattle.pc_types.specs.declared.Entry.{Entry}
 use Rattle.pc_types.specs.declared.tally.Tally.{Tally}
 use Rattle.pc_model.specs.History.{History, log_of}
+use Rattle.pc_model.specs.Replies.{Setting}
+use Rattle.pc_latch.specs.Batches.{HasEntries}
 use Rattle.pc_log.specs.Texts.{log_text}
 
 -- since some earlier state of the writer all of the text has gone out, and nothing failed
@@ -31,3 +33,17 @@ pub record IsFirstOut (out : List ℕ → Type 0) (run : ℕ) (seen : History) (
   pub as_many : length entries ≡ count
   pub first : IsPrefix entries (log_of seen)
   pub gone : out (log_text run entries)
+
+-- a text of just so many entries of a run's log has gone out
+pub record HasText (out : List ℕ → Type 0) (run : ℕ) (count : ℕ) : Type 0 where
+  pub entries : List Entry
+  pub as_many : length entries ≡ count
+  pub gone : out (log_text run entries)
+
+-- So many entries are written: a log has as many after some legal history, and the text of just so many has gone out, if that is one at least.
+abbrev pub AreCounted : (List ℕ → Type 0) → Setting → ℕ → Type 0
+AreCounted out st count = HasEntries st count × (1 ≤ count → HasText out st.run count)
+
+-- as many are, or more
+abbrev pub AreReached : (List ℕ → Type 0) → Setting → ℕ → Type 0
+AreReached out st number = (written : ℕ) × (number ≤ written) × AreCounted out st written

@@ -4,8 +4,7 @@ ghost use mathlib.Core.List.{IsPrefix};
 ghost use Rattle.pc_model.specs.History.{log_of};
 ghost use Rattle.pc_model.specs.Receipts.{own_of};
 ghost use Rattle.pc_log.specs.Texts.{log_text};
-ghost use Rattle.pc_latch.specs.Batches.{HasEntries};
-ghost use Rattle.pc_shared.specs.Written.{HasGoneOut, AreOut};
+ghost use Rattle.pc_shared.specs.Written.{AreCounted, AreOut, AreReached, HasGoneOut};
 
 use crate::gone_out::GoneOut;
 use crate::session::Session;
@@ -132,8 +131,9 @@ impl<N: StoreName> Logged<N> {
         entries: u64,
     ) -> Result<u64, LogEndMark<'_>>
         ensures same { session.new ≡ session.old }
-        ensures written { IfOk result (λ written. (entries ≤ written) × HasEntries N.name.setting written) }
+        ensures written { IfOk result (λ written. (entries ≤ written) × AreCounted N.out N.name.setting written) }
         ensures out { IfOk result (λ written. AreOut N.out N.name.setting.run session.old.seen entries) }
+        ensures all { IfOk result (λ written. AreOut N.out N.name.setting.run session.old.seen written) }
         ensures ended { IfErr result (λ mark. mark.token.of ≡ self.now.ended.id) }
     {
         if entries <= self.written.get() {
@@ -165,8 +165,9 @@ impl<N: StoreName> Logged<N> {
         entries: u64,
     ) -> Result<u64, LogEndMark<'_>>
         ensures same { session.new ≡ session.old }
-        ensures written { IfOk result (λ written. (entries ≤ written) × HasEntries N.name.setting written) }
+        ensures written { IfOk result (λ written. (entries ≤ written) × AreCounted N.out N.name.setting written) }
         ensures out { IfOk result (λ written. AreOut N.out N.name.setting.run session.old.seen entries) }
+        ensures all { IfOk result (λ written. AreOut N.out N.name.setting.run session.old.seen written) }
         ensures ended { IfErr result (λ mark. mark.token.of ≡ self.now.ended.id) }
     {
         let mut held = self.gone_out.lock(rt);
@@ -209,14 +210,17 @@ impl<N: StoreName> Shared<N> {
         self.logged.end(rt);
     }
 
-    /// Whether that was marked. Nothing is promised of the answer: a mark of another thread may be seen or not.
-    pub fn has_log_ended(&self) -> bool {
-        self.logged.has_ended()
+    /// The mark of the log's end, if that was marked. That there is none is no promise: a mark of another thread may be seen or not.
+    pub fn log_end_mark(&self) -> Option<LogEndMark<'_>>
+        ensures { IfSome result (λ mark. mark.token.of ≡ self.now.logged.ended.id) }
+    {
+        self.logged.end_mark()
     }
 
-    /// Whether the entry of this number was marked as written.
+    /// Whether the entry of this number was marked as written: a text of as many entries of the log, or more, has then gone out. False is
+    /// no promise: a mark of another thread may be seen or not.
     pub fn is_logged(&self, number: Lsn) -> bool
-        ensures { result ≡ true → HasEntries N.name.setting number }
+        ensures { result ≡ true → AreReached N.out N.name.setting number }
     {
         u64::from(number.0) <= self.logged.written.get()
     }
@@ -226,9 +230,9 @@ impl<N: StoreName> Shared<N> {
         self.logged.is_awaited()
     }
 
-    /// Waits until the entry of this number was marked as written, and gives how many then are; the mark of the log's end where it
-    /// wasn't, and no more will be. The first entries of the log that the session has seen, up to this number, are then the first of those whose
-    /// text has gone out.
+    /// Waits until the entry of this number was marked as written, and gives how many then are: a text of just so many entries has gone
+    /// out; the mark of the log's end where it wasn't, and no more will be. The first entries of the log that the session has seen, up to
+    /// this number, and up to that count, are then the first of those whose text has gone out.
     pub fn until_logged<R: Wait>(
         &self,
         rt: &R,
@@ -236,8 +240,9 @@ impl<N: StoreName> Shared<N> {
         number: Lsn,
     ) -> Result<u64, LogEndMark<'_>>
         ensures same { session.new ≡ session.old }
-        ensures written { IfOk result (λ written. (number ≤ written) × HasEntries N.name.setting written) }
+        ensures written { IfOk result (λ written. (number ≤ written) × AreCounted N.out N.name.setting written) }
         ensures out { IfOk result (λ written. AreOut N.out N.name.setting.run session.old.seen number) }
+        ensures all { IfOk result (λ written. AreOut N.out N.name.setting.run session.old.seen written) }
         ensures ended { IfErr result (λ mark. mark.token.of ≡ self.now.logged.ended.id) }
         ensures receipts { session.old.receipts ≡ (own_of session.old.number session.old.seen).receipts }
     {

@@ -9,7 +9,7 @@ ghost use Rattle.pc_engine.specs.Runs.{starting};
 ghost use Rattle.pc_model.specs.Calls.{IsBeginning};
 ghost use Rattle.pc_engine.specs.Stands.{Stands};
 ghost use Rattle.pc_engine.specs.Store.{setting_of};
-ghost use Rattle.pc_latch.specs.Batches.{batch, HasEntries, IsNext};
+ghost use Rattle.pc_latch.specs.Batches.{batch, IsNext};
 ghost use Rattle.pc_latch.specs.Cycles.{IsAdvance};
 ghost use Rattle.pc_model.specs.History.{History, log_of};
 ghost use Rattle.pc_model.specs.Sets as set;
@@ -17,7 +17,7 @@ ghost use Rattle.pc_latch.specs.Tickets.{HasNoFile, IsNoTicket};
 ghost use Rattle.pc_shared.specs.Advances.{EndsWith};
 ghost use Rattle.pc_shared.specs.Granted.{HasGranted};
 ghost use Rattle.pc_shared.specs.Sitters.{new_sitters, IsLeftByStore, AreSittersApart, HasAll, LacksOne};
-ghost use Rattle.pc_shared.specs.Waking.{woken_by, noted};
+ghost use Rattle.pc_shared.specs.Waking.{none_wait, woken_by, noted};
 
 use crate::closing::{Closed, close};
 use crate::logged::{LastEntry, LogBatch, Logged};
@@ -185,6 +185,7 @@ impl<N: StoreName> UnderLatch<N> {
     fn new(world: World, keeper: Keeper<N>) -> UnderLatch<N>
         requires keeper { (keeper.history ≡ []) × (keeper.guests ≡ []) }
         requires world { Stands world [] × (setting_of world ≡ N.name.setting) }
+        ensures { (result.latched ≡ []) × (result.waits ≡ none_wait) }
     {
         UnderLatch {
             latched: Latched::new(world, keeper),
@@ -453,9 +454,9 @@ impl<N: StoreName> Shared<N> {
         held.latched.witness(&self.tie)
     }
 
-    /// Waits until the count of changes isn't `seen`, and gives the count. Each answer but a refusal, `NotYet` and `NoneLeft` is a
-    /// change, and so is a mark of the end; after the greatest `u64` the count goes on from 0. Who looks at the store first, and
-    /// then waits with the count from before the look, misses no change.
+    /// Waits until the count of changes isn't `seen`, and gives the count. Each answer but `Wait`, a refusal, `NotYet` and `NoneLeft` is
+    /// a change, all keys of one turn of `take_keys` together are one, and so is a mark of the end; after the greatest `u64` the count
+    /// goes on from 0. Who looks at the store first, and then waits with the count from before the look, misses no change.
     pub fn until_changed<R: Wait>(&self, rt: &R, seen: u64) -> u64
         ensures { result ≢ seen }
     {
@@ -518,16 +519,22 @@ impl<N: StoreName> Shared<N> {
         LastEntry { number, seen }
     }
 
-    /// Waits until the log has the entry of this number, and gives the number of its last one; nothing where it hasn't, and the
-    /// last commit or the end was marked.
-    pub fn until_committed<R: Wait>(&self, rt: &R, number: Lsn) -> Option<Lsn>
-        ensures { IfSome result (λ last. (number ≤ last) × HasEntries N.name.setting last) }
+    /// Waits until the log has the entry of this number, and gives its last one, with a witness of the store's legal history so far,
+    /// of whose log it is; nothing where it hasn't, and the last commit or the end was marked.
+    pub fn until_committed<R: Wait>(&self, rt: &R, number: Lsn) -> Option<LastEntry<N>>
+        ensures reached { IfSome result (λ entry. number ≤ entry.number) }
+        ensures last { IfSome result (λ entry. entry.number ≡ length (log_of entry.seen)) }
+        ensures legal { IfSome result (λ entry. IsLegalHistory N.name.setting entry.seen) }
     {
         let mut held = self.get_latch(rt);
         for _ in rt.forever() {
             let last = held.latched.log_len();
             if number.0 <= last {
-                return Some(Lsn(last));
+                let seen = held.latched.witness(&self.tie);
+                return Some(LastEntry {
+                    number: Lsn(last),
+                    seen,
+                });
             }
             if held.waits.is_last() || self.ended() {
                 return None;

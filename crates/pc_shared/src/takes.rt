@@ -2,7 +2,7 @@
 ghost use Rattle.std.specs.Prelude.{◌≡◌};
 ghost use Rattle.pc_answers.specs.Replies.{take_reply};
 ghost use Rattle.pc_latch.specs.Cycles.{IsTakeCalled};
-ghost use Rattle.pc_shared.specs.Takes.{IsTurnOfTakes};
+ghost use Rattle.pc_shared.specs.Takes.{IsTurnOfTakes, told_of_takes};
 
 use crate::store::{Shared, UnderLatch};
 use pc_answers::{TakeAnswer, take_reply};
@@ -29,7 +29,9 @@ pub struct Takes {
 }
 
 // A reply of the kind that such takes were given last, with no key: whether one was taken.
-fn told_takes(keys: u32) -> Reply {
+fn told_takes(keys: u32) -> Reply
+    ensures { result ≡ told_of_takes keys }
+{
     if keys == 0 {
         Reply::NoneLeft
     } else {

@@ -1,7 +1,7 @@
 //! Who waits at a store's latch, and how often the store has changed.
 ghost use Rattle.std.specs.Prelude.{◌≡◌, ◌↔◌, ◌==◌, ◌||◌, ◌&&◌, ◌+◌, ◌-◌, ◌^◌, not, nat_lt, min, if◌then◌else◌, ℕ, true, false};
 ghost use Rattle.pc_shared.specs.Asked.{is_wait};
-ghost use Rattle.pc_shared.specs.Waking.{come, is_awaited, one_more, one_less, of_news, with_news, nobody, none_due, woken_by, noted, woken_by_end};
+ghost use Rattle.pc_shared.specs.Waking.{come, is_awaited, one_more, one_less, of_news, with_news, nobody, none_come, none_due, none_wait, woken_by, noted, woken_by_end};
 
 use pc_sessions::SessionSet;
 use pc_types::{Lsn, Refusal, Reply};
@@ -25,7 +25,7 @@ pub(crate) struct Awaited {
 impl Awaited {
     // It has not come yet, and nobody waits for it.
     fn new() -> Awaited
-        ensures { (result.count ≡ 0) × (result.waiting ≡ 0) }
+        ensures { result ≡ none_come }
     {
         Awaited {
             count: 0,
@@ -100,7 +100,9 @@ impl Woken {
 
 impl Waits {
     // Nobody waits, and nothing has changed.
-    pub(crate) fn new() -> Waits {
+    pub(crate) fn new() -> Waits
+        ensures { result ≡ none_wait }
+    {
         Waits {
             for_locks: SessionSet::new(),
             changes: Awaited::new(),

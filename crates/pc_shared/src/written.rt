@@ -1,7 +1,7 @@
 //! How many entries of a store's log are written.
 ghost use Rattle.std.specs.Prelude.{◌≡◌};
 ghost use Rattle.pc_log.specs.Texts.{log_text};
-ghost use Rattle.pc_latch.specs.Batches.{HasEntries};
+ghost use Rattle.pc_shared.specs.Written.{AreCounted};
 
 use atomic_table::{Play, Table, TableRule};
 use pc_latch::LogPass;
@@ -9,24 +9,24 @@ use pc_tie::StoreName;
 use std::alloc::{AllocError, Global};
 use std::marker::PhantomData;
 
-/// The rule of the number: the log has so many entries. Whoever looks at it learns that.
+/// The rule of the number: the text of so many entries has gone out. Whoever looks at it learns that.
 pub struct CountsEntries<N: StoreName> {
     name: PhantomData<N>,
 }
 
 impl<S, N: StoreName> TableRule<S, (), ()> for CountsEntries<N> {
     ghost use Rattle.std.specs.Prelude.{slice_index};
-    ghost use Rattle.pc_latch.specs.Batches.{HasEntries};
+    ghost use Rattle.pc_shared.specs.Written.{AreCounted};
 
-    ghost holds = { λ key state. HasEntries N.name.setting (slice_index state.words 0) };
+    ghost holds = { λ key state. AreCounted N.out N.name.setting (slice_index state.words 0) };
 
     ghost first = { λ key. tt };
 }
 
 impl<S, N: StoreName> Play<S, ()> for CountsEntries<N> {
-    ghost use Rattle.pc_latch.specs.Batches.{HasEntries};
+    ghost use Rattle.pc_shared.specs.Written.{AreCounted};
 
-    ghost then = { λ step before found after. HasEntries N.name.setting found };
+    ghost then = { λ step before found after. AreCounted N.out N.name.setting found };
 }
 
 /// How many entries of a store's log are written. Only a pass whose text has gone out changes the number.
@@ -43,9 +43,9 @@ impl<N: StoreName> Written<N> {
         Ok(Written { table })
     }
 
-    /// How many are: the log has as many.
+    /// How many are: their text has gone out.
     pub(crate) fn get(&self) -> u64
-        ensures { HasEntries N.name.setting result }
+        ensures { AreCounted N.out N.name.setting result }
     {
         let (entries, _seat) = self.table.shared.load_new_seat::<CountsEntries<N>>(0);
         entries

@@ -2,9 +2,10 @@
 use Rattle.std.proofs.Common.{◌≡◌, ℕ, zero, suc, ◌<◌, List, [], ◌∷◌, ◌++◌, length, map, get_or, set, Option, Some, None, Result, Ok, Err, refl, sym, ap, subst, ◌∙◌, arith, inl, inr, cond, Bool, true, false}
 use Rattle.std.specs.List.{AllByRecursion, list_any}
 use Rattle.std.specs.Prelude.{◌==◌, ◌||◌, ◌≢◌, IsTrue, not, slice_get}
-use Rattle.std.proofs.lemmas.List.{map-set, get_or-map, length-map, nil_from_length}
+use Rattle.std.proofs.lemmas.List.{map-set, get_or-map, get_or-set_same, length-map, nil_from_length}
 use Rattle.std.proofs.lemmas.List.Elements.{All-nil, All-cons, All-from_recursion}
 use Rattle.std.proofs.lemmas.Bool.{eqb-true}
+use Rattle.std.proofs.lemmas.List.Folds.{list_any-append}
 use Rattle.pc_types.specs.declared.Refusal.{Refusal}
 use Rattle.pc_types.specs.declared.Refusal.TheVariants.{NoFile, OtherRun}
 use Rattle.pc_model.specs.Sets as set_of
@@ -14,8 +15,12 @@ use Rattle.pc_part.proofs.RangePointLaws.{contains-points_of}
 use Rattle.pc_merge.specs.Coming.{Standing, Stands}
 use Rattle.pc_merge.specs.Standings.{AllStand, standing_at}
 use Rattle.pc_streams.specs.declared.reader.PartReader.{PartReader}
-use Rattle.pc_streams.specs.Readers.{AnswersAs, StaysKnown, header_of, ranges_read, reads_within, standing_of}
-use Rattle.pc_stream_join.specs.Headers.{AreApart, AreHeaded, AreReadTo, HaveTwoRuns, IsHeadersFault, IsHeadersRefusal, IsRead, StayKnown, all_headers, headers_fault, points_of_all, points_read, runs_fault}
+use Rattle.pc_streams.specs.declared.reader.PartStage.{PartStage}
+use Rattle.pc_streams.specs.declared.reader.PartStage.TheVariants.{Among, Refused, Unread}
+use Rattle.pc_streams.specs.Readers.{AnswersAs, Refuses, StaysKnown, header_of, ranges_read, reads_within, refused_of, stage_header, stage_refused, standing_of}
+use Rattle.pc_streams.specs.Sources.{text_left}
+use Rattle.pc_stream_join.specs.Headers.{AreApart, AreHeaded, AreReadTo, IsHeadersFault, IsHeadersRefusal, IsRead, StayKnown, all_headers, headers_fault, points_of_all, points_read, run_of_all, runs_fault, runs_seen, with_run}
+use Rattle.pc_stream_join.specs.declared.headers.RunsSeen.{RunsSeen}
 use Rattle.pc_stream_join.proofs.StandingLaws.{one_refused}
 use Rattle.pc_stream_join.proofs.UnionLaws.{contains-union}
 
@@ -124,6 +129,48 @@ module _ {R : Type 0} (remaining : R → Option (List ℕ)) where
       let at : standing_at (map standing_of was) n ≡ standing_of (get_or now n d) = get_or-map standing_of was n d (record { refused = None; failures = 0 }) lt ∙ ap standing_of (sym (next_is n was now runs d h)) in
       subst (λ (ss : List Standing). AllStand {X = List ℕ} (map standing_of was) ss (Err why)) (sym is)
       (one_refused ℕ (List ℕ) (map standing_of was) n (standing_of x) within why (subst (λ (s : Standing). Stands {X = ℕ} s (standing_of x) (Err why)) (sym at) stands))
+
+  -- where the next one refuses, not all are read
+  pub next_unread : (n : ℕ) (was now : Readers) (runs : List ℕ) (d x : PartReader R) (why : Refusal) → AreReadTo remaining n was now runs → n < length was
+      → Refuses {X = ℕ} (refused_of (get_or now n d)) (refused_of x) (Err why) → (all : List ℕ) → ¬ AreReadTo remaining (length was) was (set now n x) all
+  next_unread n was now runs d x why h lt refused all whole =
+      let many : length now ≡ length was = length_read n was now runs h in
+      let told = read_there (length was) n was (set now n x) all d whole lt in
+      let is : get_or (set now n x) n d ≡ x = get_or-set_same now n x d (omega (arith, many, lt)) in
+      let kept = keeps (refused_of (get_or now n d)) (refused_of x) refused in
+      no_header x.stage (text_left remaining x.source) kept.0 told.0 (ranges_read (get_or (set now n x) n d)) kept.1 (ap (header_of remaining) (sym is) ∙ told.1)
+    where
+      -- of those that are read the header is known
+      read_there : (m n : ℕ) (was now : Readers) (runs : List ℕ) (d : PartReader R) → AreReadTo remaining m was now runs → n < m → (run : ℕ) × (header_of remaining (get_or now n d) ≡ Some (Ok (run, ranges_read (get_or now n d))))
+      read_there zero n was now runs d h lt = absurd (omega (arith, lt))
+      read_there (suc m) n [] now runs d h lt = absurd h
+      read_there (suc m) n (first ∷ was) [] runs d h lt = absurd h
+      read_there (suc m) n (first ∷ was) (first_now ∷ now) [] d h lt = absurd h
+      read_there (suc m) zero (first ∷ was) (first_now ∷ now) (run ∷ runs) d h lt = (run, h.0.told)
+      read_there (suc m) (suc n) (first ∷ was) (first_now ∷ now) (run ∷ runs) d h lt = read_there m n was now runs d h.1 (omega (arith, lt))
+
+      keeps : (old new : Option Refusal) → Refuses {X = ℕ} old new (Err why) → (kept : Refusal) × (new ≡ Some kept)
+      keeps (Some kept) new h = (kept, h.1)
+      keeps None new h = (why, h)
+
+      no_header : (stage : PartStage) (known : Option (List ℕ)) (kept : Refusal) (run : ℕ) (ranges : List Range) → stage_refused stage ≡ Some kept → stage_header stage known ≡ Some (Ok (run, ranges)) → ⊥
+      no_header Unread known kept run ranges refused told = absurd cc
+      no_header (Among place) known kept run ranges refused told = absurd cc
+      no_header (Refused other) known kept run ranges refused told = absurd cc
+
+  -- the runs that are read are told by what is read
+  pub same_runs : (n : ℕ) (was now : Readers) (runs others : List ℕ) → AreReadTo remaining n was now runs → AreReadTo remaining n was now others → runs ≡ others
+  same_runs zero was now runs others h k = h.1 ∙ sym k.1
+  same_runs (suc n) [] now runs others h k = absurd h
+  same_runs (suc n) (first ∷ was) [] runs others h k = absurd h
+  same_runs (suc n) (first ∷ was) (first_now ∷ now) [] others h k = absurd h
+  same_runs (suc n) (first ∷ was) (first_now ∷ now) (run ∷ runs) [] h k = absurd k
+  same_runs (suc n) (first ∷ was) (first_now ∷ now) (run ∷ runs) (other ∷ others) h k =
+      let both : Some (Ok (run, ranges_read first_now)) ≡ Some (Ok (other, ranges_read first_now)) = sym h.0.told ∙ k.0.told in
+      λ i. run_is run other (ranges_read first_now) both i ∷ same_runs n was now runs others h.1 k.1 i
+    where
+      run_is : (one two : ℕ) (ranges : List Range) → let known : Type 0 = Option (Result (ℕ × List Range) Refusal) in ◌≡◌ {A = known} (Some (Ok (one, ranges))) (Some (Ok (two, ranges))) → one ≡ two
+      run_is one two ranges both = let pair : (one, ranges) ≡ (two, ranges) = cc in ap (λ (p : ℕ × List Range). p.0) pair
 
   -- ---- all were read
 
@@ -279,3 +326,40 @@ module _ {R : Type 0} (remaining : R → Option (List ℕ)) where
         within = All-from_recursion (λ input. reads_within input (set_of.contains (points_of ranges))) now
             (keep_to (set_of.contains (points_of ranges)) (one ∷ was) now runs h (λ p there. ap (λ s. set_of.contains s p) points ∙ there));
       }
+
+-- one more is seen behind the others
+pub seen_more : (runs : List ℕ) (run : ℕ) → with_run (runs_seen runs).first (runs_seen runs).differ run ≡ runs_seen (runs ++ run ∷ [])
+seen_more [] run = refl
+seen_more (first ∷ others) run =
+    ap (λ (differ : Bool). record { first = Some first; differ = differ }) (sym (list_any-append (λ other. not (other == first)) others (run ∷ []) ∙ ap (λ (b : Bool). list_any (λ other. not (other == first)) others || b) (or_none (not (run == first)))))
+  where
+    or_none : (b : Bool) → (b || false) ≡ b
+    or_none true = refl
+    or_none false = refl
+
+-- why they have no one run
+pub seen_fault : (runs : List ℕ) (why : Refusal) → run_of_all (runs_seen runs).first (runs_seen runs).differ ≡ Err why → runs_fault runs ≡ Some why
+seen_fault [] why is = cc
+seen_fault (run ∷ others) why is = by (list_any (λ other. not (other == run)) others) is
+  where
+    by : (t : Bool) → run_of_all (Some run) t ≡ Err why → cond t (Some OtherRun) None ≡ Some why
+    by true is = cc
+    by false is = absurd cc
+
+pub seen_one : (runs : List ℕ) (one : ℕ) → run_of_all (runs_seen runs).first (runs_seen runs).differ ≡ Ok one → (slice_get runs 0 ≡ Some one) × (runs_fault runs ≡ None)
+seen_one [] one is = absurd cc
+seen_one (run ∷ others) one is = by (list_any (λ other. not (other == run)) others) is
+  where
+    by : (t : Bool) → run_of_all (Some run) t ≡ Ok one → (slice_get (run ∷ others) 0 ≡ Some one) × (cond t (Some OtherRun) None ≡ None)
+    by true is = absurd cc
+    by false is = (cc, refl)
+
+-- the same of what was seen
+pub fault_seen : (seen : RunsSeen) (runs : List ℕ) (why : Refusal) → seen ≡ runs_seen runs → run_of_all seen.first seen.differ ≡ Err why → runs_fault runs ≡ Some why
+fault_seen seen runs why is told = seen_fault runs why (subst (λ (s : RunsSeen). run_of_all s.first s.differ ≡ Err why) is told)
+
+pub one_seen : (seen : RunsSeen) (runs : List ℕ) (one : ℕ) → seen ≡ runs_seen runs → run_of_all seen.first seen.differ ≡ Ok one → (slice_get runs 0 ≡ Some one) × (runs_fault runs ≡ None)
+one_seen seen runs one is told = seen_one runs one (subst (λ (s : RunsSeen). run_of_all s.first s.differ ≡ Ok one) is told)
+
+pub more_seen : (seen next : RunsSeen) (runs : List ℕ) (run : ℕ) → seen ≡ runs_seen runs → next ≡ with_run seen.first seen.differ run → next ≡ runs_seen (runs ++ run ∷ [])
+more_seen seen next runs run is more = more ∙ (ap (λ (s : RunsSeen). with_run s.first s.differ run) is ∙ seen_more runs run)

@@ -1,5 +1,5 @@
 -- The headers of parts that are joined, and the header of their join.
-use Rattle.std.specs.Prelude.{◌≡◌, ◌⊎◌, ◌≤◌, ◌==◌, not, ℕ, zero, suc, List, [], ◌∷◌, Option, Some, None, Result, Ok, Err, length, map, if◌then◌else◌, ⊤}
+use Rattle.std.specs.Prelude.{◌≡◌, ◌⊎◌, ◌≤◌, ◌==◌, ◌||◌, not, Bool, true, false, ℕ, zero, suc, List, [], ◌∷◌, Option, Some, None, Result, Ok, Err, length, map, if◌then◌else◌, ⊤}
 use Rattle.std.specs.List.{All, list_any}
 use Rattle.pc_types.specs.Fields.{◌>>=◌}
 use Rattle.pc_types.specs.declared.Refusal.{Refusal}
@@ -8,6 +8,7 @@ use Rattle.pc_model.specs.Sets as set
 use Rattle.pc_model.specs.Sets.{Set, number_order}
 use Rattle.pc_part.specs.declared.ranges.Range.{Range}
 use Rattle.pc_part.specs.Parts.{AreRanges, points_of}
+use Rattle.pc_stream_join.specs.declared.headers.RunsSeen.{RunsSeen}
 use Rattle.pc_streams.specs.declared.reader.PartReader.{PartReader}
 use Rattle.pc_streams.specs.Readers.{KeepsToRanges, StaysKnown, coming_of, header_of, ranges_read, reads_within, standing_of}
 use Rattle.pc_streams.specs.Refusals.{IsReadRefusal}
@@ -21,6 +22,22 @@ all_headers (header ∷ headers) = header >>= λ first. all_headers headers >>= 
 abbrev pub runs_fault : List ℕ → Option Refusal
 runs_fault [] = Some NoFile
 runs_fault (run ∷ others) = if list_any (λ other. not (other == run)) others then Some OtherRun else None
+
+-- what is seen of parts of these runs, one after the other: the first one, and whether another one is of another run
+abbrev pub runs_seen : List ℕ → RunsSeen
+runs_seen [] = record { first = None; differ = false }
+runs_seen (run ∷ others) = record { first = Some run; differ = list_any (λ other. not (other == run)) others }
+
+-- the same with one more of this run
+abbrev pub with_run : Option ℕ → Bool → ℕ → RunsSeen
+with_run None differ run = record { first = Some run; differ = false }
+with_run (Some first) differ run = record { first = Some first; differ = differ || not (run == first) }
+
+-- the run of all
+abbrev pub run_of_all : Option ℕ → Bool → Result ℕ Refusal
+run_of_all None differ = Err NoFile
+run_of_all (Some run) true = Err OtherRun
+run_of_all (Some run) false = Ok run
 
 -- the same where headers may be refused
 abbrev pub headers_fault : Result (List (ℕ × List Range)) Refusal → Option Refusal

@@ -1,13 +1,12 @@
 //! The headers of several parts, made one.
-ghost use Rattle.std.specs.Prelude.{◌≡◌, ◌≢◌, ◌⊎◌, [], Some, None, Err, IsOk, IfOk, IfErr, OnOk, length, map, not, slice_get, ◌==◌};
-ghost use Rattle.std.specs.List.{list_any};
+ghost use Rattle.std.specs.Prelude.{◌≡◌, ◌≢◌, ◌⊎◌, ℕ, List, [], Some, Ok, Err, IsOk, IfOk, IfErr, OnOk, OnErr, length, map};
 ghost use Rattle.pc_model.specs.Sets as set;
 ghost use Rattle.pc_types.specs.declared.Refusal.{Refusal};
 ghost use Rattle.pc_part.specs.Parts.{AreRanges, points_of};
 ghost use Rattle.pc_merge.specs.Standings.{AllStand};
 ghost use Rattle.pc_streams.specs.Readers.{header_of, standing_of};
 ghost use Rattle.pc_streams.specs.Refusals.{IsReadRefusal};
-ghost use Rattle.pc_stream_join.specs.Headers.{AreApart, AreHeaded, AreReadTo, IsHeadersFault, IsHeadersRefusal, MayBeRanges, StayKnown, points_read, runs_fault};
+ghost use Rattle.pc_stream_join.specs.Headers.{AreApart, AreHeaded, AreReadTo, IsHeadersFault, IsHeadersRefusal, MayBeRanges, StayKnown, points_read, run_of_all, runs_fault, runs_seen, with_run};
 
 use pc_part::{PartHeader, Range, union_ranges};
 use pc_streams::PartReader;
@@ -18,7 +17,7 @@ use std::io::Read;
 /// The header of the join of the inputs, which is written in format 02: their run, and the points of all as ranges. The header of each
 /// input, whose text is in either format, is read where it isn't yet, in their order, and nothing behind it. Refuses, in this order: with
 /// what the first input refuses that does; with `NoFile` exactly where there are no inputs; with `OtherRun` exactly where all headers are
-/// read and two are of different runs. Where there are inputs it refuses with `OutOfMemory` where memory ran out.
+/// read and two are of different runs. Where the headers agree it refuses with `OutOfMemory` alone.
 pub fn read_headers<R: Read>(
     alloc: Global,
     inputs: &mut [PartReader<R>],
@@ -28,11 +27,12 @@ pub fn read_headers<R: Read>(
     ensures stays { OnOk result (StayKnown R.remaining inputs.old inputs.new) }
     ensures cause { IfErr result (IsHeadersFault (map (header_of R.remaining) inputs.old)) }
     ensures none { inputs.old ≡ [] → result ≡ Err Refusal.NoFile }
+    ensures two_runs { (runs : List ℕ) → AreReadTo R.remaining (length inputs.old) inputs.old inputs.new runs → runs_fault runs ≡ Some Refusal.OtherRun → result ≡ Err Refusal.OtherRun }
     ensures refusals { IfErr result (IsHeadersRefusal R.remaining inputs.old inputs.new) }
     ensures stand { AllStand (map standing_of inputs.old) (map standing_of inputs.new) result }
 {
-    let runs = read_runs(alloc, inputs)?;
-    let run = one_run(&runs)?;
+    let seen = read_runs(inputs)?;
+    let run = seen.one()?;
     let ranges = unite_all(alloc, inputs)?;
     let format = Format::Second;
     Ok(PartHeader {
@@ -42,41 +42,63 @@ pub fn read_headers<R: Read>(
     })
 }
 
-// The run of each input.
-fn read_runs<R: Read>(alloc: Global, inputs: &mut [PartReader<R>]) -> Result<Vec<u64>, Refusal>
-    ensures read { IfOk result (λ runs. AreReadTo R.remaining (length inputs.old) inputs.old inputs.new runs.items) }
+// What was seen of the runs of several parts: the first one, and whether another one is of another run.
+#[derive(Clone, Copy)]
+pub(crate) struct RunsSeen {
+    first: Option<u64>,
+    differ: bool,
+}
+
+impl RunsSeen {
+    // One more is of this run.
+    fn and(self, run: u64) -> RunsSeen
+        ensures { result ≡ with_run self.first self.differ run }
+    {
+        match self.first {
+            None => RunsSeen {
+                first: Some(run),
+                differ: false,
+            },
+            Some(first) => RunsSeen {
+                first: Some(first),
+                differ: self.differ || run != first,
+            },
+        }
+    }
+
+    // The run of all.
+    fn one(self) -> Result<u64, Refusal>
+        ensures one { IfOk result (λ run. run_of_all self.first self.differ ≡ Ok run) }
+        ensures fault { IfErr result (λ why. run_of_all self.first self.differ ≡ Err why) }
+    {
+        let Some(run) = self.first else {
+            return Err(Refusal::NoFile);
+        };
+        if self.differ {
+            return Err(Refusal::OtherRun);
+        }
+        Ok(run)
+    }
+}
+
+// Reads the run of each input; it takes no memory of its own.
+fn read_runs<R: Read>(inputs: &mut [PartReader<R>]) -> Result<RunsSeen, Refusal>
+    ensures read { IfOk result (λ seen. (runs : List ℕ) × AreReadTo R.remaining (length inputs.old) inputs.old inputs.new runs × (seen ≡ runs_seen runs)) }
+    ensures unread { OnErr result ((runs : List ℕ) → ¬ AreReadTo R.remaining (length inputs.old) inputs.old inputs.new runs) }
     ensures cause { IfErr result (IsHeadersFault (map (header_of R.remaining) inputs.old)) }
     ensures none { inputs.old ≡ [] → IsOk result }
     ensures refusals { IfErr result IsReadRefusal }
     ensures stand { AllStand (map standing_of inputs.old) (map standing_of inputs.new) result }
 {
-    let mut runs = Vec::new(alloc);
+    let mut seen = RunsSeen {
+        first: None,
+        differ: false,
+    };
     for place in 0..inputs.len() {
         let run = inputs[place].header()?;
-        runs.push(run)?;
+        seen = seen.and(run);
     }
-    Ok(runs)
-}
-
-// The run of all.
-fn one_run(runs: &[u64]) -> Result<u64, Refusal>
-    ensures one { IfOk result (λ run. (slice_get runs.now 0 ≡ Some run) × (runs_fault runs.now ≡ None)) }
-    ensures fault { IfErr result (λ why. runs_fault runs.now ≡ Some why) }
-{
-    let [run, others @ ..] = runs else {
-        return Err(Refusal::NoFile);
-    };
-    if has_other(others, *run) {
-        return Err(Refusal::OtherRun);
-    }
-    Ok(*run)
-}
-
-// Whether one of them is of another run.
-fn has_other(others: &[u64], run: u64) -> bool
-    ensures { result ≡ list_any (λ other. not (other == run)) others.now }
-{
-    others.iter().any(|other| *other != run)
+    Ok(seen)
 }
 
 // The ranges of the points of all inputs, whose headers are read.

@@ -2,7 +2,6 @@
 use Rattle.std.proofs.Common.{◌≡◌, ◌⊎◌, ℕ, zero, suc, ◌+◌, ◌<◌, ◌≤◌, ◌^◌, ◌++◌, Bool, true, false, List, [], ◌∷◌, length, length-append, map, take, drop, get_or, refl, sym, ap, subst, ◌∙◌, inl, inr, arith}
 use Rattle.std.specs.List.{flat_map}
 use Rattle.std.specs.Prelude.{IsTrue, ◌||◌, All, Option, Some, None, is_some}
-use Rattle.std.proofs.lemmas.List.Elements.{All-head, All-tail}
 use Rattle.std.proofs.lemmas.List.{drop_more, take-append-drop}
 use Rattle.std.proofs.lemmas.List.Concat.{flat_map-append}
 use Rattle.pc_types.specs.declared.refusal.Refusal.{Refusal}
@@ -17,18 +16,13 @@ use Rattle.pc_jobs.specs.declared.works.ClientTask.{ClientTask}
 use Rattle.pc_jobs.specs.Jobs.{job_of}
 use Rattle.pc_shared.specs.Sitters.{Sitter}
 use Rattle.pc_types.specs.declared.tally.Tally.{Tally}
-use Rattle.pc_board.specs.Passes.{Pass}
-use Rattle.pc_latch.specs.Tickets.{IsNoTicket}
-use Rattle.pc_workers.specs.Collapsing.{IsShown}
-use Rattle.pc_workers.specs.Collapsing as collapsing
 use Rattle.pc_threads.specs.declared.fault.ThreadsFault.{ThreadsFault}
 use Rattle.pc_threads.specs.declared.fault.ThreadsFault.TheVariants as fault
 use Rattle.pc_threads.specs.Clients.{HasDone, ClientHasStopped, HaveStopped, HaveWorked, clients_in, first_of, jobs_in, jobs_of, transactions_in}
 use Rattle.pc_threads.specs.declared.files.FileFault.{FileFault}
 use Rattle.pc_threads.specs.declared.files.FileFault.TheVariants as lost
 use Rattle.pc_threads.specs.declared.threads.LogFault.{LogFault}
-use Rattle.pc_threads.specs.declared.threads.CollapseFault.{CollapseFault}
-use Rattle.pc_threads.specs.Faults.{CollapserHasStopped, IsThreadsEnd, IsStop, LogHasStopped, fault_of}
+use Rattle.pc_threads.specs.Faults.{IsThreadsEnd, IsStop, LogHasStopped, fault_of}
 
 -- as many are given up at most as there are
 pub at_most : (way : ℕ → List Bool → History → History → Type 0) (jobs : List Job) (given_up : ℕ) (old new : Sitter) → HasDone way jobs given_up old new → given_up ≤ length jobs
@@ -116,7 +110,6 @@ wider_stop a b m n p q why.Device on low few stop = on stop
 wider_stop a b m n p q why.Full on low few stop = omega (arith, low, stop)
 wider_stop a b m n p q why.PointsFull on low few stop = omega (arith, few, stop)
 wider_stop a b m n p q why.LogFull on low few stop = omega (arith, few, stop)
-wider_stop a b m n p q why.NoFile on low few stop = omega (arith, few, stop)
 wider_stop a b m n p q other on low few stop = absurd stop
 
 pub more_end : (a b : Bool) (m n p q : ℕ) (given : ThreadsFault) → (IsTrue a → IsTrue b) → m ≤ n → p ≤ q → IsThreadsEnd a m p given → IsThreadsEnd b n q given
@@ -167,30 +160,7 @@ pub right_true : (a b : Bool) → IsTrue b → IsTrue (a || b)
 right_true true b is = refl
 right_true false b is = is
 
-pub from_none : (b : Bool) → IsTrue false → IsTrue b
-from_none b is = absurd (cc (is))
-
 -- ---- what the other threads stop for
-
--- a collapser, which has claimed a number of a point
-last_shown : (points : ℕ) (pass : Pass) (earlier : List ℕ) (last : ℕ) → All (IsShown points pass) (earlier ++ last ∷ []) → last < points
-last_shown points pass [] last shown = (All-head (IsShown points pass) last [] shown).0
-last_shown points pass (n ∷ more) last shown = last_shown points pass more last (All-tail (IsShown points pass) n (more ++ last ∷ []) shown)
-
-pub collapser_stops : {N : Type 0} (st : Setting) (points : ℕ) (before after : Pass) (stop : CollapseFault N) → collapsing.CollapserHasStopped st points stop.seen before after stop.why → (stop.why ≡ why.NoFile) ⊎ (stop.why ≡ OutOfMemory)
-    → CollapserHasStopped st points stop
-collapser_stops st points before after stop stopped (inr memory) = inl memory
-collapser_stops st points before after stop stopped (inl none) = elim stopped.cause [
-  | inl memory ↦ inl memory
-  | inr it ↦
-      let low = last_shown points after it.0 it.1 (subst (All (IsShown points after)) it.2 stopped.shown) in
-      inr (none, it.3, (suc it.1, omega arith, omega (arith, low), subst (IsNoTicket st stop.seen (suc it.1)) none it.4))
-]
-
--- which ends a run of some points
-pub collapser_ends : {N : Type 0} (st : Setting) (points : ℕ) (stop : CollapseFault N) → CollapserHasStopped st points stop → IsStop false 0 points stop.why
-collapser_ends st points stop (inl memory) = memory_stops false 0 points stop.why memory
-collapser_ends st points stop (inr (none, legal, (point, some, low, lacks))) = subst (IsStop false 0 points) (sym none) (omega (arith, some, low))
 
 -- what the checkpointer stops for, who takes some of the points
 pub point_ends : (has_log there : Bool) (n some points : ℕ) (given : ThreadsFault) → some ≤ points → IsThreadsEnd there 0 some given → IsThreadsEnd (has_log || there) n points given

@@ -8,14 +8,12 @@ use Rattle.pc_types.specs.declared.tally.Tally.{Tally}
 use Rattle.pc_model.specs.Calls.{IsBeginning}
 use Rattle.pc_model.specs.History.{History}
 use Rattle.pc_model.specs.Replies.{Setting, IsLegalHistory, log_is_full}
-use Rattle.pc_latch.specs.Tickets.{HasNoFile}
 use Rattle.pc_texts.specs.declared.file_names.FileName.{FileName}
 use Rattle.pc_threads.specs.declared.fault.ThreadsFault.{ThreadsFault}
 use Rattle.pc_threads.specs.declared.fault.ThreadsFault.TheVariants as fault
 use Rattle.pc_threads.specs.declared.files.FileFault.{FileFault}
 use Rattle.pc_threads.specs.declared.files.FileFault.TheVariants as lost
 use Rattle.pc_threads.specs.declared.points.PointsFault.{PointsFault}
-use Rattle.pc_threads.specs.declared.threads.CollapseFault.{CollapseFault}
 use Rattle.pc_threads.specs.declared.threads.LogFault.{LogFault}
 
 -- The file of this name can't be made; or the device failed in a call of the file, which is handed back: of its calls more have failed
@@ -35,12 +33,6 @@ abbrev pub LogHasStopped : {T : Type 0} → Option (Tally T) → LogFault T → 
 LogHasStopped None stop = ⊥
 LogHasStopped (Some log) stop = (stop.why ≡ refusal.OutOfMemory) ⊎ ((stop.why ≡ refusal.Device) × HasRisen log.failures stop.out.failures)
 
--- A collapser of so many points has stopped, and hands its witness back: memory ran out, or the shelf of the legal history that it has
--- seen has no file of one of the points.
-abbrev pub CollapserHasStopped : {N : Type 0} → Setting → ℕ → CollapseFault N → Type 0
-CollapserHasStopped st points stop =
-    (stop.why ≡ refusal.OutOfMemory) ⊎ ((stop.why ≡ refusal.NoFile) × IsLegalHistory st stop.seen × ((point : ℕ) × (1 ≤ point) × (point ≤ points) × HasNoFile st stop.seen point))
-
 -- a witness has seen a legal history that begins with this one, and whose log has no place left
 abbrev pub ShowsLogFull : Setting → History → Option History → Type 0
 ShowsLogFull st first None = ⊥
@@ -48,14 +40,13 @@ ShowsLogFull st first (Some shown) = IsLegalHistory st shown × IsBeginning firs
 
 -- Why one of the threads of a run has stopped, where files are written or not, there are so many transactions, and so many points
 -- are due: memory ran out; a file that is written was lost; more transactions were given up than 64 bits can count; more points are
--- due than there can be; or, where points are due, the log has no place left, or a point's file isn't there.
+-- due than there can be; or, where points are due, the log has no place left.
 abbrev pub IsStop : Bool → ℕ → ℕ → Refusal → Type 0
 IsStop writes transactions points refusal.OutOfMemory = ⊤
 IsStop writes transactions points refusal.Device = IsTrue writes
 IsStop writes transactions points refusal.Full = 2 ^ 64 ≤ transactions
 IsStop writes transactions points refusal.PointsFull = MOST_POINTS < points
 IsStop writes transactions points refusal.LogFull = 0 < points
-IsStop writes transactions points refusal.NoFile = 0 < points
 IsStop writes transactions points other = ⊥
 
 -- the fault that this is of the run: besides, a file that is to be written can't be made, or a thread can't be started

@@ -136,7 +136,7 @@ fn run_job<N: StoreName, R: Wait, G: ClientGate>(
     ensures done { IfOk result (λ given_up. HasDone (IsTaskDone N.name.setting (ClientTask.Once job.now)) (job.now ∷ []) given_up session.old session.new) }
     ensures stopped { IfErr result (ClientHasStopped (is_some room.now.lag) (job.now ∷ [])) }
 {
-    if room.lag.is_some() && room.shared.has_log_ended() {
+    if room.lag.is_some() && room.shared.log_end_mark().is_some() {
         return Err(Refusal::Device);
     }
     let ended = client_loop(

@@ -19,8 +19,8 @@ pub struct Room<'a, N: StoreName, G: Gate> {
 }
 
 impl<'a, N: StoreName, G: Gate> Room<'a, N, G> {
-    /// A worker has ended; where it was the last one, no client commits any more.
-    pub fn leave<R: Wait>(&self, rt: &R) {
+    // A worker has ended; where it was the last one, no client commits any more.
+    pub(crate) fn leave<R: Wait>(&self, rt: &R) {
         if self.working.fetch_sub(1, Ordering::SeqCst) == 1 {
             self.shared.mark_last_commit(rt);
         }

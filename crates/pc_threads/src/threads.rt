@@ -6,7 +6,7 @@ ghost use Rattle.pc_model.specs.History.{phase_of};
 ghost use Rattle.pc_shared.specs.Written.{CountsAsOut};
 ghost use Rattle.pc_workers.specs.Covering.{HaveOnlyTo};
 ghost use Rattle.pc_threads.specs.Clients.{HaveWorked, clients_in, transactions_in};
-ghost use Rattle.pc_threads.specs.Faults.{CollapserHasStopped, IsThreadsEnd, LogHasStopped};
+ghost use Rattle.pc_threads.specs.Faults.{IsThreadsEnd, LogHasStopped};
 ghost use Rattle.pc_threads.specs.Logs.{HasLogged};
 ghost use Rattle.pc_threads.specs.Rested.{IsLeftByHands, IsLeftByWorkers};
 
@@ -117,25 +117,8 @@ impl<N: StoreName, F: Write> Promise<Result<Written<N, F>, LogFault<F>>> for Log
     ghost kept_by = { λ given written. IfOk written (λ w. HasLogged F.contents N.name.setting.run given.0.value.out w.out w.pass) × IfErr written (LogHasStopped given.0.value.out) };
 }
 
-/// Why a collapser has stopped before the end, and its witness.
-#[derive(Drop)]
-pub(crate) struct CollapseFault<N: StoreName> {
-    pub(crate) why: Refusal,
-    pub(crate) seen: Witness<N>,
-}
-
-impl<N: StoreName> From<CollapseFault<N>> for ThreadsFault {
-    ghost use Rattle.std.specs.Prelude.{◌≡◌};
-    ghost use Rattle.pc_threads.specs.declared.fault.ThreadsFault.TheVariants.{Refused};
-
-    ghost from_gives = { λ stop fault. fault ≡ Refused stop.why };
-
-    fn from(stop: CollapseFault<N>) -> ThreadsFault {
-        ThreadsFault::Refused(stop.why)
-    }
-}
-
-// Joins the files of points as they are published. The tickets that the collapser holds in the end. All that it is given stands
+// Joins the files of points as they are published. The tickets that the collapser holds in the end; none where a file isn't there by
+// what its witness has seen: the checkpointer then takes those of all points that no collapser holds. All that it is given stands
 // by itself, and not in a room: else nothing is known of the thread that runs it.
 fn collapse<N: StoreName, R: Wait, G: Gate>(
     rt: &R,
@@ -146,41 +129,41 @@ fn collapse<N: StoreName, R: Wait, G: Gate>(
     number: u8,
     points: u32,
     gate: &G,
-) -> Result<Vec<PartTicket<N>>, CollapseFault<N>>
+) -> Result<Vec<PartTicket<N>>, Refusal>
     requires { IsOfBoard pass board.now }
     ensures only { IfOk result (λ tickets. HaveOnlyTo points tickets.items) }
-    ensures stopped { IfErr result (CollapserHasStopped N.name.setting points) }
+    ensures memory { IfErr result (λ why. why ≡ Refusal.OutOfMemory) }
 {
     let mut seen = shared.witness(rt);
     match collapse_loop(
         rt, alloc, shared, &mut seen, board, &mut pass, number, points, gate,
     ) {
         Ok(held) => Ok(held),
-        Err(why) => Err(CollapseFault { why, seen }),
+        Err(Refusal::NoFile) => Ok(Vec::new(alloc)),
+        Err(_) => Err(Refusal::OutOfMemory),
     }
 }
 
-// The promise of tickets whose files have no points but those from 1 to this, or that memory ran out, or one of their files isn't
-// there by what the witness has seen that is handed back.
+// The promise of tickets whose files have no points but those from 1 to this, or that memory ran out.
 #[derive(Clone, Copy)]
 struct UpTo(u32);
 
-impl<N: StoreName> Promise<Result<Vec<PartTicket<N>>, CollapseFault<N>>> for UpTo {
-    ghost use Rattle.std.specs.Prelude.{IfErr, IfOk};
+impl<N: StoreName> Promise<Result<Vec<PartTicket<N>>, Refusal>> for UpTo {
+    ghost use Rattle.std.specs.Prelude.{◌≡◌, IfErr, IfOk};
+    ghost use Rattle.pc_types.specs.declared.refusal.Refusal.TheVariants.{OutOfMemory};
     ghost use Rattle.pc_workers.specs.Covering.{HaveOnlyTo};
-    ghost use Rattle.pc_threads.specs.Faults.{CollapserHasStopped};
 
-    ghost kept_by = { λ most held. IfOk held (λ tickets. HaveOnlyTo most.0 tickets.items) × IfErr held (CollapserHasStopped N.name.setting most.0) };
+    ghost kept_by = { λ most held. IfOk held (λ tickets. HaveOnlyTo most.0 tickets.items) × IfErr held (λ why. why ≡ OutOfMemory) };
 }
 
 // The tickets of all collapsers, once their threads have ended.
 fn join_collapsers<N: StoreName, R: Threads>(
     rt: &R,
     alloc: Global,
-    handles: Vec<PromisedHandle<Result<Vec<PartTicket<N>>, CollapseFault<N>>, UpTo>>,
+    handles: Vec<PromisedHandle<Result<Vec<PartTicket<N>>, Refusal>, UpTo>>,
 ) -> Result<Vec<PartTicket<N>>, ThreadsFault>
     ensures only { (points : ℕ) → All (λ handle. handle.promise.0 ≡ points) handles.items → IfOk result (λ held. HaveOnlyTo points held.items) }
-    ensures ended { (points : ℕ) → All (λ handle. handle.promise.0 ≡ points) handles.items → IfErr result (IsThreadsEnd false 0 points) }
+    ensures ended { IfErr result (λ fault. fault ≡ ThreadsFault.Refused Refusal.OutOfMemory) }
 {
     let mut held = Vec::new(alloc);
     for handle in handles {

@@ -12,4 +12,5 @@ mod WaitLaws
 mod OpenLaws
 mod AskedLaws
 pub mod AttemptLaws
+mod BeginLaws
 pub mod RunLaws

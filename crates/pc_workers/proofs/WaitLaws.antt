@@ -11,7 +11,8 @@ use Rattle.pc_types.specs.declared.Receipt.{Receipt}
 use Rattle.pc_types.specs.declared.Write.{Write}
 use Rattle.pc_model.specs.History.{History, log_of, writes_of}
 use Rattle.pc_model.specs.Replies.{Setting, IsLegalHistory, first_refusal, transaction_causes, log_is_full}
-use Rattle.pc_model.specs.Calls.{step_of, Extends}
+use Rattle.pc_model.specs.Calls.{step_of, Extends, IsBeginning}
+use Rattle.pc_model.proofs.BeginningLaws.{beginning_self, beginning_trans}
 use Rattle.pc_model.proofs.EffectLaws.{first_refusal_refuses}
 use Rattle.pc_shared.specs.Sitters.{Sitter, sitter}
 use Rattle.pc_shared.specs.Written.{AreOut}
@@ -69,18 +70,18 @@ module _ (out : List ℕ → Type 0) (st : Setting) where
       no_list w ws e = cc (e)
 
   -- without another commit
-  still_held : (old new : Bool) (a b : Sitter) (most : ℕ) → (old ≡ true → new ≡ true) → HasCommitted [] a b → (old ≡ false → AreHeld out st most a) → new ≡ false → AreHeld out st most b
-  still_held old new a b most on done held ended =
+  still_held : (old new : Bool) (a b : Sitter) (most : ℕ) → (old ≡ true → new ≡ true) → HasCommitted [] a b → IsBeginning a.seen b.seen → (old ≡ false → AreHeld out st most a) → new ≡ false → AreHeld out st most b
+  still_held old new a b most on done begins held ended =
       let h = held (not_before old new on ended) in
       let receipts : b.receipts ≡ a.receipts = done.receipts ∙ nothing_more a.receipts done.more done.writes in
-      subst (λ (y : ℕ × List Receipt). (seen : History) × IsHeld out st most (sitter y.0 seen y.1)) (λ i. (sym done.number i, sym receipts i)) h
+      (h.0, beginning_trans h.0 a.seen b.seen h.1 begins, subst (λ (y : ℕ × List Receipt). IsHeld out st most (sitter y.0 h.0 y.1)) (λ i. (sym done.number i, sym receipts i)) h.2)
 
   -- behind the next job
-  pub next_held : (lag mine : Option ℕ) (old new : Bool) (a b : Sitter) (ended : EndedTransaction) (writes : List Write) (commits more : ℕ) → mine ≡ lag → (old ≡ true → new ≡ true) → HasCommitted (done_by ended writes) a b
+  pub next_held : (lag mine : Option ℕ) (old new : Bool) (a b : Sitter) (ended : EndedTransaction) (writes : List Write) (commits more : ℕ) → mine ≡ lag → (old ≡ true → new ≡ true) → HasCommitted (done_by ended writes) a b → IsBeginning a.seen b.seen
       → (ended ≡ Committed → HasWaited out st mine new b) → more ≡ commits + length (done_by ended []) → IfSome lag (λ most. 0 < commits → old ≡ false → AreHeld out st most a)
       → IfSome lag (λ most. 0 < more → new ≡ false → AreHeld out st most b)
-  next_held None mine old new a b ended writes commits more is on done waits count held = tt
-  next_held (Some most) mine old new a b Committed writes commits more is on done waits count held =
-      λ some unended. (b.seen, subst (λ (o : Option ℕ). IfSome o (λ n. new ≡ false → IsHeld out st n b)) is (waits refl) unended)
-  next_held (Some most) mine old new a b Died writes commits more is on done waits count held = λ some. still_held old new a b most on done (held (omega (arith, some, count)))
-  next_held (Some most) mine old new a b Refused writes commits more is on done waits count held = λ some. still_held old new a b most on done (held (omega (arith, some, count)))
+  next_held None mine old new a b ended writes commits more is on done begins waits count held = tt
+  next_held (Some most) mine old new a b Committed writes commits more is on done begins waits count held =
+      λ some unended. (b.seen, beginning_self b.seen, subst (λ (o : Option ℕ). IfSome o (λ n. new ≡ false → IsHeld out st n b)) is (waits refl) unended)
+  next_held (Some most) mine old new a b Died writes commits more is on done begins waits count held = λ some. still_held old new a b most on done begins (held (omega (arith, some, count)))
+  next_held (Some most) mine old new a b Refused writes commits more is on done begins waits count held = λ some. still_held old new a b most on done begins (held (omega (arith, some, count)))

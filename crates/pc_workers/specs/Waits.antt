@@ -1,6 +1,7 @@
 -- What a client knows that waits for the log.
 use Rattle.std.specs.Prelude.{◌≡◌, ℕ, ◌-◌, Bool, true, false, List, length, Option, IfSome, is_some}
 use Rattle.pc_model.specs.History.{History, log_of}
+use Rattle.pc_model.specs.Calls.{IsBeginning}
 use Rattle.pc_model.specs.Receipts.{own_of}
 use Rattle.pc_model.specs.Replies.{Setting, IsLegalHistory}
 use Rattle.pc_shared.specs.Sitters.{Sitter, sitter}
@@ -26,6 +27,6 @@ pub record KeepsMark {X : Type 0} (is_ours : X → Type 0) (old new : Option X) 
   pub stays : is_some old ≡ true → is_some new ≡ true
   pub ours : IfSome old is_ours → IfSome new is_ours
 
--- it was so when the session had seen some beginning that gives it the receipts that it has
+-- it was so when the session had seen some beginning of what it has seen that gives it the receipts that it has
 abbrev pub AreHeld : (List ℕ → Type 0) → Setting → ℕ → Sitter → Type 0
-AreHeld out st most s = (seen : History) × IsHeld out st most (sitter s.number seen s.receipts)
+AreHeld out st most s = (seen : History) × IsBeginning seen s.seen × IsHeld out st most (sitter s.number seen s.receipts)

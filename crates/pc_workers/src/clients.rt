@@ -1,5 +1,6 @@
 //! A client's loop: a session runs jobs, each as a transaction.
 ghost use Rattle.std.specs.Prelude.{◌≡◌, ◌≢◌, ◌<◌, ◌-◌, ◌^◌, ◌+◌, true, false, [], length, IfOk, IfErr, IfSome, OnErr, MatchBool, is_some};
+ghost use Rattle.pc_model.specs.Calls.{IsBeginning};
 ghost use Rattle.pc_model.specs.History.{is_open};
 ghost use Rattle.pc_workers.specs.Attempts.{WasAborted, AreMade, OneDies, IsRefusedOp, IsStuck, IsAttempt, IsTried};
 ghost use Rattle.pc_workers.specs.Clients.{HasCommitted, HasRun, HasTried, done_by, written_by, wrote, wrote_all, writes_of};
@@ -25,7 +26,7 @@ pub struct Count {
 #[derive(Drop)]
 pub struct ClientEnd<'a> {
     pub count: Count,
-    /// The mark of the log's end, where the client went on from a commit for that, and not since enough of the log was written.
+    /// The mark of the log's end, where the client went on from a commit for that; once it has one, it keeps one.
     pub log_end: Option<LogEndMark<'a>>,
 }
 
@@ -229,6 +230,7 @@ fn attempt<'a, N: StoreName, R: Wait, G: ClientGate>(
     gate: &G,
 ) -> EndedTransaction
     ensures receipts { HasCommitted (done_by result (wrote_all [] ops.now)) session.old session.new }
+    ensures begins { IsBeginning session.old.seen session.new.seen }
     ensures attempt { is_open session.old.number session.old.seen ≡ false → IsAttempt N.name.setting session.old.number ops.now result session.old.seen session.new.seen }
     ensures lag { patience.new.lag ≡ patience.old.lag }
     ensures mark { KeepsMark (λ mark. mark.token.of ≡ shared.now.logged.ended.id) patience.old.log_end patience.new.log_end }
@@ -258,6 +260,7 @@ fn repeat<'a, N: StoreName, R: Wait, G: ClientGate>(
     gate: &G,
 ) -> EndedTransaction
     ensures receipts { HasCommitted (done_by result (wrote_all [] ops.now)) session.old session.new }
+    ensures begins { IsBeginning session.old.seen session.new.seen }
     ensures repeated { is_open session.old.number session.old.seen ≡ false → IsRepeated N.name.setting session.old.number ops.now result session.old.seen session.new.seen }
     ensures lag { patience.new.lag ≡ patience.old.lag }
     ensures mark { KeepsMark (λ mark. mark.token.of ≡ shared.now.logged.ended.id) patience.old.log_end patience.new.log_end }
@@ -287,6 +290,7 @@ fn try_job<'a, N: StoreName, R: Wait, G: ClientGate>(
     gate: &G,
 ) -> EndedTransaction
     ensures receipts { HasCommitted (done_by result (writes_of job.now)) session.old session.new }
+    ensures begins { IsBeginning session.old.seen session.new.seen }
     ensures tried { is_open session.old.number session.old.seen ≡ false → IsTried N.name.setting session.old.number job.now (mark_of result) session.old.seen session.new.seen }
     ensures lag { patience.new.lag ≡ patience.old.lag }
     ensures mark { KeepsMark (λ mark. mark.token.of ≡ shared.now.logged.ended.id) patience.old.log_end patience.new.log_end }
@@ -313,6 +317,7 @@ fn run<'a, N: StoreName, R: Wait, G: ClientGate>(
     gate: &G,
 ) -> EndedTransaction
     ensures receipts { HasCommitted (done_by result (writes_of job.now)) session.old session.new }
+    ensures begins { IsBeginning session.old.seen session.new.seen }
     ensures tried { is_open session.old.number session.old.seen ≡ false → IsTried N.name.setting session.old.number job.now (mark_of result) session.old.seen session.new.seen }
     ensures lag { patience.new.lag ≡ patience.old.lag }
     ensures mark { KeepsMark (λ mark. mark.token.of ≡ shared.now.logged.ended.id) patience.old.log_end patience.new.log_end }

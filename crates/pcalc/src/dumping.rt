@@ -3,7 +3,7 @@ use pc_disk::{Causes, FoundFolder, ReadFolder, open_folder, output_before, tell_
 use pc_explanations::{About, Explained, Explainer, explain_output, is_explained};
 use pc_lines::text_of;
 use pc_options::DumpOptions;
-use pc_pairs::{Choice, run_dump};
+use pc_pairs::{Choice, Form, run_dump};
 use pc_restore::tell_lost;
 use pc_serve::RecoveredFolder;
 use pc_texts::report_words;
@@ -73,8 +73,14 @@ fn dump<E: Write>(
     let choice = Choice {
         space: options.space,
         prefix: prefix.as_slice(),
+        form: form_of(options.is_json),
     };
     dump_to(dir, &choice, options.accepts_damage, &mut out, errors)
+}
+
+/// The form of lines that are JSON, or aren't.
+pub fn form_of(is_json: bool) -> Form {
+    if is_json { Form::Json } else { Form::Words }
 }
 
 fn dump_to<W: Write, E: Write>(

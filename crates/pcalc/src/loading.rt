@@ -1,4 +1,5 @@
 //! A folder that is made of lines of pairs.
+use crate::dumping::form_of;
 use crate::parts::open_named;
 use crate::run_folder::{Claim, NewFolder};
 use itoa::Buffer;
@@ -52,7 +53,8 @@ fn load<E: Write>(
             return Ok(FAILED);
         }
     };
-    match load_base(alloc, u64::from(options.run), &text) {
+    let form = form_of(options.is_json);
+    match load_base(alloc, u64::from(options.run), form, &text) {
         Ok(Some(base)) => make(explainer, options, &base, errors),
         Ok(None) => {
             let _ = report(options.dir.as_bytes(), Refusal::Full, errors);

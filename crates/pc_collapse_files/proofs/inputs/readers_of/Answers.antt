@@ -2,7 +2,7 @@ use Rattle.std.proofs.Common.{◌≡◌, [], sym, ap, subst, ◌∙◌, arith, l
 use Rattle.std.specs.Vec.Iter.{into_iter_items}
 use Rattle.std.proofs.lemmas.Result.{err_from_is_err_and}
 use Rattle.std.proofs.lemmas.List.{nil_from_length}
-use Rattle.pc_collapse_files.proofs.ReadFiles.{AreLeft, all_left, all_opened, all_read, one_less, unopened}
+use Rattle.pc_collapse_files.proofs.ReadFiles.{AreLeft, all_left, all_many, all_opened, all_read, one_less, unopened}
 use Rattle.pc_collapse_files.proofs.ReadLaws.{none_sound, sound_push}
 use Rattle.pc_collapse_files.proofs.inputs.readers_of.Goals as goal
 
@@ -36,6 +36,11 @@ pub returns-clause-readers : goal.returns-clause-readers
 returns-clause-readers g c =
     let none : into_iter_items c.loop-file.file-iterator ≡ [] = nil_from_length (into_iter_items c.loop-file.file-iterator) (sym c.loop-file.invariant.counted ∙ c.in-None.ensures.steps.0) in
     all_read g.R.Read.remaining c.args.files.items (into_iter_items c.loop-file.file-iterator) c.loop-file.readers.items none c.loop-file.invariant.left
+
+pub returns-clause-many : goal.returns-clause-many
+returns-clause-many g c =
+    let none : into_iter_items c.loop-file.file-iterator ≡ [] = nil_from_length (into_iter_items c.loop-file.file-iterator) (sym c.loop-file.invariant.counted ∙ c.in-None.ensures.steps.0) in
+    all_many g.R.Read.remaining c.args.files.items (into_iter_items c.loop-file.file-iterator) c.loop-file.readers.items none c.loop-file.invariant.left
 
 pub returns-clause-opened : goal.returns-clause-opened
 returns-clause-opened g c =

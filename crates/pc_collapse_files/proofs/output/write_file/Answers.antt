@@ -35,6 +35,7 @@ returns-clause-unwritten g c = λ files are.
     (λ none. join_tells c.args.inputs.readers c.join_entries.new.inputs c.in-Err-join_entries.why are.sound (failures_of c.join_entries.new.out) none
     (subst (λ (n : ℕ). JoinStands {X = ℕ} (map standing_of c.args.inputs.readers.items) (map standing_of c.join_entries.new.inputs) n (failures_of c.join_entries.new.out) (Err c.in-Err-join_entries.why)) c.new-file.ensures.none
     (subst (λ inputs. JoinStands {X = ℕ} (map standing_of inputs) (map standing_of c.join_entries.new.inputs) (failures_of c.new-file.result) (failures_of c.join_entries.new.out) (Err c.in-Err-join_entries.why)) c.deref_mut.ensures.value c.in-Err-join_entries.ensures.stand)))
+    c.in-Err-join_entries.ensures.refusals
     (λ known. short_of (g.F.Write.contents c.new-file.result.inner) _ (known c.new-file.result.inner) (known c.join_entries.new.out.inner) (rw c.new-file.ensures.inner c.in-Ok.ensures.empty) c.in-Err-join_entries.ensures.short)
     c.fault_of-fault.ensures
 

@@ -1,10 +1,10 @@
-use Rattle.std.proofs.Common.{◌≡◌, All, subst, sym}
+use Rattle.std.proofs.Common.{◌≡◌, All, ap, subst, sym}
 use Rattle.std.proofs.lemmas.List.Elements.{All-head, All-tail}
 use Rattle.std.proofs.lemmas.Result.{err_from_is_err_and}
-use Rattle.pc_threads.specs.Faults.{CollapserHasStopped}
+use Rattle.pc_types.specs.declared.refusal.Refusal.{Refusal}
+use Rattle.pc_threads.specs.declared.fault.ThreadsFault.TheVariants as fault
 use Rattle.pc_workers.specs.Covering.{HaveOnlyTo}
 use Rattle.pc_workers.proofs.CoverLaws.{both_to}
-use Rattle.pc_threads.proofs.StopLaws.{collapser_ends}
 use Rattle.pc_threads.proofs.threads.join_collapsers.Goals as goal
 
 pub loop-handle-preserved : goal.loop-handle-preserved
@@ -20,12 +20,6 @@ loop-handle-preserved g c points promised =
     )
 
 pub returns-in_err-tickets-clause-ended : goal.returns-in_err-tickets-clause-ended
-returns-in_err-tickets-clause-ended g c points promised =
+returns-in_err-tickets-clause-ended g c =
     let p = err_from_is_err_and c.from_residual.result c.from_residual.ensures.1 in
-    let was = c.loop-handle.invariant points promised in
-    let first = c.in-Some.handle in
-    let rest = subst (All (λ handle. handle.promise.0 ≡ points)) c.in-Some.ensures.steps.0 was.0 in
-    let its : first.promise.0 ≡ points = All-head (λ handle. handle.promise.0 ≡ points) first c.next.new.self.rest.items rest in
-    let st = g.N.StoreName.name.setting in
-    let stop = c.in_err-tickets.field-0.0 in
-    rw (p.1, p.2) (collapser_ends st points stop (subst (λ most. CollapserHasStopped st most stop) its c.in_err-tickets.ensures.1))
+    rw (p.1, p.2) (ap (λ (why : Refusal). fault.Refused why) c.in_err-tickets.ensures.1)

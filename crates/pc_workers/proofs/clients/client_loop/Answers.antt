@@ -18,7 +18,7 @@ loop-job-preserved g c =
       lag = c.run-ended.ensures.lag ∙ c.loop-job.invariant.lag;
       held =
           next_held g.N.StoreName.out g.N.StoreName.name.setting c.args.lag c.loop-job.patience.lag (is_some c.loop-job.patience.log_end) (is_some c.run-ended.new.patience.log_end) c.loop-job.session c.run-ended.new.session
-          c.run-ended.result (writes_of c.job-item.result) c.loop-job.count.commits c.note.new.self.commits c.loop-job.invariant.lag c.run-ended.ensures.mark.stays c.run-ended.ensures.receipts c.run-ended.ensures.held
+          c.run-ended.result (writes_of c.job-item.result) c.loop-job.count.commits c.note.new.self.commits c.loop-job.invariant.lag c.run-ended.ensures.mark.stays c.run-ended.ensures.receipts c.run-ended.ensures.begins c.run-ended.ensures.held
           c.note.ensures.commits c.loop-job.invariant.held;
       ours = c.run-ended.ensures.mark.ours c.loop-job.invariant.ours;
     }

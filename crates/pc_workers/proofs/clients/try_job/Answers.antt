@@ -5,6 +5,7 @@ use Rattle.pc_workers.specs.Clients.{HasCommitted, done_by, wrote_all}
 use Rattle.pc_workers.specs.Courses.{IsRepeated}
 use Rattle.pc_workers.specs.declared.clients.EndedTransaction.TheVariants.{Died}
 use Rattle.pc_model.specs.History.{is_open}
+use Rattle.pc_model.proofs.BeginningLaws.{beginning_trans}
 use Rattle.std.specs.Prelude.{◌≡◌, false, is_some}
 use Rattle.pc_workers.specs.Waits.{HasWaited}
 use Rattle.pc_workers.proofs.AttemptLaws.{tried_once, tried_again}
@@ -22,6 +23,9 @@ returns-in-Died-clause-tried g c = λ idle.
     (subst (λ (ops : List Op). IsAttempt st s ops Died old between.seen) c.as_slice-ops.ensures (c.in-Died.ensures.attempt idle))
     (subst (λ (ops : List Op). is_open between.number between.seen ≡ false → IsRepeated st between.number ops c.repeat.result between.seen new) c.as_slice-ops.ensures c.repeat.ensures.repeated)
 
+pub returns-in-Died-clause-begins : goal.returns-in-Died-clause-begins
+returns-in-Died-clause-begins g c = beginning_trans c.args.session.now.seen c.attempt.new.session.seen c.repeat.new.session.seen c.attempt.ensures.begins c.repeat.ensures.begins
+
 pub returns-in-Died-clause-mark : goal.returns-in-Died-clause-mark
 returns-in-Died-clause-mark g c = keeps_then _ _ _ _ c.in-Died.ensures.mark c.repeat.ensures.mark
 
@@ -37,6 +41,7 @@ returns-in_default g c =
     let new = c.attempt.new.session in
     record {
       receipts = subst (λ (ops : List Op). HasCommitted (done_by c.attempt.result (wrote_all [] ops)) old new) c.as_slice-ops.ensures c.attempt.ensures.receipts;
+      begins = c.attempt.ensures.begins;
       tried = λ idle. tried_once st s c.args.job.now c.attempt.result old.seen new.seen idle (subst (λ (ops : List Op). IsAttempt st s ops c.attempt.result old.seen new.seen) c.as_slice-ops.ensures (c.attempt.ensures.attempt idle)) c.in_default.not-Died;
       lag = c.attempt.ensures.lag;
       mark = c.attempt.ensures.mark;

@@ -1,0 +1,2 @@
+pub mod JsonLaws
+pub mod KeptByteLaws

@@ -1,0 +1,123 @@
+//! A line of JSON is read as a pair.
+ghost use Rattle.std.specs.Prelude.{◌≡◌, Some, None, IfOk, option_map, codes};
+ghost use Rattle.serde_json.specs.Find.{get};
+ghost use Rattle.serde_json.specs.View.{view};
+ghost use Rattle.pc_json.specs.JsonLines.{bytes_in, bytes_under, json_pair, member_count, most, object_pair, read_pair, space_member, space_number, text_under};
+
+use base64::DecodeAllocError;
+use base64::engine::general_purpose::STANDARD;
+use serde_json::{Category, Value};
+use std::alloc::{AllocError, Global};
+
+/// The pair that a line tells: the number of the key's space, its own bytes, and the value's. They may be too few or too many for a
+/// key or a value.
+#[derive(Drop)]
+pub struct JsonPair {
+    pub space: u16,
+    pub own: Vec<u8>,
+    pub value: Vec<u8>,
+}
+
+/// The pair of a line, without the line's end. `None` where the line is no JSON in UTF-8, nor an object that has just a key, a value
+/// and, where it has one, a space from 0 to 65,535.
+pub fn read_json(alloc: Global, line: &[u8]) -> Result<Option<JsonPair>, AllocError>
+    ensures { IfOk result (λ found. option_map read_pair found ≡ json_pair line.now) }
+{
+    let Ok(text) = str::from_utf8(line) else {
+        return Ok(None);
+    };
+    match Value::from_str(alloc, text) {
+        Ok(value) => object_pair(alloc, &value),
+        Err(why) => match why.classify() {
+            Category::Memory => Err(AllocError),
+            _ => Ok(None),
+        },
+    }
+}
+
+// The pair of an object.
+fn object_pair(alloc: Global, found: &Value) -> Result<Option<JsonPair>, AllocError>
+    ensures { IfOk result (λ pair. option_map read_pair pair ≡ object_pair (view found.now)) }
+{
+    if member_count(found) != most(found) {
+        return Ok(None);
+    }
+    let own = bytes_under(alloc, found, "key", "key64")?;
+    let value = bytes_under(alloc, found, "value", "value64")?;
+    match (space_member(found), own, value) {
+        (Some(space), Some(own), Some(value)) => Ok(Some(JsonPair { space, own, value })),
+        _ => Ok(None),
+    }
+}
+
+// How many members an object has.
+fn member_count(found: &Value) -> usize
+    ensures { result ≡ member_count (view found.now) }
+{
+    match found.as_object() {
+        Some(members) => members.len(),
+        None => 0,
+    }
+}
+
+// How many it may have.
+fn most(found: &Value) -> usize
+    ensures { result ≡ most (get (codes "space") (view found.now)) }
+{
+    match found.get("space") {
+        Some(_) => 3,
+        None => 2,
+    }
+}
+
+// The number of a space.
+fn space_member(found: &Value) -> Option<u16>
+    ensures { result ≡ space_member (get (codes "space") (view found.now)) }
+{
+    match found.get("space") {
+        Some(space) => space_number(space.as_u64()?),
+        None => Some(0),
+    }
+}
+
+fn space_number(number: u64) -> Option<u16>
+    ensures { result ≡ space_number number }
+{
+    u16::try_from(number).ok()
+}
+
+// The bytes of the member of the first name, or of the second, which has them in base64.
+fn bytes_under(
+    alloc: Global,
+    found: &Value,
+    name: &str,
+    name64: &str,
+) -> Result<Option<Vec<u8>>, AllocError>
+    ensures { IfOk result (λ bytes. option_map (λ b. b.items) bytes ≡ bytes_under name.now name64.now (view found.now)) }
+{
+    match (text_under(found, name), text_under(found, name64)) {
+        (Some(text), None) => Ok(Some(Vec::from_slice(alloc, text.as_bytes())?)),
+        (None, Some(text)) => decoded(alloc, text),
+        _ => Ok(None),
+    }
+}
+
+// The text of the member of this name.
+fn text_under<'a>(found: &'a Value, name: &str) -> Option<&'a str>
+    ensures { option_map (λ text. text.now) result ≡ text_under name.now (view found.now) }
+{
+    match found.get(name) {
+        Some(member) => member.as_str(),
+        None => None,
+    }
+}
+
+fn decoded(alloc: Global, text: &str) -> Result<Option<Vec<u8>>, AllocError>
+    ensures { IfOk result (λ bytes. option_map (λ b. b.items) bytes ≡ bytes_in None (Some text.now)) }
+{
+    match STANDARD.decode(alloc, text.as_bytes()) {
+        Ok(bytes) => Ok(Some(bytes)),
+        Err(DecodeAllocError::OutOfMemory) => Err(AllocError),
+        Err(DecodeAllocError::DecodeError(_)) => Ok(None),
+    }
+}
