@@ -52,7 +52,7 @@ struct EndedStore<N: StoreName, D> {
     seat: CheckpointerSeat<N>,
     // A ticket of each point whose file was written.
     written: Vec<PartTicket<N>>,
-    // Tickets that are to be joined.
+    // Tickets to join.
     joined: Vec<PartTicket<N>>,
     folder: Option<D>,
 }

@@ -56,7 +56,7 @@ impl<N: StoreName> GoneOut<N> {
         self.count
     }
 
-    /// Compares them with the log that the session has seen: the first `number` entries of that log are among them.
+    /// Compares them with the log that the session has seen: the first entries of that log, up to their number, are among them.
     pub(crate) fn compare(&mut self, tie: &Tie<N>, session: &mut SessionSeat<N>)
         ensures same { (self.new ≡ self.old) × (session.new ≡ session.old) }
         ensures out { (number : ℕ) → number ≤ self.old → AreOut N.out N.name.setting.run session.old.seen number }

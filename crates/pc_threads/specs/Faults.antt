@@ -1,4 +1,4 @@
--- What ends a run before its end.
+-- The faults that end a run before its end.
 use Rattle.std.specs.Prelude.{◌≡◌, ◌⊎◌, ◌≤◌, ◌<◌, ◌^◌, ⊤, ℕ, Bool, IsTrue, Option, Some, None}
 use Rattle.pc_types.specs.Counted.{HasRisen}
 use Rattle.pc_types.specs.declared.limits.TheConstants.{MOST_POINTS}

@@ -114,8 +114,8 @@ abbrev pub IsLast : Bool → ℕ → EndedTransaction → Type 0
 IsLast true deaths ended = ended ≡ Committed
 IsLast false deaths ended = (ended ≡ Refused) ⊎ ((ended ≡ Died) × (deaths ≡ MOST_REPEATS))
 
--- A job was tried: begun again after each death, at most 10,000 times, until it was committed, which is what the mark says, or
--- refused; and no transaction is open then.
+-- A job was tried: begun again after each death, at most 10,000 times, until it was committed, if it is marked, or refused; and no
+-- transaction is open then.
 pub record IsTried (st : Setting) (s : ℕ) (job : Job) (mark : Bool) (early late : History) : Type 0 where
   pub deaths : ℕ
   pub few : deaths ≤ MOST_REPEATS
