@@ -109,7 +109,7 @@ module _ (files : List (Result File Refusal)) (i : ℕ) (x : Result File Refusal
       ∙ sym (ap (λ fs. fold (noted point) (top_at before point) (read_files fs)) (first_left ∙ ap (λ y. y ∷ drop (i + 1) files) had))
       ∙ so_far point bound
 
-  -- a file that can't be used is left out
+  -- a file that can't be read is left out
   pub file_left_out : (why : Refusal) (tops : List (Option ℕ)) → x ≡ Err why → LeftToNote files i tops → LeftToNote files (i + 1) tops
   file_left_out why tops lost so_far point bound =
       sym (ap (λ fs. fold (noted point) (top_at tops point) (read_files fs)) (first_left ∙ ap (λ y. y ∷ drop (i + 1) files) lost)) ∙ so_far point bound

@@ -27,7 +27,7 @@ file_at run bytes = do
   file ← part_at bytes
   where_true (file.run == run) OtherRun file
 
--- the files, without those that can't be used
+-- the files, without those that can't be read
 abbrev pub read_files : List (Result File Refusal) → List File
 read_files [] = []
 read_files (Ok file ∷ others) = file ∷ read_files others

@@ -1,4 +1,4 @@
-//! The parts that can be used: read, and of the run.
+//! The parts that can be read: those whose bytes are a part of the run.
 ghost use Rattle.std.specs.Prelude.{◌≡◌, map, IfOk, IfErr};
 ghost use Rattle.pc_recover.specs.Recovery.{file_at, files_of};
 
@@ -6,7 +6,7 @@ use pc_part::Part;
 use pc_types::Refusal;
 use std::alloc::Global;
 
-/// A part, or why it can't be used: the fault of its bytes, or `OtherRun`.
+/// A part that was read, or why it can't be read: the fault of its bytes, or `OtherRun`.
 pub(crate) type Candidate = Result<Part, Refusal>;
 
 /// The parts of these bytes, in their order; each is read once. Its only error is `OutOfMemory`.
@@ -25,7 +25,7 @@ pub(crate) fn candidates(
     Ok(files)
 }
 
-// The part of these bytes, if it can be used.
+// The part of these bytes, if it can be read.
 fn candidate(alloc: Global, run: u64, bytes: &[u8]) -> Result<Candidate, Refusal>
     ensures file { IfOk result (λ file. file ≡ file_at run bytes.now) }
     ensures memory { IfErr result (λ e. e ≡ Refusal.OutOfMemory) }

@@ -22,8 +22,8 @@ pub(crate) struct Reach {
     pub(crate) missing: Option<Point>,
 }
 
-/// How far the usable files reach from the base's point. It takes a step for each point of each file and one for each of the 65,535
-/// points, and memory for as many numbers. Its only error is a failed allocation.
+/// How far the files that were read reach from the base's point. It takes a step for each point of each file and one for each of
+/// the 65,535 points, and memory for as many numbers. Its only error is a failed allocation.
 pub(crate) fn reach_from(
     alloc: Global,
     base: Point,

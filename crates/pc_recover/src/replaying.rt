@@ -14,7 +14,7 @@ use std::alloc::{AllocError, Global};
 // A log's text begins with this many bytes, which were written before the first entry.
 const HEADER: usize = 20;
 
-/// The result of a log: the database after it, the number of its whole entries, and the fault of its rest, if there is one.
+/// The replay of a log: the database after it, the number of its whole entries, and the fault of its rest, if there is one.
 #[derive(Drop)]
 pub(crate) struct Replayed {
     pub(crate) database: Overlay,

@@ -11,8 +11,8 @@ use pc_part::{Base, Part, lay};
 use pc_types::{Point, Refusal};
 use std::alloc::{AllocError, Global};
 
-/// The base with the join of the used files applied to it: the usable ones without a point above this one. They are joined from the
-/// first to the last. Its errors are those of `join` and then those of `lay`.
+/// The base with the join of the used files applied to it: those that were read and have no point above the given one. They are
+/// joined from the first to the last. Its errors are those of `join` and then those of `lay`.
 pub(crate) fn with_used(
     alloc: Global,
     base: Base,

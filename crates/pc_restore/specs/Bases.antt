@@ -20,7 +20,7 @@ pub record AreBytesWorth (base : List ℕ) (parts : List (List ℕ)) (log : List
   pub recovered : recovery base parts log ≡ Ok found
   pub of_run : IsOfRun base run
 
--- the recovered state of a run, as the base of the next one, which represents point 0
+-- the recovered state of a run, as the base of the next one, whose point is 0
 abbrev pub next_base : ℕ → Recovery → BaseFile
 next_base run found = record { run = run + 1; point = 0; pairs = found.pairs }
 
@@ -28,7 +28,7 @@ next_base run found = record { run = run + 1; point = 0; pairs = found.pairs }
 abbrev pub TellsDamage : {T : Type 0} → (T → Option (List ℕ)) → Tally T → Tally T → List (List ℕ) → Recovery → Type 0
 TellsDamage contents old new names found = (told : Result (Unit {0}) Refusal) × Puts contents old new told (damage_text names found)
 
--- The base was made of a folder of which every file was opened, and represents point 0. If the files' bytes are known it is the
+-- The base was made of a folder of which every file was opened, and its point is 0. If the files' bytes are known it is the
 -- state recovered from them, as the next run's base; they aren't damaged, or damage is accepted; and the damage was reported.
 pub record IsBaseMade {R T : Type 0} (remaining : R → Option (List ℕ)) (contents : T → Option (List ℕ)) (folder : Folder R) (accepts_damage : Bool) (old new : Tally T) (made : BaseFile) : Type 0 where
   pub opened : AreAllOpened folder

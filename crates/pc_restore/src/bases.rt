@@ -15,7 +15,7 @@ use pc_types::{MOST_FILE_ENTRIES, Refusal, Tally};
 use std::alloc::Global;
 use std::io::{Read, Write};
 
-/// A base for a run that goes on from the state recovered from a folder's files: it has the recovered pairs, represents point 0,
+/// A base for a run that goes on from the state recovered from a folder's files: it has the recovered pairs, its point is 0,
 /// and its run's number is that of the folder's base plus 1. The gaps of the folder's files are reported on the error writer, as
 /// far as it takes that: a line of the fault of the log's rest, if it was not only truncated, and one of each part that was
 /// skipped.

@@ -76,7 +76,7 @@ impl Model for Opened {
 impl Opened {
     /// Opens a store that starts from the base, with this many sessions and room for as many keys as the capacity. Returns `Full`
     /// if and only if the base has more pairs than there is room for; otherwise its only error is `OutOfMemory`. The base is the
-    /// state at point 0. The seed of the hashes of keys is a random 128-bit number (`RandomState::new`), so that no session can
+    /// state at point 0 of the run. The seed of the hashes of keys is a random 128-bit number (`RandomState::new`), so that no session can
     /// pick keys that all share a chain.
     pub fn new(
         alloc: Global,
