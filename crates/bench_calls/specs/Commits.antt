@@ -1,4 +1,4 @@
--- How many events a checkpointer asked.
+-- The number of events that a checkpointer asked.
 use Rattle.std.specs.Prelude.{ℕ, ◌+◌, ◌*◌}
 use Rattle.bench_calls.specs.declared.commits.CycleProgress.{CycleProgress}
 use Rattle.bench_calls.specs.declared.commits.NextStage.{NextStage}

@@ -3,7 +3,7 @@ use crate::options::Crowd;
 use std::sync::{Mutex, Wait};
 use std::thread::{self, Threads};
 
-// How often a transaction of one put gets the latch.
+// The number of times that a transaction of one put gets the latch.
 const LOCKS: u32 = 3;
 
 // A thread's turns: each locks the mutex, adds 1 to what is under it, and unlocks it.

@@ -32,7 +32,7 @@ pub struct Calls {
     pub log_next: Timed,
 }
 
-// Room for the text of the entries that are asked for at once, in bytes.
+// Room for the text of the entries that are asked for in one call, in bytes.
 const ROOM: u32 = 262_144;
 
 const NONE: Timed = Timed {
@@ -42,7 +42,7 @@ const NONE: Timed = Timed {
 };
 
 impl Calls {
-    /// None was made.
+    /// No calls.
     pub fn new() -> Calls {
         Calls {
             begin: NONE,
@@ -134,7 +134,7 @@ fn time_advance<N: StoreName, R: Wait>(
     noted
 }
 
-// Whether more is left to take, where the call wasn't refused.
+// Whether more is left to take, if the call wasn't refused.
 fn has_more(reply: &Reply) -> Result<bool, BenchFailure> {
     match reply {
         Reply::NoneLeft => Ok(false),
@@ -165,7 +165,7 @@ fn time_takes<N: StoreName, R: Wait>(
     unreachable!()
 }
 
-// A ticket of a point's file, which is dropped at once.
+// A ticket of a point's file, which is dropped immediately.
 fn time_ticket<N: StoreName, R: Wait>(
     rt: &R,
     host: &HostRuntime,
@@ -200,7 +200,7 @@ fn time_point<N: StoreName, R: Wait>(
     time_ticket(rt, host, shared, seat, number, &mut calls.take_part)
 }
 
-// What was logged since, in the batches of a logger.
+// The entries logged since, in the batches of a logger.
 fn time_logging<N: StoreName, R: Wait>(
     rt: &R,
     host: &HostRuntime,
@@ -221,7 +221,7 @@ fn time_logging<N: StoreName, R: Wait>(
     unreachable!()
 }
 
-// So many transactions over so many keys, and a point each time that all keys have had one.
+// The transactions of the crowd over its keys, and a point each time that all keys have had one.
 fn time_calls<N: StoreName, R: Wait>(
     rt: &R,
     host: &HostRuntime,
@@ -245,8 +245,8 @@ fn time_calls<N: StoreName, R: Wait>(
     Ok(calls)
 }
 
-/// The calls of the store from its opening on, by one thread: so many transactions over so many keys, and a point each time that
-/// all keys have had one.
+/// The calls of the store from its opening on, by one thread: the given number of transactions over the given number of keys,
+/// and a point each time that all keys have had one.
 pub fn call_by_one<N: StoreName, R: Wait>(
     rt: &R,
     host: &HostRuntime,

@@ -1,4 +1,4 @@
-//! Commits of one write each, with and without checkpoints beside them.
+//! Commits of one write each, with and without concurrent checkpoints.
 ghost use Rattle.std.specs.Prelude.{◌≡◌, ◌<◌, ◌≤◌, ◌^◌, ◌+◌, true, false, IfOk};
 ghost use Rattle.bench_calls.specs.Commits.{events_of};
 
@@ -14,7 +14,7 @@ use std::hash::RandomState;
 use std::rt::Clock;
 use std::time::{Duration, Instant};
 
-/// What a checkpointer asks next.
+/// The next event of a checkpointer.
 #[derive(Clone, Copy)]
 pub enum NextStage {
     /// That a cycle begins.
@@ -31,32 +31,33 @@ pub enum NextStage {
     Rest,
 }
 
-/// What came of the events that a checkpointer asked.
+/// The outcomes of a checkpointer's events.
 #[derive(Clone, Copy)]
 pub struct CycleProgress {
     pub next: NextStage,
-    /// How many cycles came to rest.
+    /// The number of cycles that came to rest.
     pub points: u32,
-    /// How many keys were taken.
+    /// The number of captured keys.
     pub taken: u32,
-    /// How many changes of the phase were put off.
+    /// The number of changes of the phase put off.
     pub delays: u32,
 }
 
-/// What came of commits.
+/// The outcome of commits.
 #[derive(Clone, Copy)]
 pub struct Committed {
-    /// How many transactions were committed.
+    /// The number of transactions committed.
     pub committed: u32,
-    /// What the checkpointer did meanwhile.
+    /// The checkpointer's progress meanwhile.
     pub asked: CycleProgress,
-    /// How long all of it took.
+    /// The time that all of it took.
     pub time: Duration,
 }
 
-/// Commits so many transactions of one write each, over keys that go round, in a store that has room for just these keys.
-/// Where points are asked for, the checkpointer asks one event after each commit, each cycle right after the one before,
-/// and every event is either one that took a key, one that was put off, or one of a cycle's six others. Else none is asked.
+/// Commits the given number of transactions of one write each, over keys that go round, in a store that has room for just
+/// these keys. If points are asked for, the checkpointer asks one event after each commit, each cycle right after the one
+/// before, and every event is either one that took a key, one that was put off, or one of a cycle's six others. Otherwise
+/// none is asked.
 pub fn measure_commits(
     alloc: Global,
     clock: &impl Clock,
@@ -139,7 +140,7 @@ fn commit_one(
     }
 }
 
-// Asks the next event where points are asked for.
+// Asks the next event if points are asked for.
 fn ask_beside(
     world: &mut World,
     asked: CycleProgress,

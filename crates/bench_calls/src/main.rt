@@ -1,4 +1,4 @@
-//! Measures calls of the libraries: each sub-command does so much work, and tells what came of it.
+//! Measures calls of the libraries: each sub-command does a given amount of work, and prints the outcome.
 #![tactic(auto)]
 
 mod bare;
@@ -54,7 +54,7 @@ fn arguments(rt: &HostRuntime) -> Result<Vec<String>, BenchFailure> {
     Ok(texts)
 }
 
-// Does the work and tells of it. The status is 1 where a call was refused.
+// Does the work and prints the outcome. The status is 1 if a call was refused.
 fn run_work<H: Threads + Wait + Sync>(
     rt: &HostRuntime,
     threads: &H,

@@ -4,16 +4,16 @@ ghost use Rattle.pc_types.specs.declared.limits.TheConstants.{MOST_KEYS, MOST_SE
 
 use pc_types::{MOST_KEYS, MOST_POINTS, MOST_SESSIONS};
 
-/// What is measured.
+/// The measurement.
 #[derive(Clone, Copy)]
 pub enum Work {
     /// Cycles in each of which all keys are written and taken.
     Points(Cycles),
-    /// Commits of one write each, with or without checkpoints beside them.
+    /// Commits of one write each, with or without concurrent checkpoints.
     Commits(Rounds),
     /// Transactions of one put each, by threads that share a store.
     Shared(Crowd),
-    /// A bare mutex, locked and unlocked three times where a transaction would be.
+    /// A bare mutex, locked and unlocked three times in place of a transaction.
     Mutex(Crowd),
     /// Fills, as the clients of a run make them, of a store under a bare mutex that keeps nothing for them.
     Floor(Crowd),
@@ -21,7 +21,7 @@ pub enum Work {
     Calls(Crowd),
 }
 
-/// How many cycles a store goes through, and how many keys it has, 1 to 1,048,576.
+/// The number of cycles that a store goes through, and how many keys it has, 1 to 1,048,576.
 #[derive(Clone, Copy)]
 pub struct Cycles {
     pub points: u16,
@@ -30,7 +30,7 @@ pub struct Cycles {
 }
 
 /// How many transactions commit, each with one write, how many keys they go round, 1 to 1,048,576, whether the writes are
-/// adds, and whether checkpoints are taken beside them.
+/// adds, and whether checkpoints are taken concurrently.
 #[derive(Clone, Copy)]
 pub struct Rounds {
     pub commits: u32,
@@ -40,8 +40,8 @@ pub struct Rounds {
     ghost in_range: { (1 ≤ keys) × (keys ≤ MOST_KEYS) },
 }
 
-/// How many threads there are, 1 to 64, how many transactions each of them commits, and how many keys it goes round,
-/// 1 to 15,000, or for a single thread as many as a store may have; and whether the writes are adds.
+/// The number of threads, 1 to 64, how many transactions each of them commits, and how many keys it goes round, 1 to
+/// 15,000, or for a single thread as many as a store may have; and whether the writes are adds.
 #[derive(Clone, Copy)]
 pub struct Crowd {
     pub threads: u8,
@@ -56,15 +56,15 @@ const MOST_OWN_KEYS: u32 = 15_000;
 
 const MOST_COMMITS: u32 = 10_000_000;
 
-/// What the program is asked to do.
+/// The program's task.
 #[derive(Clone, Copy)]
 pub struct Options {
     pub work: Work,
-    /// Whether times are told, which differ from run to run.
+    /// Whether times are printed, which differ from run to run.
     pub is_timed: bool,
 }
 
-/// What words the program takes; each number is 1 or more.
+/// The usage of the program; each number is 1 or more.
 pub const USAGE: &str = "usage: bench_calls [--times] points POINTS KEYS
        bench_calls [--times] commits [--adds] [--points] COUNT KEYS
        bench_calls [--times] shared [--adds] THREADS COMMITS KEYS
@@ -81,7 +81,7 @@ calls    makes the calls of a shared store by one thread, each by itself
 --adds   adds to the keys in place of putting them
 --times  tells times too";
 
-/// What the program's name and the words behind it ask for. None where they aren't those of its usage, or a number is out of
+/// The task of the program's name and the words after it. `None` if they aren't those of its usage, or a number is out of
 /// range.
 pub fn options_of(words: &[&str]) -> Option<Options> {
     let words = words.get(1..)?;
@@ -91,7 +91,7 @@ pub fn options_of(words: &[&str]) -> Option<Options> {
     }
 }
 
-// The words behind the flag, where they begin with it.
+// The words after the flag, if they begin with it.
 fn behind<'a>(flag: &str, words: &'a [&'a str]) -> Option<&'a [&'a str]> {
     match words.split_first() {
         Some((first, others)) if *first == flag => Some(others),
@@ -105,7 +105,7 @@ fn asked(words: &[&str], is_timed: bool) -> Option<Options> {
     Some(Options { work, is_timed })
 }
 
-// The work of this name with these words behind it.
+// The work of this name with these words after it.
 fn work_of(name: &str, words: &[&str]) -> Option<Work> {
     match name {
         "points" => Some(Work::Points(cycles_of(words)?)),
@@ -165,7 +165,7 @@ fn shared_of(words: &[&str]) -> Option<Crowd> {
     }
 }
 
-// How many keys each of so many threads may have.
+// The number of keys that each of `threads` threads may have.
 fn most_keys_of(threads: u32) -> u32
     ensures { result ≤ MOST_KEYS }
 {

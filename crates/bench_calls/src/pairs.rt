@@ -5,7 +5,7 @@ use std::alloc::Global;
 // An odd number, so that no two numbers of 32 bits have one product in 32 bits.
 const SCATTER: u32 = 2_654_435_761;
 
-/// A number that no other one becomes, so that the keys of numbers which rise stand in no order.
+/// Mixes a number injectively, so that the keys of ascending numbers are in no order.
 pub fn scattered(number: u32) -> u32 {
     number.wrapping_mul(SCATTER)
 }

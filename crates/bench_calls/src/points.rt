@@ -12,23 +12,24 @@ use std::hash::RandomState;
 use std::rt::Clock;
 use std::time::{Duration, Instant};
 
-// How many keys a transaction writes.
+// The number of keys that a transaction writes.
 const WRITES: u32 = 250;
 
-/// What came of a cycle.
+/// The outcome of a cycle.
 #[derive(Clone, Copy)]
 pub struct TimedCycle {
-    /// How many keys were taken.
+    /// The number of captured keys.
     pub taken: u32,
-    /// How long the seal took, which closes the set of the keys that were written.
+    /// The time of the seal, which closes the set of the keys that were written.
     pub sealing: Duration,
-    /// How long it took to take the keys.
+    /// The time to take the keys.
     pub taking: Duration,
-    /// How long it took to make a part of what was taken.
+    /// The time to make a part of the captured entries.
     pub finishing: Duration,
 }
 
-/// Goes through so many cycles: writes all keys, and takes them at the point, in each cycle no more than there are.
+/// Goes through the given number of cycles: writes all keys, and takes them at the point, in each cycle no more than
+/// there are.
 pub fn measure_points(
     alloc: Global,
     clock: &impl Clock,
@@ -60,7 +61,7 @@ fn take_points(
     Ok(done)
 }
 
-// Writes the keys of the numbers below this one, in transactions of so many writes.
+// Writes the keys of the numbers below this one, in transactions of the given number of writes.
 fn write_all(alloc: Global, world: &mut World, keys: u32) -> Result<(), Refusal> {
     for number in 0..keys {
         if number % WRITES == 0 {
@@ -94,14 +95,14 @@ fn take_point(clock: &impl Clock, world: &mut World, keys: u32) -> Result<TimedC
     })
 }
 
-// How long the store takes to answer the event, which isn't refused.
+// The time that the store takes to answer the event, which isn't refused.
 fn time_of(clock: &impl Clock, world: &mut World, event: &Event) -> Result<Duration, BenchFailure> {
     let start = Instant::now(clock)?;
     step(world, event)?;
     Ok(start.elapsed(clock)?)
 }
 
-// Takes keys until none is left, at most so many.
+// Takes keys until none is left, at most the given number.
 fn take_all(world: &mut World, keys: u32) -> Result<u32, Refusal>
     ensures { IfOk result (λ taken. taken ≤ keys) }
 {

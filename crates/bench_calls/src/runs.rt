@@ -1,4 +1,4 @@
-//! Each sub-command's work, and what is told of it.
+//! Each sub-command's work, and what it prints.
 use crate::bare::lock_by_all;
 use crate::calls::{Calls, Timed, call_by_one};
 use crate::commits::{Committed, measure_commits};
@@ -14,7 +14,7 @@ use std::sync::Wait;
 use std::thread::Threads;
 use std::time::{Duration, Instant};
 
-/// Goes through cycles, and tells of each how many keys were taken.
+/// Goes through cycles, and prints for each how many keys were taken.
 pub fn run_points(rt: &HostRuntime, cycles: Cycles, is_timed: bool) -> Result<(), BenchFailure> {
     let done = measure_points(rt.alloc(), rt, RandomState::new(rt)?, cycles)?;
     tell_points(rt, &done, is_timed)?;
@@ -34,7 +34,7 @@ fn tell_points(rt: &HostRuntime, done: &[TimedCycle], is_timed: bool) -> io::Res
     Ok(())
 }
 
-/// Commits transactions of one write each, and tells how many, with the points and the taken keys beside them.
+/// Commits transactions of one write each, and reports how many, with the points and the keys taken meanwhile.
 pub fn run_commits(rt: &HostRuntime, rounds: Rounds, is_timed: bool) -> Result<(), BenchFailure> {
     let seed = RandomState::new(rt)?;
     match measure_commits(rt.alloc(), rt, seed, rounds) {
@@ -53,7 +53,7 @@ fn tell_commits(rt: &HostRuntime, done: &Committed, is_timed: bool) -> io::Resul
     Ok(())
 }
 
-/// Locks a bare mutex by threads, and tells how often.
+/// Locks a bare mutex by threads, and prints how often.
 pub fn run_mutex<H: Threads + Wait + Sync>(
     rt: &HostRuntime,
     threads: &H,
@@ -68,7 +68,7 @@ pub fn run_mutex<H: Threads + Wait + Sync>(
     Ok(())
 }
 
-/// Commits transactions by threads that share a store, and tells how many.
+/// Commits transactions by threads that share a store, and prints how many.
 pub fn run_shared<H: Threads + Wait + Sync>(
     rt: &HostRuntime,
     threads: &H,
@@ -83,7 +83,7 @@ pub fn run_shared<H: Threads + Wait + Sync>(
     Ok(())
 }
 
-/// Fills a store under a bare mutex by threads, and tells how many transactions were committed.
+/// Fills a store under a bare mutex by threads, and prints how many transactions were committed.
 pub fn run_floor<H: Threads + Wait + Sync>(
     rt: &HostRuntime,
     threads: &H,
@@ -98,7 +98,7 @@ pub fn run_floor<H: Threads + Wait + Sync>(
     Ok(())
 }
 
-/// Makes the calls of a shared store by one thread, and tells how many of each.
+/// Makes the calls of a shared store by one thread, and prints how many of each.
 pub fn run_calls<H: Threads + Wait + Sync>(
     rt: &HostRuntime,
     threads: &H,

@@ -13,7 +13,7 @@ use std::sync::Wait;
 use std::sync::atomic::{AtomicU64, Ordering};
 use std::thread::{self, Threads};
 
-/// How many keys all threads have together.
+/// The number of keys that all threads have together.
 pub fn capacity_of(crowd: &Crowd) -> u32
     ensures { (1 ≤ result) × (result ≤ MOST_KEYS) }
 {

@@ -7,7 +7,7 @@ use std::alloc::Global;
 /// The session of the store.
 pub const SESSION: SessionNo = SessionNo(1);
 
-/// The store's answer to the event, where it isn't refused.
+/// The store's answer to the event, if it isn't refused.
 pub fn ask(world: &mut World, event: &Event) -> Result<Reply, Refusal> {
     match world.step(event) {
         Reply::Refused(why) => Err(why),
@@ -15,7 +15,7 @@ pub fn ask(world: &mut World, event: &Event) -> Result<Reply, Refusal> {
     }
 }
 
-/// Asks the event, whose answer is of no use, where it isn't refused.
+/// Asks the event, whose answer is of no use, if it isn't refused.
 pub fn step(world: &mut World, event: &Event) -> Result<(), Refusal> {
     let reply = world.step(event);
     match &reply {

@@ -1,4 +1,4 @@
-//! An example: a store is opened, a transaction commits, which is begun again where it dies, and the store is closed.
+//! An example: a store is opened, a transaction commits, which is begun again if it dies, and the store is closed.
 #![tactic(auto)]
 
 ghost use Rattle.std.specs.Prelude.{◌≡◌};
@@ -11,7 +11,7 @@ use std::alloc::Global;
 use std::hash::RandomState;
 use std::sync::Wait;
 
-/// A transaction that dies is begun again, at most so many times in all.
+/// A transaction that dies is begun again; this is the greatest number of attempts.
 pub const MOST_TRIES: u32 = 100;
 
 /// A store of 2 sessions, with room for 1,000 keys, on an empty base of run 1.
@@ -56,7 +56,7 @@ fn sell<N: StoreName, R: Wait>(
     Err(Refusal::MustAbort)
 }
 
-// What is sold, and how much of it; each call waits for the lock of its key, or its request dies.
+// The good that is sold, and its quantity; each call waits for the lock of its key, or its request dies.
 fn attempt<N: StoreName, R: Wait>(
     rt: &R,
     alloc: Global,

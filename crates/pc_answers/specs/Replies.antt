@@ -1,4 +1,4 @@
--- The reply that tells of a call's answer.
+-- The reply that represents a call's answer.
 use Rattle.std.specs.Prelude.{ℕ, Result, Ok, Err}
 use Rattle.pc_types.specs.declared.Outcome.{Outcome}
 use Rattle.pc_types.specs.declared.Refusal.{Refusal}

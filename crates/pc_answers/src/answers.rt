@@ -1,7 +1,7 @@
 //! Answers of calls that may give something, each with what it gives.
 use pc_types::{Key, Value};
 
-/// How a read is answered, where it isn't refused.
+/// The answer to a read that isn't refused.
 #[derive(Drop)]
 pub enum GetAnswer {
     /// The key has this value.
@@ -14,7 +14,7 @@ pub enum GetAnswer {
     Died,
 }
 
-/// How an add is answered, where it isn't refused.
+/// The answer to an add that isn't refused.
 #[derive(Clone, Copy, Debug, PartialEq, Eq)]
 pub enum AddAnswer {
     /// The key has this number now.
@@ -25,7 +25,7 @@ pub enum AddAnswer {
     Died,
 }
 
-/// How a take is answered, where it isn't refused.
+/// The answer to a take that isn't refused.
 #[derive(Drop)]
 pub enum TakeAnswer {
     /// The key and what it had at the point, a value or nothing.

@@ -1,4 +1,4 @@
-//! How each call of a store's world is answered, and the reply that tells of it.
+//! The answers to each call of a store's world, and the replies that represent them.
 #![tactic(auto)]
 
 mod answers;

@@ -1,4 +1,4 @@
-//! The reply that tells of a call's answer.
+//! The reply that represents a call's answer.
 ghost use Rattle.std.specs.Prelude.{◌≡◌};
 ghost use Rattle.pc_answers.specs.Replies.{begin_reply, get_reply, write_reply, add_reply, commit_reply, abort_reply, take_reply};
 

@@ -153,7 +153,7 @@ module _ {T : Type 0} where
   pub link_here : (m : ℕ) (cells : List (ArenaCell T)) (i id : ℕ) (c : ArenaCell T) → i ≡ id → id < length cells → at (slots_of m (set cells i c)).links id ≡ link_of c
   link_here m cells i id c e w = at_padded (unwritten m (set cells i c)) (links_of (set cells i c)) id ∙ column_here link_of cells i id c e w
 
-  -- as many cells, where the records are the same
+  -- as many cells, if the records are the same
   columns : (a b : List (ArenaCell T)) → items_of a ≡ items_of b → length a ≡ length b
   columns a b e = sym (length-map a item_of) ∙ (ap length e ∙ length-map b item_of)
 
@@ -175,7 +175,7 @@ module _ {T : Type 0} where
       ap (λ n. padded (m - n) (items_of cells')) n ∙ (ap (padded (unwritten m cells)) (k ∙ column_set item_of cells i id c None j t)
       ∙ (sym (set_padded (unwritten m cells) (items_of cells) id None (rw (length-map cells item_of) w)) ∙ ap (λ (s : Slots T). set s.items id None) e))
 
-  -- each slot has a record exactly where all were written and the list has no first
+  -- each slot has a record if and only if all were written and the list has no first
   pub kept_full : (m : ℕ) (cells : List (ArenaCell T)) (free : Chain ℕ) (k : AreCellsKept m cells free) → length cells ≡ m → is_full (slots_of m cells).items ≡ is_none (first_of k.ids)
   kept_full m cells free k e =
       let none : unwritten m cells ≡ 0 = omega (arith, e) in
@@ -186,7 +186,7 @@ module _ {T : Type 0} where
       let more : unwritten m cells ≡ suc (m - (length cells + 1)) = omega (arith, w) in
       ap (λ n. is_full (padded n (items_of cells))) more ∙ padded_not_full (m - (length cells + 1)) (items_of cells)
 
-  -- a chain stays where no link changes
+  -- a chain stays if no link changes
   pub line_set : (cells : List (ArenaCell T)) (free : Chain ℕ) (ids : List ℕ) (i : ℕ) (x c : ArenaCell T) → x ≡ get_or cells i x → link_of c ≡ link_of x →
       IsChain (λ y. y < length cells) (at (links_of cells)) free ids → IsChain (λ y. y < length (set cells i c)) (at (links_of (set cells i c))) free ids
   line_set cells free ids i x c r l h =

@@ -14,7 +14,7 @@ module _ {T : Type 0} where
   taken_avoids items ids id b e =
       all_avoids id ids (have_still (λ y. at items y ≡ None) (λ y. y ≢ id) (λ y n s. not_both (at items id) (ap (at items) (sym s) ∙ n) e) ids b)
 
-  -- each slot has a record exactly where the list has no first
+  -- each slot has a record if and only if the list has no first
   pub full_is : (n : ℕ) (items : List (Option T)) (links : List (Option ℕ)) (free : Chain ℕ) (ids : List ℕ) → length items ≡ n → IsFreeList n items links free ids → is_full items ≡ is_none (first_of ids)
   full_is n items links free [] l f = full_where_none items (λ id h. f.all id (omega (arith, h.0, l)) h.1 tt)
   full_is n items links free (x ∷ xs) l f = not_full items x ((let w : x < n = f.line.held.0 in omega (arith, w, l)), f.bare.0)
@@ -44,14 +44,14 @@ module _ {T : Type 0} where
   free_taken_first n items links free new (y ∷ ys) x v l f e c =
       let s : y ≡ x = cc in subst (λ (z : ℕ). IsFreeList n (set items z (Some v)) links new ys) s (free_taken n items links free new y ys v l f c)
 
-  -- a slot without a record is none that came behind with one
+  -- a slot without a record is none that came after with one
   bare_pushed : (items : List (Option T)) (v : T) (id : ℕ) → at (items ++ Some v ∷ []) id ≡ None → id < length items + 1 → (id < length items) × (at items id ≡ None)
   bare_pushed [] v zero e w = absurd cc
   bare_pushed [] v (suc id) e w = absurd (omega (arith, w))
   bare_pushed (x ∷ xs) v zero e w = (omega arith, e)
   bare_pushed (x ∷ xs) v (suc id) e w = let r = bare_pushed xs v id e (omega (arith, w)) in (let u = r.0 in omega (arith, u), r.1)
 
-  -- no slot is free, and one more that has a record comes behind them
+  -- no slot is free, and one more that has a record comes after them
   pub free_fresh : (n : ℕ) (items : List (Option T)) (links links' : List (Option ℕ)) (free new : Chain ℕ) (ids : List ℕ) (v : T) → length items ≡ n → IsFreeList n items links free ids → None ≡ first_of ids →
       IsChain (λ id. id < n) (at links) new (rest_of ids) → IsFreeList (n + 1) (items ++ Some v ∷ []) links' new []
   free_fresh n items links links' free new (y ∷ ys) v l f e c = absurd cc

@@ -10,7 +10,7 @@ bare (suc n) zero = refl
 bare (suc n) (suc i) = bare n i
 
 module _ {X : Type 0} where
-  -- what stands at a place is the same
+  -- what is at a place is the same
   pub at_padded : (n : ℕ) (xs : List (Option X)) (i : ℕ) → at (padded n xs) i ≡ at xs i
   at_padded n [] i = bare n i
   at_padded n (x ∷ xs) zero = refl
@@ -31,12 +31,12 @@ module _ {X : Type 0} where
   padded_push n [] = refl
   padded_push n (x ∷ xs) = ap (λ ys. x ∷ ys) (padded_push n xs)
 
-  -- with none behind it, the list is itself
+  -- with none after it, the list is itself
   pub padded_none : (xs : List (Option X)) → padded 0 xs ≡ xs
   padded_none [] = refl
   padded_none (x ∷ xs) = ap (λ ys. x ∷ ys) (padded_none xs)
 
-  -- a list that has None behind it isn't full
+  -- a list that has None after it isn't full
   pub padded_not_full : (n : ℕ) (xs : List (Option X)) → is_full (padded (suc n) xs) ≡ false
   padded_not_full n [] = refl
   padded_not_full n (None ∷ xs) = refl

@@ -1,4 +1,4 @@
--- What cells keep, and the free slots among them.
+-- The invariant of cells, and the free slots among them.
 use Rattle.std.specs.Prelude.{◌≡◌, ◌<◌, ◌≤◌, ◌-◌, ◌++◌, ℕ, Bool, true, false, List, map, length, replicate, Option, Some, None}
 use Rattle.pc_types.specs.declared.limits.TheConstants.{MOST_KEYS}
 use Rattle.pc_chain.specs.declared.chain.Chain.{Chain}
@@ -7,11 +7,11 @@ use Rattle.pc_arena.specs.declared.cells.ArenaCell.{ArenaCell}
 use Rattle.pc_arena.specs.declared.cells.ArenaCell.TheVariants.{Free, Taken}
 use Rattle.pc_chain.specs.Slots.{Slots, at}
 
--- so many more behind the list, each None
+-- that many more after the list, each `None`
 abbrev pub padded : {X : Type 0} → ℕ → List (Option X) → List (Option X)
 padded n xs = xs ++ replicate n None
 
--- the slot of the number where a link leads to one, else none
+-- the slot of the number if a link leads to one, else none
 abbrev pub link_in : Bool → ℕ → Option ℕ
 link_in true next = Some next
 link_in false next = None
@@ -40,11 +40,11 @@ module _ {T : Type 0} where
   abbrev pub links_of : List (ArenaCell T) → List (Option ℕ)
   links_of cells = map link_of cells
 
-  -- how many slots of so many were never written
+  -- how many slots of that number were never written
   abbrev pub unwritten : ℕ → List (ArenaCell T) → ℕ
   unwritten capacity cells = capacity - length cells
 
-  -- what is seen of so many slots, of which the first have these cells and the others were never written
+  -- what is seen of that many slots, of which the first have these cells and the others were never written
   abbrev pub slots_of : ℕ → List (ArenaCell T) → Slots T
   slots_of capacity cells = record { items = padded (unwritten capacity cells) (items_of cells); links = padded (unwritten capacity cells) (links_of cells) }
 

@@ -1,4 +1,4 @@
--- What is left once a record that was lent comes back.
+-- The state after a borrowed record comes back.
 use Rattle.std.specs.Prelude.{ℕ, Some}
 use Rattle.std.specs.Borrow.{Lends, Fml, RattleType, MutBor}
 use Rattle.pc_arena.specs.Cells.{with_record}

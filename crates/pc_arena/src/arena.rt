@@ -10,7 +10,7 @@ use pc_types::{MOST_KEYS, Refusal, SlotId};
 use std::alloc::{AllocError, Global};
 use std::marker::Model;
 
-/// Records in slots, which are numbered from 0; a slot without a record is free. Each slot has a word of links beside its
+/// Records in slots, which are numbered from 0; a slot without a record is free. Each slot has a word of links next to its
 /// record, which leads to another slot or to none. The arena is seen as the records by slot, and the links. The memory of
 /// all slots is reserved when it is made: it never has more slots, or fewer, and no record moves. A slot is written when it
 /// is first taken, and is seen until then as one that is free and leads to none; so an arena of which few slots were ever
@@ -71,7 +71,7 @@ impl<T> Links<ByLink> for Arena<T> {
 }
 
 impl<T> Arena<T> {
-    /// How many slots there are, taken and free.
+    /// The number of slots, taken and free.
     pub fn capacity(&self) -> u32
         ensures count { result ≡ length self.now.items }
         ensures most { result ≤ MOST_KEYS }
@@ -99,7 +99,7 @@ impl<T> Arena<T> {
         }
     }
 
-    /// The record in the slot; None where it is free, or where there is no such slot.
+    /// The record in the slot; `None` if it is free, or if there is no such slot.
     pub fn get_if_taken(&self, id: SlotId) -> Option<&T>
         ensures { option_copied result ≡ at self.now.items id }
     {
@@ -109,7 +109,7 @@ impl<T> Arena<T> {
         }
     }
 
-    /// The record in the slot, which has one, to be changed where it stands. Nothing else changes.
+    /// The record in the slot, which has one, to be changed in place. Nothing else changes.
     pub fn get_mut(&mut self, id: SlotId) -> &mut T
         requires { IsTaken self.old.items id }
         ensures* lends { sem 𝓛 (LendsItem T.row self.entry id result) }
@@ -120,7 +120,7 @@ impl<T> Arena<T> {
 }
 
 impl<T: Drop> Arena<T> {
-    /// An arena of so many slots, at most 2^20, all of them free. It fails only where memory ran out.
+    /// An arena of the given number of slots, at most 2^20, all of them free. It fails only if an allocation fails.
     pub fn with_capacity(alloc: Global, slots: u32) -> Result<Arena<T>, AllocError>
         requires { slots ≤ MOST_KEYS }
         ensures slots { IfOk result (λ arena. length arena.items ≡ slots) }
@@ -135,8 +135,8 @@ impl<T: Drop> Arena<T> {
         })
     }
 
-    /// Puts the record into a free slot and gives the slot. Refuses with `Full` exactly where no slot is free, and the arena
-    /// is then as it was. The link of the slot leads anywhere until it is set. It takes no memory.
+    /// Puts the record into a free slot and returns the slot. Returns `Full` if and only if no slot is free, and the arena
+    /// is then as it was. The link of the slot leads anywhere until it is set. It allocates no memory.
     pub fn take_slot(&mut self, item: T) -> Result<SlotId, Refusal>
         ensures free { IfOk result (λ id. IsFree self.old.items id) }
         ensures taken { IfOk result (λ id. self.new ≡ with_item self.old id (Some item)) }
@@ -157,7 +157,7 @@ impl<T: Drop> Arena<T> {
     }
 
     /// Takes the record out of the slot, which has one, and is free from then on. Other records stay, and so do the links of
-    /// the slots that have one; the slot's own link is lost, so no chain may go through it any more. It takes no memory.
+    /// the slots that have one; the slot's own link is lost, so no chain may go through it any more. It allocates no memory.
     pub fn free_slot(&mut self, id: SlotId) -> T
         requires { IsTaken self.old.items id }
         ensures given { at self.old.items id ≡ Some result }

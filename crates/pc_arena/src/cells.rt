@@ -7,8 +7,8 @@ use pc_chain::Links;
 use pc_types::SlotId;
 use std::mem;
 
-/// A slot's cell. One without a record is free. Where its link leads to a slot, `next` is that slot's number; else `next`
-/// means nothing. The fields stand in the variants themselves, so that all beside the record takes 8 bytes.
+/// A slot's cell. One without a record is free. If its link leads to a slot, `next` is that slot's number; else `next`
+/// means nothing. The fields are in the variants themselves, so that everything but the record takes 8 bytes.
 #[derive(Drop)]
 pub(crate) enum ArenaCell<T> {
     /// No record.
@@ -121,7 +121,7 @@ fn slot_where(leads: bool, next: u32) -> Option<SlotId>
     if leads { Some(SlotId(next)) } else { None }
 }
 
-// Whether the link leads to a slot, and to which; the number means nothing where it doesn't.
+// Whether the link leads to a slot, and to which; the number means nothing if it doesn't.
 fn words_of(link: Option<SlotId>) -> (bool, u32)
     ensures { link_in result.0 result.1 ≡ link }
 {

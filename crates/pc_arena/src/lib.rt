@@ -1,4 +1,4 @@
-//! An arena: records in slots, which are taken and freed, each with a word of links beside its record.
+//! An arena: records in slots, which are taken and freed, each with a word of links next to its record.
 #![tactic(auto)]
 
 mod arena;

@@ -1,4 +1,5 @@
--- Copies of complete files are right just where the files are, and a file that a legal history gives its points is right.
+-- Copies of complete files are correct if and only if the files are, and a file that a legal history gives its points
+-- is correct.
 use Rattle.std.proofs.Common.{◌≡◌, ◌↔◌, ℕ, zero, suc, ◌+◌, ◌<◌, ◌≤◌, List, [], ◌∷◌, ◌++◌, length, take, get_or, All, IsTrue, refl, sym, ap, ◌∙◌, subst, arith}
 use Rattle.std.proofs.lemmas.Grind.{common_steps}
 use Rattle.std.proofs.lemmas.List.{take_more, get_or_append_left}
@@ -41,7 +42,7 @@ all_pushed P xs x = (
     last : length xs < length (xs ++ x ∷ [])
     last = grind (arith, common_steps)
 
--- so many numbers
+-- that many numbers
 numbers_len : (n : ℕ) → length (numbers_to n) ≡ n
 numbers_len zero = refl
 numbers_len (suc n) = grind (arith, common_steps, numbers_len n)
@@ -50,7 +51,7 @@ numbers_len (suc n) = grind (arith, common_steps, numbers_len n)
 one_last : (file : File) (n m : ℕ) → CoversTo file n → CoversTo file m → n ≡ m
 one_last file n m first second = sym (numbers_len n) ∙ ap length (sym first.1 ∙ second.1) ∙ numbers_len m
 
--- a copy is right just where the file is
+-- a copy is correct if and only if the file is
 copy_right : (base : Database) (log : List Entry) (file : File) (c : CompleteFile) → CoversTo file c.point → triples_from c.triples.items ≡ file.triples → IsRight base log c ↔ IsFileRight base log file
 copy_right base log file c covers same = (
   λ right n other. let at : c.point ≡ n = one_last file c.point n covers other in
@@ -58,7 +59,7 @@ copy_right base log file c covers same = (
   λ right. let own = right c.point covers in record { has_point = own.0; is_the_state = ap (laid base 0) same ∙ own.1 },
 )
 
--- one more file, which is right where its copy is, or whose points are not 1 to some n
+-- one more file, which is correct if its copy is, or whose points are not 1 to some n
 pub with_copy : (base : Database) (log : List Entry) (copies : List CompleteFile) (file : File) (c : CompleteFile) → CoversTo file c.point → triples_from c.triples.items ≡ file.triples →
     All (IsRight base log) (copies ++ c ∷ []) ↔ (All (IsRight base log) copies × IsFileRight base log file)
 with_copy base log copies file c covers same =
@@ -90,7 +91,7 @@ has_each points n p some within covers = contains-items points p ∙ ap (is_one_
     inside : (nat_lt 0 p && nat_le p n) ≡ true
     inside = grind (arith, nat_tests, some, within)
 
--- a file that a legal history gives its points is right
+-- a file that a legal history gives its points is correct
 pub right_of_points : (st : Setting) (h : History) (file : File) → IsLegalHistory st h → IsOfItsPoints st.run st.base (log_of h) file → IsFileRight st.base (log_of h) file
 right_of_points st h file legal of n covers = (
   of.has_tokens n (has_each file.points n n (omega (arith, covers.0)) (omega arith) covers.1),

@@ -1,4 +1,4 @@
--- Maps by hash as databases, and the entries of a log one after the other.
+-- Maps by hash as databases, and the entries of a log in order.
 use Rattle.std.proofs.Common.{◌≡◌, ℕ, zero, suc, ◌+◌, ◌<◌, List, [], ◌∷◌, ◌++◌, length, take, drop, Option, Some, cond, Bool, true, false, ◌&&◌, refl, sym, ap, ◌∙◌, append_assoc, arith}
 use Rattle.std.specs.Prelude.{slice_range}
 use Rattle.std.proofs.lemmas.List.{append-nil, take_all}
@@ -44,7 +44,7 @@ put-table old new key content updates = same_database _ _ (λ q.
 abbrev has : Database → List ℕ × List ℕ → Bool
 has n e = same_content (Some e.1) (get n e.0)
 
--- where all entries are had, so is what the first database has of any key
+-- if all entries are had, so is what the first database has of any key
 pub all_within : (es : List (List ℕ × List ℕ)) (n : Database) → list_all (has n) es ≡ true → IsWithin (database_of es) n
 all_within es n all q v there = found_too es n q v all (sym (get-from_list key_order es q) ∙ there)
 
@@ -59,7 +59,7 @@ own_found (e ∷ es) once = (ap (λ b. cond b (Some e.1) (find key_cmp e.0 es)) 
     later (x ∷ xs) apart found =
         (ap (λ b. cond b (Some e.1) (find key_cmp x.0 es)) ((eq_by_cmp_equiv key_order.total).symm x.0 e.0 ∙ apart.0) ∙ found.0, later xs apart.1 found.1)
 
--- where the second database has all of the first, it has each entry
+-- if the second database has all of the first, it has each entry
 pub within_all : (es : List (List ℕ × List ℕ)) (n : Database) → IsDistinct same_bytes (keys_of es) → IsWithin (database_of es) n → list_all (has n) es ≡ true
 within_all es n once within = each es (own_found es once)
   where
@@ -80,7 +80,7 @@ pub after_entry : (db : Database) (entry : Entry) (log : List Entry) → after d
 after_entry db (Commit session writes) log = refl
 after_entry db (Token phase point) log = refl
 
--- the front ends at the mark, and goes on behind any other entry
+-- the front ends at the mark, and goes on after any other entry
 pub front_entry : (point : ℕ) (entry : Entry) (log : List Entry) → front point (entry ∷ log) ≡ cond (is_mark point entry) [] (entry ∷ front point log)
 front_entry point (Commit session writes) log = refl
 front_entry point (Token phase m) log = refl
@@ -92,7 +92,7 @@ from_start log n = ap (λ k. take k log) (omega arith)
 pub all_of : (log : List Entry) → slice_range log 0 (length log) ≡ log
 all_of log = from_start log (length log) ∙ take_all (length log) log (omega arith)
 
--- one entry more is in front, where it isn't the mark
+-- one entry more is in front, if it isn't the mark
 record Splits (log : List Entry) (place : ℕ) (entry : Entry) (rest : List Entry) : Type 0 where
   inside : place < length log
   behind : rest ≡ drop (place + 1) log

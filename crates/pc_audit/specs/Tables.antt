@@ -1,4 +1,4 @@
--- What is asked of databases and of entries where a log is replayed.
+-- The requirements on databases and on entries when a log is replayed.
 use Rattle.std.specs.Prelude.{◌≡◌, ℕ, Bool, false, List, Some}
 use Rattle.pc_types.specs.declared.Entry.{Entry}
 use Rattle.pc_types.specs.declared.Entry.TheVariants.{Commit, Token}

@@ -17,8 +17,8 @@ use pc_types::{Key, Triple, Value};
 use std::alloc::{AllocError, Global};
 use std::hash::RandomState;
 
-/// Whether the pairs are the log replayed on the base, and each file of the points 1 to some n, laid on the base, is the
-/// state of n. Keys are hashed under the seed, two words given by chance. It fails only where memory ran out.
+/// Whether the pairs are the log replayed on the base, and each file of the points 1 to some n, applied to the base, is the state
+/// of n. Keys are hashed under the seed, a random 128-bit number. It fails only if an allocation fails.
 pub fn is_sound(
     alloc: Global,
     seed: RandomState,
@@ -36,9 +36,9 @@ pub fn is_sound(
     Ok(right)
 }
 
-/// Whether each of the files that is of the points 1 to some n is right by the log: the token of n stands in it, and the base
-/// with the file laid on it is the state of n. Files of other points are passed by. Keys are hashed under the seed, two words given
-/// by chance. It fails only where memory ran out.
+/// Whether each of the files that is of the points 1 to some n is correct by the log: the token of n is in it, and the base with
+/// the file applied to it is the state of n. Files of other points are passed by. Keys are hashed under the seed, a random
+/// 128-bit number. It fails only if an allocation fails.
 pub fn are_files_right(
     alloc: Global,
     seed: RandomState,
@@ -65,7 +65,7 @@ fn complete_files(alloc: Global, files: &[SharedPart]) -> Result<Vec<CompleteFil
     Ok(complete)
 }
 
-// Adds a copy of the file, where its points are 1 to some n.
+// Adds a copy of the file, if its points are 1 to some n.
 fn push_complete(
     alloc: Global,
     complete: &mut Vec<CompleteFile>,

@@ -1,4 +1,4 @@
-//! What a store has, compared with the log that it keeps: its contents, and its files.
+//! The audit of a store's contents and files against the log that it keeps.
 #![tactic(auto)]
 
 mod checks;

@@ -14,9 +14,9 @@ use pc_types::{Key, Phase, Point, Triple, Value};
 use std::alloc::{AllocError, Global};
 use std::hash::RandomState;
 
-/// Whether each file is right by the log, as `audit` tells it of a list of entries. The log is read where it lies, and databases
-/// are maps by hash under the seed, two words given by chance: each file costs at most the sizes of the base, the log and the
-/// file. It fails only where memory ran out.
+/// Whether each file is correct by the log, as `audit` finds it for a list of entries. The log is read where it lies, and
+/// databases are maps by hash under the seed, a random 128-bit number: each file costs at most the sizes of the base, the log
+/// and the file. It fails only if an allocation fails.
 pub(crate) fn audit_log(
     alloc: Global,
     seed: RandomState,
@@ -31,7 +31,7 @@ pub(crate) fn audit_log(
 }
 
 /// Whether the pairs are the log replayed on the base. Of several pairs with one key the first counts. Keys are hashed under the
-/// seed, two words given by chance. It fails only where memory ran out.
+/// seed, a random 128-bit number. It fails only if an allocation fails.
 pub(crate) fn is_log_replay(
     alloc: Global,
     seed: RandomState,
@@ -47,7 +47,7 @@ pub(crate) fn is_log_replay(
     Ok(table.is(&replayed))
 }
 
-// Whether each file is right, where its triples are laid one after the other.
+// Whether each file is correct, if its triples are laid in order.
 fn are_right(
     alloc: Global,
     seed: RandomState,
@@ -67,7 +67,7 @@ fn are_right(
     Ok(true)
 }
 
-// Whether the file is right. The table is the base with the log's first entries replayed on it, and so many are they.
+// Whether the file is correct. The table is the base with the log's first entries replayed on it; their number is given too.
 fn is_right(
     alloc: Global,
     base: &[(Key, Value)],
@@ -89,7 +89,7 @@ fn is_right(
     Ok(laid.is(table))
 }
 
-// How many entries of the log make the state of the point, where the log has its token.
+// How many entries of the log make the state of the point, if the log has its token.
 fn state_len(log: &Log, point: Point) -> Option<usize>
     ensures token { is_some result ≡ has_token point (entries_of log.now) }
     ensures within { IfSome result (λ n. n ≤ length (entries_of log.now)) }
@@ -105,7 +105,7 @@ fn state_len(log: &Log, point: Point) -> Option<usize>
     Some(place)
 }
 
-// How many entries stand before the point's token.
+// How many entries come before the point's token.
 fn front_len(log: &Log, point: Point) -> usize
     ensures within { result ≤ length (entries_of log.now) }
     ensures front { take result (entries_of log.now) ≡ front point (entries_of log.now) }
@@ -130,7 +130,7 @@ fn is_mark(entry: &LentEntry<'_>, point: Point) -> bool
     }
 }
 
-// Replays the log up to another entry: on from where the table stands, or from the base where that lies before.
+// Replays the log up to another entry: on from the table's entry, or from the base if the other entry is an earlier one.
 fn go_to(
     alloc: Global,
     base: &[(Key, Value)],
@@ -151,7 +151,7 @@ fn go_to(
     }
 }
 
-// The triples laid on the base, one after the other, hashed as the table is.
+// The triples applied to the base, in order, hashed as the table is.
 fn laid_beside(
     alloc: Global,
     table: &Table,

@@ -119,7 +119,6 @@ impl Table {
         Ok(())
     }
 
-    // Applies one write.
     fn apply(&mut self, alloc: Global, write: Write) -> Result<(), AllocError>
         ensures { OnOk result (self.new ≡ applied self.old write) }
     {
@@ -134,7 +133,7 @@ impl Table {
         }
     }
 
-    // Adds to the number that the key has; nothing changes where it has none, or the sum doesn't fit.
+    // Adds to the number that the key has; nothing changes if it has none, or the sum doesn't fit.
     fn add(&mut self, alloc: Global, key: Key, delta: i64) -> Result<(), AllocError>
         ensures { OnOk result (self.new ≡ applied self.old (write_of key (Add delta))) }
     {
@@ -144,7 +143,7 @@ impl Table {
         }
     }
 
-    // Lays the triples on it at the point, one after the other.
+    // Applies the triples to it at the point, in order.
     pub(crate) fn lay(
         &mut self,
         alloc: Global,

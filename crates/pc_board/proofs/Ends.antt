@@ -1,4 +1,4 @@
--- What a board ends with.
+-- The final totals of a board.
 use Rattle.std.proofs.Common.{map, ◌≡◌, ℕ, zero, suc, ◌≤◌, List, [], ◌∷◌, ◌++◌, length, refl, ap, sym, ◌∙◌, arith, All}
 use Rattle.std.proofs.lemmas.List.Elements.{All-append, All-head, All-tail, All-cons}
 use mathlib.Core.Option.{some, some-injective}

@@ -1,4 +1,4 @@
--- Histories that grow at their end, and beginnings of them.
+-- Histories that grow at their end, and prefixes of them.
 use Rattle.std.proofs.Common.{◌≡◌, ◌+◌, ◌≤◌, ℕ, List, [], ◌∷◌, ◌++◌, refl, ap, sym, ◌∙◌, subst, ⊎_elim, append_assoc, arith}
 use Rattle.std.proofs.lemmas.List.{append-nil}
 use Rattle.std.proofs.lemmas.List.Elements.{All-cons}
@@ -15,7 +15,7 @@ pub none_is_legal : AreLegalCalls []
 none_is_legal [] c after e = absurd (cc (e))
 none_is_legal (x ∷ xs) c after e = absurd (cc (e))
 
--- one more call that gives what is right
+-- one more call that gives the correct result
 pub longer_is_legal : (log : List Call) (c : Call) → AreLegalCalls log → AnswersCall c.kind log c.value → AreLegalCalls (log ++ c ∷ [])
 longer_is_legal log c all last before d after e =
     ⊎_elim (λ (t : (log ≡ before) × (c ≡ d)). subst (λ (x : List Call × Call). AnswersCall x.1.kind x.0 x.1.value) (λ i. (t.0 i, t.1 i)) last)
@@ -30,7 +30,7 @@ prefix_none xs = (xs, refl)
 pub prefix_more : {A : Type 0} (xs ys zs : List A) → IsPrefix xs ys → IsPrefix xs (ys ++ zs)
 prefix_more xs ys zs p = (p.0 ++ zs, sym (append_assoc xs p.0 zs) ∙ ap (λ w. w ++ zs) p.1)
 
--- what stands behind a list that is the whole is nothing
+-- what comes after a list that is the whole is nothing
 pub rest_none : {A : Type 0} (xs ys : List A) → xs ++ ys ≡ xs → ys ≡ []
 rest_none [] ys e = e
 rest_none (x ∷ xs) ys e = rest_none xs ys (cc (e))
@@ -40,7 +40,7 @@ pub none_above_greatest : (calls : List Call) (point : ℕ) → greatest_of call
 none_above_greatest [] point le = λ k d lt. absurd (omega arith)
 none_above_greatest (c ∷ cs) point le = All-cons (λ (d : Call). point_in d.kind d.value ≤ point) c cs (omega arith) (none_above_greatest cs point (omega arith))
 
--- the later call stands behind all that the earlier one stands behind, and behind the earlier one
+-- the later call comes after all that the earlier one comes after, and after the earlier one
 behind : (calls : List Call) (earlier later : Call) → AreLegalCalls calls → (s : StandIn calls earlier later) → AnswersCall later.kind (s.0 ++ earlier ∷ s.1) later.value
 behind calls earlier later legal s =
     legal (s.0 ++ earlier ∷ s.1) later s.2 (s.3 ∙ sym (append_assoc s.0 (earlier ∷ s.1) (later ∷ s.2)))

@@ -33,7 +33,7 @@ at_longer [] last item (suc k) e = absurd (some-ne-none item (sym e))
 at_longer (x ∷ xs) last item zero e = inl e
 at_longer (x ∷ xs) last item (suc k) e = ⊎_elim (λ t. inl t) (λ t. inr (ap suc t.0, t.1)) (at_longer xs last item k e)
 
--- what a seat knows fits where another seat's pass gets a new owner
+-- what a seat knows fits if another seat's pass gets a new owner
 module _ (passes : ℕ) (history : List Call) (owner : ℕ → ℕ) (number seat other : ℕ) (apart : other ≢ owner number) where
   keeps_owner : (n : ℕ) → owner n ≡ other → with_owner owner number seat n ≡ other
   keeps_owner n e = owner_stays owner number seat n (λ same. apart (sym e ∙ ap owner same)) ∙ e

@@ -39,7 +39,7 @@ module _ (history : List Call) (owner : ℕ → ℕ) (seat other : ℕ) (c : Cal
   fits_still passes (Closer accounts) f = λ k x e. speaks_still x.by x.seen (f k x e)
   fits_still passes Nobody f = tt
 
--- where one seat's sight is set, what each seat knows fits if that one's does, and if the others' did
+-- if one seat's sight is set, what each seat knows fits if that one's does, and if the others' did
 pub fits_set : (passes : ℕ) (history : List Call) (owner : ℕ → ℕ) (sights : List PassSight) (seat : ℕ) (sight : PassSight)
     → ((other : ℕ) (u : PassSight) → other ≢ seat → get_elem? sights other ≡ some u → FitsPass passes history owner other u) → FitsPass passes history owner seat sight
     → (other : ℕ) (u : PassSight) → get_elem? (set sights seat sight) other ≡ some u → FitsPass passes history owner other u

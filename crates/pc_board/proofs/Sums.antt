@@ -72,6 +72,6 @@ all_by p (c ∷ cs) h =
     let b = total_mono p (λ n. cond (eqb c.by n) (claims_in c.kind + f n) (f n)) (λ n. claims_of (calls_by n (c ∷ cs))) (λ n. one_more c cs n (eqb c.by n)) in
     let rest = all_by p cs (All-tail (λ (d : Call). d.by < p) c cs h) in omega arith
 
--- where each pass has at most m claims, there are at most m for each
+-- if each pass has at most m claims, there are at most m for each
 pub claims_bound : (p m : ℕ) (log : List Call) → All (λ (c : Call). c.by < p) log → ((n : ℕ) → claims_of (calls_by n log) ≤ m) → claims_of log ≤ p * m
 claims_bound p m log known le = let a = all_by p log known in let b = total_le p m (λ n. claims_of (calls_by n log)) le in omega arith

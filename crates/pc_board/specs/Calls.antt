@@ -1,4 +1,4 @@
--- What the calls of a board mean. A history of calls has the first call in front.
+-- The meaning of a board's calls. A history of calls has the first call in front.
 use Rattle.std.specs.Prelude.{◌≡◌, ◌==◌, ℕ, ◌+◌, ◌≤◌, max, List, [], ◌∷◌, ◌++◌, All}
 use Rattle.std.specs.List.{filter}
 use Rattle.pc_board.specs.declared.calls.CallKind.{CallKind}
@@ -40,7 +40,7 @@ AnswersCall Claim before value = value ≡ claims_of before
 AnswersCall Publish before value = Unit {0}
 AnswersCall Look before value = value ≡ greatest_of before
 
--- each call gives what is right after those before it
+-- each call gives the correct result after those before it
 abbrev pub AreLegalCalls : List Call → Type 0
 AreLegalCalls calls = (before : List Call) (call : Call) (after : List Call) → calls ≡ before ++ call ∷ after → AnswersCall call.kind before call.value
 

@@ -1,10 +1,10 @@
--- What follows for callers from a legal history.
+-- The consequences of a legal history for callers.
 use Rattle.std.specs.Prelude.{◌≡◌, ◌⊎◌, ◌<◌, ◌≤◌, List, ◌∷◌, ◌++◌}
 use Rattle.pc_board.specs.declared.calls.CallKind.TheVariants.{Claim, Publish, Look}
 use Rattle.pc_board.specs.declared.calls.Call.{Call}
 use Rattle.pc_board.specs.Calls.{AreLegalCalls}
 
--- the two calls stand among the calls in this order
+-- the two calls are among the calls in this order
 abbrev pub StandIn : List Call → Call → Call → Type 0
 StandIn calls earlier later = (before : List Call) × (between : List Call) × (after : List Call) × (calls ≡ before ++ earlier ∷ (between ++ later ∷ after))
 

@@ -1,4 +1,4 @@
--- What contracts see of a board and its passes, and what a call and the end of a board are.
+-- The views of a board and its passes in contracts, and the definitions of a call and of a board's end.
 use Rattle.std.specs.Prelude.{◌≡◌, ℕ, zero, suc, ◌<◌, List, [], ◌∷◌, ◌++◌, All}
 use mathlib.Core.List.{IsPrefix}
 use Rattle.atomic_table.specs.Seated.{TableId}
@@ -48,7 +48,7 @@ pub record MakesCall (before : Pass) (kind : CallKind) (value : ℕ) (after : Pa
 abbrev pub HasCallsOfPass : List Call → Pass → Type 0
 HasCallsOfPass calls pass = IsPrefix pass.seen calls × (calls_by pass.number calls ≡ calls_by pass.number pass.seen)
 
--- There is a legal history of calls by the board's passes, with so many claims and this greatest point, which begins with
+-- There is a legal history of calls by the board's passes, with that many claims and this greatest point, which begins with
 -- what each of these passes has seen, and has no other call of it
 pub record IsBoardEnd (board : Board) (claims horizon : ℕ) (handed_in : List Pass) : Type 0 where
   pub history : List Call

@@ -1,4 +1,4 @@
--- The rule of the board's two words, and what the steps on them tell.
+-- The rule of the board's two words, and the facts that the steps on them give.
 use Rattle.std.specs.Prelude.{◌≡◌, ℕ, ◌+◌, ◌<◌, ◌≤◌, List, [], ◌∷◌, ◌++◌, All}
 use mathlib.Core.List.{IsPrefix}
 use mathlib.Core.Option.{some}

@@ -54,12 +54,12 @@ impl Model for BoardPass {
     ghost invariant = { λ a. (a.seat.me ≡ (Holder (number_of a.seat.me.0) (seen_of a.seat.me.0), [])) × (a.claims ≡ claims_of (calls_by (number_of a.seat.me.0) (seen_of a.seat.me.0))) };
 }
 
-/// What a board ends with.
+/// The final totals of a board.
 #[derive(Clone, Copy, Debug, PartialEq, Eq)]
 pub struct BoardTotals {
-    /// How many numbers were claimed: those from 0 to one below it.
+    /// The number of numbers claimed: those from 0 to one below it.
     pub claims: u64,
-    /// The greatest point that was published, from 1 to 65,535; 0 where none was.
+    /// The greatest point that was published, from 1 to 65,535; 0 if none was.
     pub horizon: Point,
 }
 
@@ -82,8 +82,8 @@ impl Board {
         Ok((Board { table }, all))
     }
 
-    /// The next number that no pass has claimed, from 0. None exactly where this pass has made 4,294,967,295 claims; then it
-    /// makes no step, and what it has seen stays.
+    /// The next number that no pass has claimed, from 0. `None` if and only if this pass has made 4,294,967,295 claims; then
+    /// it makes no step, and what it has seen stays.
     pub fn claim(&self, pass: &mut BoardPass) -> Option<u64>
         requires { IsOfBoard pass.old self.now }
         ensures pass { IsSamePass pass.old pass.new }
@@ -114,7 +114,7 @@ impl Board {
             .fetch_max::<PublishStep>(&mut pass.seat, HORIZON, u64::from(number));
     }
 
-    /// The greatest point that any pass has published, 0 where none has. It is no less than each point that this pass has
+    /// The greatest point that any pass has published, 0 if none has. It is no less than each point that this pass has
     /// published or has seen published.
     pub fn horizon(&self, pass: &mut BoardPass) -> Point
         requires { IsOfBoard pass.old self.now }
@@ -125,8 +125,8 @@ impl Board {
         Point(found as u16)
     }
 
-    /// Ends the board: how many numbers were claimed, and the greatest point that was published. The passes handed in are of
-    /// this board; what each of them has seen is a beginning of the one history that this is read off.
+    /// Ends the board; returns how many numbers were claimed, and the greatest point that was published. The passes handed in
+    /// are of this board; what each of them has seen is a prefix of the one history that this is read off.
     pub fn close(self, passes: Vec<BoardPass>) -> BoardTotals
         requires { All (λ pass. IsOfBoard pass self) passes.items }
         ensures { IsBoardEnd self result.claims result.horizon passes.items }

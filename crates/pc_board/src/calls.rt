@@ -1,6 +1,6 @@
 //! The calls of a board, of which contracts speak. No value of these types is made.
 
-/// What a call asks of the board.
+/// The request of a call.
 pub enum CallKind {
     /// The next number.
     Claim,

@@ -1,4 +1,4 @@
-//! The rule that every atomic step on the board's two words keeps, and what each step tells.
+//! The rule that every atomic step on the board's two words keeps, and the facts that each step gives.
 use crate::sight::PassSight;
 use atomic_table::{Join, Play, Split, TableRule};
 
@@ -8,7 +8,7 @@ pub(crate) const CLAIM_COUNT: usize = 0;
 /// The word with the greatest point.
 pub(crate) const HORIZON: usize = 1;
 
-/// Both words are read off one legal history, of which every pass has seen a beginning with all of its own calls.
+/// Both words are read off one legal history, of which every pass has seen a prefix with all of its own calls.
 pub struct OneCallHistory;
 
 impl<S> TableRule<S, PassSight, u8> for OneCallHistory {

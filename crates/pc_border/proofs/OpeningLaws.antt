@@ -14,7 +14,7 @@ use Rattle.pc_border.specs.Sources.{is_given, AreWorth}
 use Rattle.pc_border.specs.declared.opening.Options.{Options}
 use Rattle.pc_border.specs.declared.sources.Sources.{Sources}
 
--- what was given is worth, as a base
+-- the state recovered from what was given, as a base
 pub base_given : (given : Bool) (sources : Sources) (run last : ℕ) (found : Recovery) (base : BaseFile) → given ≡ true
     → AreWorth sources last found → base ≡ record { run = last + 1; point = 0; pairs = found.pairs } → IsBaseOf given sources run base
 base_given given sources run last found base is worth same = subst (λ (g : Bool). IsBaseOf g sources run base) (sym is) (last, found, worth, same)

@@ -1,4 +1,4 @@
--- What a store that may not be open yet is answered, and what it is then.
+-- The replies of a store that may not be open yet, and its state after them.
 use Rattle.std.specs.Prelude.{◌≡◌, ◌⊎◌, ℕ, List, [], true, false, drop, None, Some, Result, Err}
 use Rattle.pc_types.specs.declared.refusal.Refusal.{Refusal}
 use Rattle.pc_types.specs.declared.refusal.Refusal.TheVariants.{OutOfMemory, BadKind, WrongPhase}
@@ -41,14 +41,15 @@ IsGivenTo (Gathering sources) what bytes answer new =
     ⊎ ((new ≡ Gathering sources) × (((answer ≡ refusal_told BadKind) × (is_source what ≡ false)) ⊎ (answer ≡ refusal_told OutOfMemory)))
 IsGivenTo (Open opened) what bytes answer new = (answer ≡ plain OPEN) × (new ≡ Open opened)
 
--- a store was opened over what was given, which stands after no step; or it was refused, and what was given stays
+-- a store was opened over what was given, which represents the empty history; or it was refused, and what was given
+-- stays
 abbrev pub IsOpenedBy : Store → Options → Answer → Store → Type 0
 IsOpenedBy (Gathering sources) options answer new =
     ((answer ≡ plain OPENED) × ((opened : OpenStore) × (new ≡ Open opened) × Stands opened.world [] × IsStart sources options (setting_of opened.world)) × (option_fault options ≡ None))
     ⊎ ((why : Refusal) × (answer ≡ refusal_told why) × (new ≡ Gathering sources) × ((option_fault options ≡ Some why) ⊎ ((option_fault options ≡ None) × IsUnopened sources options why) ⊎ (why ≡ OutOfMemory)))
 IsOpenedBy (Open opened) options answer new = (answer ≡ plain OPEN) × (new ≡ Open opened)
 
--- what was given is worth this; a store that is open has nothing to be recovered from
+-- this is recovered from what was given; a store that is open has nothing to recover from
 abbrev pub IsWorth : Store → Result Worth Refusal → Type 0
 IsWorth (Gathering sources) result = IsWorthOf sources result
 IsWorth (Open opened) result = result ≡ Err WrongPhase

@@ -1,4 +1,4 @@
--- What a store starts from, and why it isn't opened.
+-- The start of a store, and the reasons why it isn't opened.
 use Rattle.std.specs.Prelude.{◌≡◌, ◌⊎◌, ◌<◌, ◌≤◌, ◌+◌, ◌^◌, ◌==◌, ℕ, nat_lt, Bool, [], true, false, Option, Some, None, Err, if◌then◌else◌}
 use Rattle.pc_types.specs.declared.limits.TheConstants.{MOST_FILE_ENTRIES, MOST_KEYS, MOST_SESSIONS}
 use Rattle.pc_types.specs.declared.refusal.Refusal.{Refusal}
@@ -19,7 +19,8 @@ option_fault options =
     if options.sessions == 0 then Some NoSession else if nat_lt MOST_SESSIONS options.sessions then Some NoSession else
     if options.capacity == 0 then Some BadLength else if nat_lt MOST_KEYS options.capacity then Some BadLength else None
 
--- the base that a store starts from: without pairs where nothing was given, else what was given is worth, as the base of the next run
+-- the base that a store starts from: without pairs if nothing was given, else the state recovered from what was given, as the base of
+-- the next run
 abbrev pub IsBaseOf : Bool → Sources → ℕ → BaseFile → Type 0
 IsBaseOf false sources run base = base ≡ record { run = run; point = 0; pairs = database_of [] }
 IsBaseOf true sources run base = (last : ℕ) × (found : Recovery) × AreWorth sources last found × (base ≡ record { run = last + 1; point = 0; pairs = found.pairs })
@@ -28,14 +29,15 @@ IsBaseOf true sources run base = (last : ℕ) × (found : Recovery) × AreWorth 
 abbrev pub IsStart : Sources → Options → Setting → Type 0
 IsStart sources options setting = (base : BaseFile) × IsBaseOf (is_given sources) sources options.run base × (setting ≡ starting base options.sessions options.capacity)
 
--- there is no base of what was given: the rules refuse it, it has no next run or more pairs than a base may have, or memory ran out
+-- there is no base of what was given: the rules refuse it, it has no next run or more pairs than a base may have, or an allocation
+-- failed
 abbrev pub IsBaseless : Sources → Refusal → Type 0
 IsBaseless sources why =
     (recovery sources.base sources.parts sources.log ≡ Err why)
     ⊎ ((why ≡ Full) × ((last : ℕ) × (found : Recovery) × AreWorth sources last found × ((2 ^ 64 ≤ last + 1) ⊎ (MOST_FILE_ENTRIES < len found.pairs))))
     ⊎ (why ≡ OutOfMemory)
 
--- a store with lawful options isn't opened: there is no base, or it has more pairs than there is room for
+-- a store with valid options isn't opened: there is no base, or it has more pairs than there is room for
 abbrev pub IsUnopened : Sources → Options → Refusal → Type 0
 IsUnopened sources options why =
     IsBaseless sources why ⊎ ((why ≡ Full) × ((base : BaseFile) × IsBaseOf (is_given sources) sources options.run base × (options.capacity < len base.pairs)))

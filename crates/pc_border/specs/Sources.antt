@@ -1,4 +1,4 @@
--- What a store is recovered from, as it is given.
+-- The sources of a recovery, as given.
 use Rattle.std.specs.Prelude.{◌≡◌, ◌⊎◌, ◌==◌, ◌&&◌, ◌||◌, ℕ, Bool, not, List, [], ◌∷◌, ◌++◌, length, Option, Some, None, Result, Ok, Err, if◌then◌else◌}
 use Rattle.pc_types.specs.declared.refusal.Refusal.{Refusal}
 use Rattle.pc_types.specs.declared.refusal.Refusal.TheVariants.{OutOfMemory}
@@ -13,7 +13,7 @@ use Rattle.pc_border.specs.declared.sources.Sources.{Sources}
 abbrev pub is_given : Sources → Bool
 is_given sources = not ((length sources.base == 0) && ((length sources.parts == 0) && (length sources.log == 0)))
 
--- what was given once these bytes are given too: a base or a log in place of the one before, a part behind those before
+-- what was given once these bytes are given too: a base or a log in place of the one before, a part after those before
 abbrev pub given : ℕ → Sources → List ℕ → Sources
 given what sources bytes =
     if what == BASE then record sources { base = bytes } else
@@ -24,21 +24,21 @@ given what sources bytes =
 abbrev pub is_source : ℕ → Bool
 is_source what = (what == BASE) || ((what == PART) || (what == LOG))
 
--- what was given is worth this, of this run
+-- this is recovered from what was given, of this run
 pub record AreWorth (sources : Sources) (run : ℕ) (found : Recovery) : Type 0 where
   pub recovered : recovery sources.base sources.parts sources.log ≡ Ok found
   pub of_run : IsOfRun sources.base run
 
--- the number of the fault of a log's rest; 0 where there is none
+-- the number of the fault of a log's rest; 0 if there is none
 abbrev pub fault_number : Option Refusal → ℕ
 fault_number None = 0
 fault_number (Some why) = refusal_number why
 
--- what was recovered of a run, in numbers, where it has so many pairs
+-- what was recovered of a run, in numbers, when it has that many pairs
 abbrev pub worth_of : ℕ → Recovery → ℕ → Worth
 worth_of run found pairs = record { run = run; pairs = pairs; entries = found.entries; skipped = length found.skipped; point = found.point; fault = fault_number found.fault }
 
--- a recovery of what was given tells its worth in numbers, or is refused by the rules, or for want of memory
+-- a recovery of what was given returns its result in numbers, or is refused by the rules, or for an allocation failure
 abbrev pub IsWorthOf : Sources → Result Worth Refusal → Type 0
 IsWorthOf sources (Ok worth) = (run : ℕ) × (found : Recovery) × AreWorth sources run found × (worth ≡ worth_of run found (len found.pairs))
 IsWorthOf sources (Err why) = (recovery sources.base sources.parts sources.log ≡ Err why) ⊎ (why ≡ OutOfMemory)

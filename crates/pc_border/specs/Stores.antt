@@ -1,4 +1,4 @@
--- What a store is answered at the border, and what it is then.
+-- The replies of a store at the border, and its state after them.
 use Rattle.std.specs.Prelude.{◌≡◌, ◌⊎◌, ◌≤◌, ◌<◌, ◌+◌, ℕ, List, length, Option, Some, None, Result, Ok, Err, slice_range}
 use Rattle.std.specs.List.{flat_map}
 use Rattle.pc_types.specs.declared.Event.{Event}
@@ -20,29 +20,31 @@ use Rattle.pc_wire.specs.declared.codes.TheConstants.{BASE, PART, LOG, ENTRIES}
 use Rattle.pc_border.specs.declared.open_store.OpenStore.{OpenStore}
 use Rattle.pc_wire.specs.declared.shown.Shown.TheVariants as shown
 
--- The world answered the event with this reply: after each history that it stood after, the reply is legal, and it stands after the
+-- The world answered the event with this reply: for each history that it represented, the reply is legal, and it represents the
 -- longer one, with all that a step promises. A refusal changes nothing.
 pub record IsStep (event : Event) (old : world.Store) (reply : Reply) (new : world.Store) : Type 0 where
   pub follows : (history : History) → Stands old history → Follows (world.setting_of old) history event reply new
   pub setting : world.setting_of new ≡ world.setting_of old
   pub refused : IfRefused reply (new ≡ old)
 
--- The reply to what a call asks: that of its event, or that memory ran out; or why it asks none. Neither of these changes anything.
+-- The reply to what a call asks: that of its event, or that an allocation failed; or why it asks none. Neither of these changes
+-- anything.
 abbrev pub IsReplied : Result Event Refusal → world.Store → Reply → world.Store → Type 0
 IsReplied (Ok event) old reply new = IsStep event old reply new ⊎ ((reply ≡ Refused OutOfMemory) × (new ≡ old))
 IsReplied (Err why) old reply new = (reply ≡ Refused why) × (new ≡ old)
 
--- A call was answered by what its reply is told as, and that reply is shown.
+-- A call was answered by the numbers of its reply, and that reply is shown.
 abbrev pub IsCalled : OpenStore → Call → List ℕ → List ℕ → Answer → OpenStore → Type 0
 IsCalled old call own bytes answer new = (reply : Reply) × IsReplied (event_asked call own bytes) old.world reply new.world × (answer ≡ told_of reply) × (new.shown ≡ shown.Reply reply)
 
--- a text, which is that of so many entries, is shown, and the world is as it was; or memory ran out, and nothing has changed
+-- a text, which is that of this many entries, is shown, and the world is as it was; or an allocation failed, and nothing has
+-- changed
 abbrev pub IsShown : List ℕ → ℕ → OpenStore → Answer → OpenStore → Type 0
 IsShown text entries old answer new =
     ((answer ≡ text_told (length text) entries) × (new ≡ record { world = old.world; shown = shown.Text text }))
     ⊎ ((answer ≡ refusal_told OutOfMemory) × (new ≡ old))
 
--- the texts of some entries are shown, from the one behind the first so many on: of one at least where there is one
+-- the texts of some entries are shown, from the one at this place on: of one at least if there is one
 abbrev pub AreEntriesShown : ℕ → OpenStore → Answer → OpenStore → Type 0
 AreEntriesShown behind old answer new = (count : ℕ) × IsShown (flat_map entry_text (slice_range old.world.log behind (behind + count))) count old answer new
     × (behind < length old.world.log → (1 ≤ count) × (behind + count ≤ length old.world.log))

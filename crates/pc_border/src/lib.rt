@@ -1,5 +1,5 @@
-//! The store as it stands at the border to other languages: it is gathered, opened, asked by numbers and bytes, and shown, with all that its
-//! world promises.
+//! The store at the border to other languages: it is gathered, opened, asked by numbers and bytes, and shown, with all
+//! that its world promises.
 #![tactic(auto)]
 
 mod open_store;

@@ -16,14 +16,14 @@ use pc_wire::codes::{BASE, ENTRIES, LOG, PART};
 use pc_wire::{Answer, Call, Shown, event_of, refused, text_told, told_of};
 use std::alloc::Global;
 
-// How many entries of the log are shown at once at most.
+// The number of entries of the log shown at most at a time.
 const MOST_SHOWN: usize = 65_536;
 
 /// A store that is open.
 #[derive(Drop)]
 pub struct OpenStore {
     pub world: World,
-    /// What was shown last.
+    /// The bytes that were shown last.
     pub shown: Shown,
 }
 
@@ -38,8 +38,8 @@ impl OpenStore {
         }
     }
 
-    /// Answers a call: where it asks an event, as `World::step` answers it, with all that is promised of that, or that memory ran out,
-    /// which changes nothing; else by why it asks none, which changes nothing. The reply is what is shown from now on.
+    /// Answers a call. If it asks an event, the answer is that of `World::step`, with all that this promises, or `OutOfMemory`, which
+    /// changes nothing; otherwise it is the reason why it asks none, which changes nothing. The reply is what is shown from now on.
     pub fn call(&mut self, alloc: Global, call: &Call, key: &[u8], value: &[u8]) -> Answer
         ensures { IsCalled self.old call.now key.now value.now result self.new }
     {
@@ -50,10 +50,10 @@ impl OpenStore {
     }
 
     /// Shows a text: that of the base that the store started from (`BASE`); that of the file of the shelf with this number (`PART`); what
-    /// stands before the entries in the log's file (`LOG`); or the texts of entries of the log, one behind the other (`ENTRIES`): of those
-    /// behind the first so many, at most 65,536, and at least one where there is one; the answer has their number. Refuses with `BadKind`
-    /// exactly where it is called none of these, with `NoFile` exactly where there is no such file, and else only with `OutOfMemory`;
-    /// then nothing is changed.
+    /// comes before the entries in the log's file (`LOG`); or the texts of entries of the log, in order (`ENTRIES`): of those after the
+    /// first `number`, at most 65,536, and at least one if there is one; the answer has their number. Returns `BadKind` if and only if it
+    /// is called none of these, `NoFile` if and only if there is no such file; otherwise the only error is `OutOfMemory`; then nothing is
+    /// changed.
     pub fn show_text(&mut self, alloc: Global, what: u32, number: u32) -> Answer
         ensures { IsText what number self.old result self.new }
     {
@@ -74,7 +74,7 @@ impl OpenStore {
         self.show(text, 0)
     }
 
-    // Shows what stands before the entries in the log's file.
+    // Shows the header of the log's file.
     fn show_header(&mut self, alloc: Global) -> Answer
         ensures { IsShown (header_text self.old.world.base.run) 0 self.old result self.new }
     {
@@ -95,7 +95,7 @@ impl OpenStore {
         }
     }
 
-    // Shows the texts of entries of the log behind the first so many.
+    // Shows the texts of entries of the log after the first ones, whose number is given.
     fn show_entries(&mut self, alloc: Global, behind: usize) -> Answer
         ensures { AreEntriesShown behind self.old result self.new }
     {
@@ -104,7 +104,7 @@ impl OpenStore {
         self.show(text, count as u64)
     }
 
-    // Shows the text, which is that of so many entries; without one, memory ran out.
+    // Shows the text, which is that of `entries` entries; without a text, an allocation failed.
     fn show(&mut self, text: Option<Items<u8>>, entries: u64) -> Answer
         ensures { (bytes : List ℕ) → IfSome text (λ text. text ≡ bytes) → IsShown bytes entries self.old result self.new }
     {
@@ -129,7 +129,7 @@ fn reply_to(world: &mut World, alloc: Global, call: &Call, key: &[u8], value: &[
     }
 }
 
-// The text of the base; none where memory ran out.
+// The text of the base; `None` if an allocation failed.
 fn base_bytes(alloc: Global, world: &World) -> Option<Items<u8>>
     ensures { IfSome result (λ bytes. bytes ≡ base_text world.now.base) }
 {
@@ -140,7 +140,7 @@ fn base_bytes(alloc: Global, world: &World) -> Option<Items<u8>>
     }
 }
 
-// What stands before the entries in the log's file; none where memory ran out.
+// The header of the log's file; `None` if an allocation failed.
 fn header_bytes(alloc: Global, world: &World) -> Option<Items<u8>>
     ensures { IfSome result (λ bytes. bytes ≡ header_text world.now.base.run) }
 {
@@ -151,7 +151,7 @@ fn header_bytes(alloc: Global, world: &World) -> Option<Items<u8>>
     }
 }
 
-// The text of a part; none where memory ran out.
+// The text of a part; `None` if an allocation failed.
 fn part_bytes(alloc: Global, part: &Part) -> Option<Items<u8>>
     ensures { IfSome result (λ bytes. bytes ≡ part_text part.now) }
 {

@@ -16,13 +16,13 @@ use pc_recover::Recovered;
 use pc_types::{MOST_FILE_ENTRIES, MOST_KEYS, MOST_SESSIONS, Refusal};
 use std::alloc::Global;
 
-/// What a store is opened with.
+/// The options of a store.
 #[repr(C)]
 #[derive(Clone, Copy)]
 pub struct Options {
-    /// The number of the run, where nothing was given to recover; else it is the one behind that of the base.
+    /// The number of the run, if nothing was given to recover; otherwise it is the one after that of the base.
     pub run: u64,
-    /// Two words by chance, for the hashes of keys.
+    /// A random 128-bit seed for the hashes of keys.
     pub first_word: u64,
     pub second_word: u64,
     /// How many sessions, 1 to 64.
@@ -31,10 +31,10 @@ pub struct Options {
     pub capacity: u32,
 }
 
-/// A store over what was given: one without pairs, of the run of the options, where nothing was; else one that has the pairs that what
-/// was given is worth, of the run behind that of the base. It stands after no step. Refuses with `NoSession` and `BadLength`, the first
-/// of them, exactly where the sessions or the capacity are past their limits; else as `Sources::recover`; with `Full` where there
-/// are more pairs than room, or no run behind that of the base; and with `OutOfMemory`.
+/// A store over what was given: one without pairs, of the run of the options, if nothing was; otherwise one that has the pairs
+/// recovered from what was given, of the run after that of the base. It represents the empty history. Refuses with `NoSession` and
+/// `BadLength`, the first of them, if and only if the sessions or the capacity are past their limits; otherwise as
+/// `Sources::recover`; with `Full` if there are more pairs than room, or no run after that of the base; and with `OutOfMemory`.
 pub fn open_world(alloc: Global, sources: &Sources, options: &Options) -> Result<World, Refusal>
     ensures stands { IfOk result (λ world. Stands world []) }
     ensures start { IfOk result (λ world. IsStart sources.now options.now (setting_of world)) }
@@ -84,7 +84,7 @@ fn base_of(alloc: Global, sources: &Sources, run: u64) -> Result<Base, Refusal>
     }
 }
 
-// The number of the run behind the one of which something was recovered; none where it has none, or a base can't have the pairs.
+// The number of the run after the one of which something was recovered; `None` if it has none, or a base can't have the pairs.
 fn next_run(recovered: &Recovered) -> Option<u64>
     ensures next { IfSome result (λ run. (run ≡ recovered.now.run + 1) × IsWithinLimit recovered.now.pairs.items) }
     ensures none { result ≡ None → (2 ^ 64 ≤ recovered.now.run + 1) ⊎ (MOST_FILE_ENTRIES < length recovered.now.pairs.items) }
@@ -95,7 +95,7 @@ fn next_run(recovered: &Recovered) -> Option<u64>
     recovered.run.checked_add(1)
 }
 
-// What was recovered, as the base of a run of this number.
+// The recovered state, as the base of a run of this number.
 fn start(run: u64, recovered: Recovered) -> Base
     requires rise { KeysRise recovered.pairs.items }
     requires limit { IsWithinLimit recovered.pairs.items }

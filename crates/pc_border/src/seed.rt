@@ -3,7 +3,7 @@ use std::hash::RandomState;
 use std::io;
 use std::random::RandomSource;
 
-// Bytes that stand for chance: they are read from the first on, and again from there once all are read.
+// Bytes in place of random ones: they are read from the first on, and again from there once all are read.
 #[derive(Drop)]
 struct GivenBytes {
     bytes: [u8; 16],

@@ -1,4 +1,4 @@
-//! What a store is recovered from, as it is given piece by piece.
+//! The sources of a recovery, given piece by piece.
 ghost use Rattle.std.specs.Prelude.{◌≡◌, ◌⊎◌, [], true, false, length, map, IfOk, IfErr, IfSome, OnOk, OnErr};
 ghost use Rattle.pc_types.specs.declared.refusal.Refusal.TheVariants.{OutOfMemory, BadKind};
 ghost use Rattle.pc_types.specs.Fields.{Gives};
@@ -12,21 +12,21 @@ use pc_wire::codes::{BASE, LOG, PART};
 use pc_wire::refusal_number;
 use std::alloc::{AllocError, Global};
 
-/// What was recovered, in numbers.
+/// The result of a recovery, in numbers.
 #[repr(C)]
 #[derive(Clone, Copy)]
 pub struct Worth {
     /// The number of the run.
     pub run: u64,
-    /// How many pairs there are.
+    /// The number of pairs.
     pub pairs: u64,
     /// How many whole entries the log has.
     pub entries: u64,
-    /// How many parts were not used.
+    /// The number of parts not used.
     pub skipped: u64,
     /// The point up to which parts are in it.
     pub point: u32,
-    /// The fault of the bytes behind the log's whole entries, by the number of its refusal; 0 where there are none.
+    /// The fault of the bytes after the log's whole entries, by the number of its refusal; 0 if there are none.
     pub fault: u32,
 }
 
@@ -39,7 +39,7 @@ pub struct Sources {
 }
 
 impl Sources {
-    /// Nothing was given. It takes no memory.
+    /// Nothing was given. It allocates no memory.
     pub fn new(alloc: Global) -> Sources
         ensures { result ≡ record { base = []; parts = []; log = [] } }
     {
@@ -59,8 +59,8 @@ impl Sources {
             && self.log.as_slice().is_empty())
     }
 
-    /// Keeps a copy of a text: the base's or the log's in place of what was given before, or a part's behind those before. Refuses with
-    /// `BadKind` exactly where it is called none of `BASE`, `PART` and `LOG`, and else only with `OutOfMemory`.
+    /// Keeps a copy of a text: the base's or the log's in place of what was given before, or a part's after those before. Returns
+    /// `BadKind` if and only if it is called none of `BASE`, `PART` and `LOG`; otherwise the only error is `OutOfMemory`.
     pub fn give(&mut self, alloc: Global, what: u32, bytes: &[u8]) -> Result<(), Refusal>
         ensures given { OnOk result ((self.new ≡ given what self.old bytes.now) × (is_source what ≡ true)) }
         ensures refused { OnErr result (self.new ≡ self.old) }
@@ -75,7 +75,6 @@ impl Sources {
         }
     }
 
-    // Keeps a text.
     fn keep(&mut self, what: u32, text: Items<u8>) -> Result<(), Refusal>
         ensures given { OnOk result (self.new ≡ given what self.old text) }
         ensures refused { OnErr result (self.new ≡ self.old) }
@@ -89,7 +88,7 @@ impl Sources {
         Ok(())
     }
 
-    /// What was given is worth after a crash, by the rules of `pc_recover` `recover`, whose refusals it has.
+    /// The state recovered from what was given, by the rules of `pc_recover` `recover`, whose refusals it has.
     pub fn recover(&self, alloc: Global) -> Result<Recovered, Refusal>
         ensures rules { Gives recovery_of result (recovery self.now.base self.now.parts self.now.log) }
         ensures rise { IfOk result (λ recovered. KeysRise recovered.pairs.items) }
@@ -107,7 +106,7 @@ fn is_source(what: u32) -> bool
     what == BASE || what == PART || what == LOG
 }
 
-/// The bytes once more; none where memory ran out.
+/// The bytes once more; `None` if an allocation failed.
 pub(crate) fn copied(alloc: Global, bytes: &[u8]) -> Option<Items<u8>>
     ensures { IfSome result (λ copy. copy ≡ bytes.now) }
 {
@@ -118,7 +117,7 @@ pub(crate) fn copied(alloc: Global, bytes: &[u8]) -> Option<Items<u8>>
     }
 }
 
-/// What was recovered, in numbers.
+/// The result of a recovery, in numbers.
 pub fn worth_of(found: &Recovered) -> Worth
     ensures { result ≡ worth_of found.now.run (recovery_of found.now) (length found.now.pairs.items) }
 {
@@ -133,7 +132,7 @@ pub fn worth_of(found: &Recovered) -> Worth
     }
 }
 
-// The number of the fault of a log's rest; 0 where there is none.
+// The number of the fault of a log's rest; 0 if there is none.
 fn fault_number(fault: &Option<Refusal>) -> u32
     ensures { result ≡ fault_number fault.now }
 {

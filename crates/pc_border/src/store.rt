@@ -21,15 +21,15 @@ pub enum Store {
 }
 
 impl Store {
-    /// A store that isn't open, and for which nothing was given. It takes no memory.
+    /// A store that isn't open, and for which nothing was given. It allocates no memory.
     pub fn new(alloc: Global) -> Store
         ensures { result ≡ Gathering (record { base = []; parts = []; log = [] }) }
     {
         Store::Gathering(Sources::new(alloc))
     }
 
-    /// Gives a text to what the store will be recovered from, as `Sources::give`: `GIVEN`, or the refusal. One that is open takes
-    /// none, and answers `OPEN`. Unless it is `GIVEN`, nothing is changed.
+    /// Adds a text to the sources of the store's recovery, as `Sources::give`: `GIVEN`, or the refusal. An open store takes none, and
+    /// answers `OPEN`. Unless the answer is `GIVEN`, nothing is changed.
     pub fn give(&mut self, alloc: Global, what: u32, bytes: &[u8]) -> Answer
         ensures { IsGivenTo self.old what bytes.now result self.new }
     {
@@ -42,7 +42,7 @@ impl Store {
         }
     }
 
-    /// What was given is worth, by `Sources::recover`, or its refusal. Of a store that is open `WrongPhase` is told.
+    /// The state recovered from what was given, by `Sources::recover`, or its refusal. For an open store it returns `WrongPhase`.
     pub fn recover(&self, alloc: Global) -> Result<Worth, Refusal>
         ensures { IsWorth self.now result }
     {

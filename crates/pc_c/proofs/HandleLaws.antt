@@ -1,4 +1,4 @@
--- A handle that has nothing, where memory ran out for a store behind it.
+-- A handle that has nothing, if an allocation failed for a store after it.
 use Rattle.std.proofs.Common.{◌≡◌, inr, ℕ, Option, None, refl, sym, subst}
 use Rattle.pc_types.specs.declared.refusal.Refusal.TheVariants.{OutOfMemory}
 use Rattle.pc_wire.specs.Answers.{refusal_number, refusal_told}

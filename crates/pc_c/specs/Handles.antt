@@ -1,4 +1,4 @@
--- The store behind a handle.
+-- The store after a handle.
 use Rattle.std.specs.Prelude.{◌≡◌, ◌⊎◌, ℕ, [], Option, None, Some, Ok, Err}
 use Rattle.pc_types.specs.declared.refusal.Refusal.{Refusal}
 use Rattle.pc_types.specs.declared.refusal.Refusal.TheVariants.{OutOfMemory}
@@ -8,12 +8,13 @@ use Rattle.pc_border.specs.declared.sources.Worth.{Worth}
 use Rattle.pc_border.specs.declared.store.Store.{Store}
 use Rattle.pc_border.specs.declared.store.Store.TheVariants.{Gathering}
 
--- a handle that has nothing stands for a store that isn't open, and for which nothing was given
+-- a handle that has nothing represents a store that isn't open, and for which nothing was given
 abbrev pub store_of : Option Store → Store
 store_of None = Gathering (record { base = []; parts = []; log = [] })
 store_of (Some store) = store
 
--- what was recovered is told, by 0; or why it wasn't, by the number of the refusal, and nothing is told
+-- the recovered state is reported, by 0; or why it wasn't recovered, by the number of the refusal, and no state is
+-- reported
 abbrev pub IsWorthTold : Store → ℕ → Worth → Worth → Type 0
 IsWorthTold store status old new =
     ((status ≡ 0) × IsWorth store (Ok new))

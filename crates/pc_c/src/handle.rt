@@ -11,7 +11,7 @@ use std::alloc::Global;
 use std::marker::Model;
 use std::{mem, ptr};
 
-/// A handle that C keeps in a place of its own. It is null where it has nothing.
+/// A handle that C keeps in a place of its own. It is null if it has nothing.
 #[repr(C)]
 pub struct Handle {
     at: *mut u8,
@@ -42,7 +42,7 @@ impl Handle {
         Handle { at }
     }
 
-    // What the handle has, as a box that was taken apart.
+    // The handle's store, as a box that was taken apart.
     fn give_up(self, alloc: Global) -> Option<Unboxed<Store, Global>>
         ensures { self.value ≡ option_map (λ u. u.value) result }
     {
@@ -67,7 +67,7 @@ pub fn take(handle: &mut Handle, alloc: Global) -> Option<Box<Store>>
     }
 }
 
-/// Takes the store out, and leaves nothing; where there is none, a new one is made, or none where memory ran out.
+/// Takes the store out, and leaves nothing; if there is none, a new one is made, or none if an allocation failed.
 pub fn take_or_new(handle: &mut Handle, alloc: Global) -> Option<Box<Store>>
     ensures some { IfSome result (λ b. store_of handle.old.value ≡ b.value) }
     ensures none { result ≡ None → handle.old.value ≡ None }

@@ -14,7 +14,7 @@ use pc_types::Refusal;
 use pc_wire::{Answer, Call, codes, plain, refusal_number, refused};
 use std::alloc::Global;
 
-/// Gives a text to what the store will be recovered from, as `Store::give`.
+/// Adds a text to the sources of the store's recovery, as `Store::give`.
 #[unsafe(no_mangle)]
 pub extern "C" fn pcalc_give(
     alloc: Global,
@@ -35,7 +35,7 @@ pub extern "C" fn pcalc_give(
     answer.kind
 }
 
-/// Tells what was given is worth, as `Store::recover`: it answers 0, or the number of the refusal.
+/// Recovers the state from what was given, as `Store::recover`: it returns 0, or the number of the refusal.
 #[unsafe(no_mangle)]
 pub extern "C" fn pcalc_recover(alloc: Global, handle: &mut Handle, worth: &mut Worth) -> u32
     ensures worth { IsWorthTold (store_of handle.old.value) result worth.old worth.new }
@@ -136,7 +136,7 @@ pub extern "C" fn pcalc_copy(
     }
 }
 
-/// Ends the store behind the handle, which then has nothing.
+/// Ends the store after the handle, which then has nothing.
 #[unsafe(no_mangle)]
 pub extern "C" fn pcalc_close(alloc: Global, handle: &mut Handle)
     ensures { handle.new.value ≡ None }

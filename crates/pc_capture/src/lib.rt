@@ -1,4 +1,5 @@
-//! Parts as they stand on the shelf, shared by reference count; one is made of what was captured of a point.
+//! Parts on the shelf (the list of checkpoint files), shared by reference count; one is made of the entries captured
+//! for a point.
 #![tactic(auto)]
 
 mod shared_part;

@@ -43,10 +43,10 @@ impl SharedPart {
         }
     }
 
-    /// The part of the point, of what was taken of it, with one owner, and how many entries it has: what was taken becomes the
-    /// part's entries where it stands, and nothing is left of it where it was. So it takes a constant time, however many keys were
-    /// taken. It is at most as much as a file may have. All memory is made before anything is moved. Refuses with `OutOfMemory`
-    /// alone; what was taken is then as it was.
+    /// The part of the point, made of its captured entries, with one owner, and the number of its entries: the captured entries
+    /// become the part's in place, and nothing is left of them where they were. So it takes constant time, however many keys
+    /// were taken. It is at most as much as a file may have. All memory is allocated before anything is moved. Refuses with
+    /// `OutOfMemory` alone; the captured entries are then as they were.
     pub fn of_taken(
         alloc: Global,
         run: u64,
@@ -71,8 +71,8 @@ impl SharedPart {
         Ok((shared, count))
     }
 
-    /// One more owner of the same part. It takes a constant time and no memory, and copies nothing. Refuses with
-    /// `OutOfMemory` alone, which stands for the greatest number of owners.
+    /// One more owner of the same part. It takes constant time and no memory, and copies nothing. Refuses with `OutOfMemory`
+    /// alone, which here means the greatest number of owners.
     pub fn again(&self) -> Result<SharedPart, Refusal>
         ensures same { IfOk result (λ shared. shared ≡ self.now) }
         ensures owners { IfErr result (λ e. e ≡ Refusal.OutOfMemory) }

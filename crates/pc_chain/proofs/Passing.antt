@@ -6,7 +6,7 @@ use Rattle.pc_chain.proofs.ChainLaws.{avoids_middle, once}
 use Rattle.pc_chain.proofs.ChainLemmas.{last_push, next_of_it, has_it}
 
 module _ {I : Type 0} where
-  -- of what stands before the id some were passed, the last of them just now, and the next one is here
+  -- of what comes before the id some were passed, the last of them just now, and the next one is here
   pub record Passed (id : I) (previous here : Option I) (count : ℕ) (before rest : List I) : Type 0 where
     pub passed : List I
     pub left : List I
@@ -18,7 +18,7 @@ module _ {I : Type 0} where
   pub passed_none : (id : I) (here : Option I) (before rest : List I) → here ≡ first_of (before ++ id ∷ rest) → Passed id None here 0 before rest
   passed_none id here before rest e = record { passed = []; left = before; split = refl; here_is = e; previous_is = refl; counted = refl }
 
-  -- where the id is here, all before it were passed
+  -- if the id is here, all before it were passed
   pub passed_all : (next : I → Option I) (id : I) (previous here : Option I) (count : ℕ) (before rest : List I) → Leads next (before ++ id ∷ rest) → Passed id previous here count before rest →
       here ≡ Some id → previous ≡ last_of before
   passed_all next id previous here count before rest l h e = by h.left refl
@@ -43,7 +43,7 @@ module _ {I : Type 0} where
   length_push [] x = refl
   length_push (y ∷ ys) x = let h = length_push ys x in omega (arith, h)
 
-  -- the one that is here, with what is behind it
+  -- the one that is here, with what is after it
   pub here_stands : (id : I) (previous here : Option I) (count : ℕ) (before rest : List I) (x : I) → Passed id previous here count before rest → here ≡ Some x →
       (front behind : List I) × (before ++ id ∷ rest ≡ front ++ x ∷ behind)
   here_stands id previous here count before rest x h e = by h.left h.split h.here_is

@@ -23,14 +23,14 @@ module _ {T : Type 0} where
   not_both None n e = false≢true e
   not_both (Some x) n e = absurd cc
 
-  -- where a slot is free, not each has a record
+  -- if a slot is free, not each has a record
   pub not_full : (items : List (Option T)) (id : ℕ) → IsFree items id → is_full items ≡ false
   not_full [] id h = absurd (omega (arith, h.0))
   not_full (None ∷ items) id h = refl
   not_full (Some x ∷ items) zero h = absurd (let e : Some x ≡ None = h.1 in cc)
   not_full (Some x ∷ items) (suc id) h = not_full items id (omega (arith, h.0), h.1)
 
-  -- where no slot is free, each has a record
+  -- if no slot is free, each has a record
   pub full_where_none : (items : List (Option T)) → ((id : ℕ) → IsFree items id → ⊥) → is_full items ≡ true
   full_where_none [] h = refl
   full_where_none (None ∷ items) h = absurd (h 0 (omega arith, refl))

@@ -31,7 +31,7 @@ module _ {I : Type 0} where
       let left : IsStack has next new rest = record { first = f ∙ s.leads.0; leads = s.leads.2; held = s.held.1 } in
       rw e left
 
-  -- the id behind another leaves
+  -- the id after another leaves
   pub later_unlinked : (has has' : I → Type 0) (next next' : I → Option I) (stack new : Stack I) (before rest : List I) (id previous : I) → Some previous ≡ last_of before → IsStack has next stack (before ++ id ∷ rest) →
       ((x : I) → has x → has' x) → next' previous ≡ next id → ((x : I) → x ≢ previous → next' x ≡ next x) → new.first ≡ stack.first → IsStack has' next' new (before ++ rest)
   later_unlinked has has' next next' stack new before rest id previous p c k t o f =

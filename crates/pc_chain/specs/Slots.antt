@@ -1,11 +1,11 @@
--- What is seen of slots: of each its record, if it has one, and where its link leads.
+-- The view of slots: of each its record, if it has one, and where its link leads.
 use Rattle.std.specs.Prelude.{◌≡◌, ◌<◌, ℕ, Bool, true, false, List, [], ◌∷◌, length, Option, Some, None, is_some, slice_index_or, slice_set}
 
 pub record Slots (T : Type 0) : Type 0 where
   pub items : List (Option T)
   pub links : List (Option ℕ)
 
--- what stands at a slot; None where there is no such slot
+-- the record of a slot; `None` if there is no such slot
 abbrev pub at : {X : Type 0} → List (Option X) → ℕ → Option X
 at xs id = slice_index_or xs id None
 

@@ -1,4 +1,4 @@
--- Stacks, seen as lists of ids: each id has a link to the one behind it.
+-- Stacks, seen as lists of ids: each id has a link to the one after it.
 use Rattle.std.specs.Prelude.{◌≡◌, List, ◌∷◌, ◌++◌, Option}
 use Rattle.pc_chain.specs.declared.stack.Stack.{Stack}
 use Rattle.pc_chain.specs.Chains.{first_of, Avoids, AreDisjoint, AllHave, Leads}

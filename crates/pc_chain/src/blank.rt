@@ -1,12 +1,12 @@
-//! What a new id's record holds.
+//! The contents of a new id's record.
 ghost use Rattle.std.specs.Prelude.{◌≡◌};
 
 /// A record that a new id can have. To make one takes no memory.
 pub trait Blank: Drop {
-    /// What a new id's record holds.
+    /// The contents of a new id's record.
     ghost blank: { Self };
 
-    /// What a new id's record holds.
+    /// The contents of a new id's record.
     fn blank() -> Self
         ensures { result ≡ blank };
 }

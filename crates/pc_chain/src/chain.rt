@@ -4,10 +4,10 @@ ghost use Rattle.pc_chain.specs.Chains.{first_of, last_of, rest_of, Avoids, IsCh
 
 use crate::links::Links;
 
-/// A list of ids, each linked to the one behind it. The chain has its ends alone; the links are kept by whoever is given
-/// at each call, in the word that the call's marker `K` names. Several chains may stand over the same word, as long as no
-/// id is in two of them, and chains over different words have nothing to do with each other. Whatever else the keeper has
-/// stays. No call takes memory, and each succeeds.
+/// A list of ids, each linked to the one after it. The chain has its ends alone; the links are kept by the keeper that is given
+/// at each call, in the word that the call's marker `K` names. Several chains may share a word, as long as no id is in two of
+/// them, and chains over different words have nothing to do with each other. Whatever else the keeper has stays. No call takes
+/// memory, and each succeeds.
 #[derive(Clone, Copy)]
 pub struct Chain<I> {
     first: Option<I>,
@@ -64,7 +64,7 @@ impl<I: Copy> Chain<I> {
         self.last = Some(id);
     }
 
-    /// Takes the first id out of the list and gives it; None where the list is empty. No link changes.
+    /// Takes the first id out of the list and returns it; `None` if the list is empty. No link changes.
     pub fn pop_front<K, L: Links<K, Id = I>>(&mut self, links: &L) -> Option<I>
         requires { (xs : List I) × IsChain (L.has links.now) (L.next_of links.now) self.old xs }
         ensures given { (xs : List I) → IsChain (L.has links.now) (L.next_of links.now) self.old xs → result ≡ first_of xs }
@@ -78,8 +78,8 @@ impl<I: Copy> Chain<I> {
         Some(id)
     }
 
-    /// Takes the id behind `previous` out of the list, the first one where `previous` is None, and gives it; None where
-    /// there is no such id. Only the link of `previous` changes, so that each chain without it stays the list that it was.
+    /// Takes the id after `previous` out of the list, the first one if `previous` is `None`, and returns it; `None` if there is
+    /// no such id. Only the link of `previous` changes, so that each chain without it stays the list that it was.
     pub fn unlink_after<K, L: Links<K, Id = I>>(
         &mut self,
         links: &mut L,
@@ -96,7 +96,7 @@ impl<I: Copy> Chain<I> {
         }
     }
 
-    // The same behind an id of the list.
+    // The same after an id of the list.
     fn unlink_behind<K, L: Links<K, Id = I>>(&mut self, links: &mut L, previous: I) -> Option<I>
         requires { (before rest : List I) × IsChain (L.has links.old) (L.next_of links.old) self.old (before ++ rest) × (Some previous ≡ last_of before) }
         ensures given { (before rest : List I) → IsChain (L.has links.old) (L.next_of links.old) self.old (before ++ rest) → Some previous ≡ last_of before → result ≡ first_of rest }
@@ -116,8 +116,8 @@ impl<I: Copy> Chain<I> {
 }
 
 impl<I: Copy + PartialEq> Chain<I> {
-    /// Whether the id is in the list, by going along the list up to it; the list has fewer than 2^64 ids, which `==` tells from
-    /// each other.
+    /// Whether the id is in the list, by going along the list up to it; the list has fewer than 2^64 ids, which `==`
+    /// distinguishes.
     pub fn contains<K, L: Links<K, Id = I>>(&self, links: &L, id: I) -> bool
         requires told { (x y : I) → IsTrue (I.eq x y) ↔ (x ≡ y) }
         requires stands { (xs : List I) × IsChain (L.has links.now) (L.next_of links.now) self.now xs × (length xs < 2 ^ 64) }
@@ -137,7 +137,7 @@ impl<I: Copy + PartialEq> Chain<I> {
     }
 }
 
-// Where there is a last id, it leads to this one.
+// If there is a last id, it leads to this one.
 fn link<K, L: Links<K>>(links: &mut L, last: Option<<L as Links<K>>::Id>, id: <L as Links<K>>::Id)
     requires { IfSome last (L.has links.old) }
     ensures sets { SetsLink last (Some id) (L.next_of links.old) (L.next_of links.new) }

@@ -16,7 +16,7 @@ pub trait Keyed: Drop {
     fn key(&self) -> &Key
         ensures { result.now ≡ key_of self.now };
 
-    /// The record of the key that has nothing else yet. It fails only where memory ran out.
+    /// The record of the key that has nothing else yet. It fails only if an allocation fails.
     fn blank(alloc: Global, key: &Key) -> Result<Self, AllocError>
         ensures { IfOk result (λ made. made ≡ blank_of key.now) };
 

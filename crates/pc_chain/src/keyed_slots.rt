@@ -1,4 +1,4 @@
-//! Who keeps records with keys in slots.
+//! The keeper of records with keys in slots.
 ghost use Rattle.std.specs.Prelude.{◌≡◌, ◌≢◌, ◌≤◌, ℕ, List, Err, Some, None, true, length, option_map, slice_set, IfOk, IfErr, OnErr, if◌then◌else◌};
 ghost use Rattle.pc_chain.specs.Slots.{Slots, at, is_full, with_item, IsTaken, IsFree};
 
@@ -21,7 +21,7 @@ pub trait KeyedSlots<K>: Links<K, Id = SlotId> {
     /// The record of a key that has nothing else yet.
     ghost blank_of: { List ℕ → Self.Item };
 
-    /// How many slots there are, taken and free.
+    /// The number of slots, taken and free.
     fn slot_count(&self) -> u32
         ensures count { result ≡ length (slots_of self.now).items }
         ensures most { result ≤ MOST_KEYS };
@@ -32,8 +32,8 @@ pub trait KeyedSlots<K>: Links<K, Id = SlotId> {
         ensures key { option_map key_of (at (slots_of self.now).items id) ≡ Some result.now }
         ensures most { length (slots_of self.now).items ≤ MOST_KEYS };
 
-    /// Puts the blank record of the key into a free slot and gives the slot. Refuses with `Full` exactly where no slot is free, and
-    /// else only with `OutOfMemory`, where the record can't be made; all is then as it was.
+    /// Puts the blank record of the key into a free slot and returns the slot. Returns `Full` if and only if no slot is free;
+    /// otherwise the only error is `OutOfMemory`, if the record can't be made; all is then as it was.
     fn make_blank(&mut self, alloc: Global, key: &Key) -> Result<SlotId, Refusal>
         ensures free { IfOk result (λ id. IsFree (slots_of self.old).items id) }
         ensures made { IfOk result (λ id. slots_of self.new ≡ with_item (slots_of self.old) id (Some (blank_of key.now))) }

@@ -1,5 +1,5 @@
-//! Chains and stacks: lists that are linked by ids, over links that someone else keeps. Beside them stands what is asked of
-//! whoever keeps records in slots: what a new id's record holds, which key a record has, and how slots are told, taken and freed.
+//! Chains and stacks: lists that are linked by ids, over links that someone else keeps. Also the interfaces for keepers of
+//! records in slots: the record of a new id, the key of a record, and how slots are shown, taken and freed.
 #![tactic(auto)]
 
 mod blank;

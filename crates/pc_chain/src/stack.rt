@@ -5,9 +5,9 @@ ghost use Rattle.pc_chain.specs.Stacks.{IsStack, TakesOut};
 
 use crate::links::Links;
 
-/// A list of ids, each linked to the one behind it, that is entered at its front. It has its first id alone, half of what a
-/// chain has; an id that is taken out is looked for from the front. As with a chain the links are kept by whoever is given at
-/// each call, several stacks and chains may stand over the same word as long as no id is in two of them, and whatever else the
+/// A list of ids, each linked to the one after it, that is entered at its front. It has its first id alone, half of what a
+/// chain has; an id that is taken out is looked for from the front. As with a chain the links are kept by the keeper that is
+/// given at each call, several stacks and chains may share a word as long as no id is in two of them, and whatever else the
 /// keeper has stays. No call takes memory, and each succeeds.
 #[derive(Clone, Copy)]
 pub struct Stack<I> {
@@ -47,8 +47,8 @@ impl<I: Copy> Stack<I> {
 
 impl<I: Copy + PartialEq> Stack<I> {
     /// Takes the id, which is in the list, out of it, by going along the list up to it; the list has fewer than 2^64 ids, which
-    /// `==` tells from each other. Only the link of the id before it changes, so that each stack without a common id stays the
-    /// list that it was.
+    /// `==` distinguishes. Only the link of the id before it changes, so that each stack without a common id stays the list
+    /// that it was.
     pub fn unlink<K, L: Links<K, Id = I>>(&mut self, links: &mut L, id: I)
         requires told { (x y : I) → IsTrue (I.eq x y) ↔ (x ≡ y) }
         requires stands { (before rest : List I) × IsStack (L.has links.old) (L.next_of links.old) self.old (before ++ id ∷ rest) × (length (before ++ id ∷ rest) < 2 ^ 64) }
@@ -63,7 +63,7 @@ impl<I: Copy + PartialEq> Stack<I> {
         }
     }
 
-    // The id before this one, which is in the list; None where it is the first.
+    // The id before this one, which is in the list; `None` if it is the first.
     fn before<K, L: Links<K, Id = I>>(&self, links: &L, id: I) -> Option<I>
         requires told { (x y : I) → IsTrue (I.eq x y) ↔ (x ≡ y) }
         requires stands { (before rest : List I) × IsStack (L.has links.now) (L.next_of links.now) self.now (before ++ id ∷ rest) × (length (before ++ id ∷ rest) < 2 ^ 64) }

@@ -66,7 +66,7 @@ idle_set views i w own idle j u e none = ⊎_elim (λ (s : (j ≡ i) × (w ≡ u
 -- ---- steps
 
 module _ (given : List File) where
-  -- files worth the given ones stay so where no fact is new and none is lost that has to stay
+  -- files that represent the given ones stay so if no fact is new and none is lost that has to stay
   worth_after : (old new : List File) → AreWorth given old → ((w : Fact) → Among w new → Among w old) → ((w : Fact) → Stays w given → Among w old → Among w new) → AreWorth given new
   worth_after old new h sub keep = record { sound = λ w a. h.sound w (sub w a); whole = λ w stays a. keep w stays (h.whole w stays a) }
 

@@ -1,4 +1,4 @@
--- What is dealt, and what comes back, is worth the files of the round.
+-- The parts dealt, and those that come back, represent the files of the round.
 use Rattle.std.proofs.Common.{◌≡◌, ℕ, zero, suc, ◌<◌, true, false, List, [], ◌∷◌, ◌++◌, length, map, set, get_or, take, drop, Option, Result, Ok, Err, ⊎_elim, refl, sym, ap, subst, ◌∙◌, arith, append_assoc, append-nil}
 use Rattle.std.specs.Prelude.{IsErr, IsErrAnd}
 use Rattle.std.specs.Option.{option_to_list}
@@ -25,7 +25,7 @@ sound_move a b c = λ w h. ⊎_elim
 worth_move : (a b c : List File) → AreWorth (a ++ (b ++ c)) (b ++ (a ++ c))
 worth_move a b c = worth_same (a ++ (b ++ c)) (b ++ (a ++ c)) (sound_move a b c) (sound_move b a c)
 
--- files that go before others, and stand for more behind them
+-- files that go before others, and represent more of them
 worth_behind : (a b c d : List File) → AreWorth (a ++ c) d → AreWorth (a ++ (b ++ c)) (b ++ d)
 worth_behind a b c d worth = worth_trans (a ++ (b ++ c)) (b ++ (a ++ c)) (b ++ d) (worth_move a b c) (worth_append b b (a ++ c) d (worth_itself b) worth)
 
@@ -75,7 +75,7 @@ dealt_two given old new rest others left first second worth is_rest is_others mo
     worth_trans given (old ++ rest) (new ++ left) worth
     (subst (λ (l : List File). AreWorth (old ++ l) (new ++ left)) (sym whole) (worth_trans (old ++ (pair ++ left)) (pair ++ (old ++ left)) (new ++ left) moved (worth_before pair old left new more)))
 
--- what is lent and given back
+-- what is borrowed and given back
 pub lent_back : {C : Type 0} (n : ℕ) (xs ys : List C) → n ≡ length xs → take n (xs ++ drop (length xs) ys) ≡ xs
 lent_back n xs ys len = ap (λ k. take k (xs ++ drop (length xs) ys)) len ∙ take-append_seam xs (drop (length xs) ys)
 
@@ -103,7 +103,7 @@ pub become_refused : (files : List File) (why : Refusal) (r : Came) → IsErr r 
 become_refused files why (Ok left) is cause = let bad : false ≡ true = is.0 in absurd cc
 become_refused files why (Err e) is cause = subst (IsCauseFor files) (sym is.1) cause
 
--- what the files became stands for the given ones
+-- what the files became represents the given ones
 pub become_worth : (given files : List File) (r : Came) → AreWorth given files → Become files r → Become given r
 become_worth given files (Ok left) worth become = worth_trans given files left.items worth become
 become_worth given files (Err why) worth cause = cause_for given files why worth.sound cause

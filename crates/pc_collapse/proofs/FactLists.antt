@@ -1,4 +1,4 @@
--- Facts of lists of files, and what lists are worth.
+-- Facts of lists of files, and what lists represent.
 use Rattle.std.proofs.Common.{◌≡◌, ℕ, ◌<◌, List, [], ◌∷◌, ◌++◌, length, take, drop, ◌⊎◌, inl, inr, ⊎_elim, refl, sym, ap, subst, ◌∙◌, arith}
 use Rattle.std.specs.List.{Contains}
 use Rattle.std.proofs.lemmas.List.{take-append-drop}
@@ -40,7 +40,7 @@ file_among w [] h there i = absurd (let bound = there.1 in omega arith)
 file_among w (f ∷ fs) h there i = ⊎_elim (λ (same : Contains (f ∷ []) h). ⊎_elim (λ (none : Contains [] h). absurd (let bound = none.1 in omega arith)) (λ (is : f ≡ h). inl (subst (FactHolds w) (sym is) i)) (Contains-push_cases [] f h same))
     (λ (rest : Contains fs h). inr (file_among w fs h rest i)) (Contains-append_cases (f ∷ []) fs h there)
 
--- ---- what lists are worth
+-- ---- what lists represent
 
 pub sound_trans : (a b c : List File) → AreFactsGiven a b → AreFactsGiven b c → AreFactsGiven a c
 sound_trans a b c p q = λ w h. p w (q w h)
@@ -69,7 +69,7 @@ worth_append a b c d p q = record {
       (λ i. among_back w b d (q.whole w (stays_among w (a ++ c) c (sound_back a c) stays) i)) (among_split w a c h);
 }
 
--- files that are worth something are some
+-- files that represent something are some
 pub worth_some : (given files : List File) → 0 < length given → AreWorth given files → 0 < length files
 worth_some [] files some worth = absurd (omega (arith, some))
 worth_some (f ∷ fs) [] some worth = absurd (worth.whole (HasRun f.run) tt (inl refl))

@@ -1,4 +1,4 @@
--- A file that is worth all the files is their fold; and why they may not be folded.
+-- A file that represents all the files is their fold; and why they may not be folded.
 use Rattle.std.proofs.Common.{◌≡◌, ℕ, ◌≤◌, ◌<◌, ◌+◌, nat_lt, eqb, ◌||◌, not, Bool, true, false, cond, List, [], ◌∷◌, ◌++◌, map, Some, None, Option, Result, Ok, Err, is_some, inl, inr, ⊎_elim, refl, sym, ap, subst, ◌∙◌, arith}
 use Rattle.std.specs.Prelude.{MatchBool, MatchResult, IfOk, IsErr, IsErrAnd}
 use Rattle.std.specs.FinMap.{find}
@@ -90,7 +90,7 @@ has_keys : (m : Triples) (q : List ℕ) → set.contains (keys_of m) q ≡ is_so
 unfolding keys_of
 has_keys m q = contains-from_list key_order (map (λ e. e.0) m.entries) q ∙ sym (is_some-find key_cmp q m.entries)
 
--- where one has all keys of the other, it has no fewer
+-- if one has all keys of the other, it has no fewer
 len_sub : (m n : Triples) → ((q : List ℕ) (x : AtPoint) → get m q ≡ Some x → is_some (get n q) ≡ true) → len m ≤ len n
 len_sub m n sub = let more = len_entries m n.entries in let same : len (joined m n) ≡ len n = as_many in omega (arith, more, same)
   where
@@ -186,12 +186,12 @@ cause_for all some why sub cause = λ given sound. cause given (sound_trans give
 pub no_memory : (files : List File) → IsCauseFor files OutOfMemory
 no_memory files = λ given sound f fs is one. inl refl
 
--- some files stand for the given ones, and are joined
+-- some files represent the given ones, and are joined
 pub joins_worth : (given files : List File) (r : Result File Refusal) → AreWorth given files → JoinsToOne files r → JoinsToOne given r
 joins_worth given files (Ok file) worth joins = worth_trans given files (file ∷ []) worth joins
 joins_worth given files (Err why) worth cause = cause_for given files why worth.sound cause
 
--- ---- one file that is worth all
+-- ---- one file that represents all
 
 bool_is : (s t : Bool) → (s ≡ true → t ≡ true) → (t ≡ true → s ≡ true) → s ≡ t
 bool_is true t p q = sym (p refl)
@@ -265,7 +265,7 @@ pub handed_on : (files : List File) (why : Refusal) (r : Result File Refusal) �
 handed_on files why (Ok file) is cause = let bad : false ≡ true = is.0 in absurd cc
 handed_on files why (Err e) is cause = subst (IsCauseFor files) (sym is.1) cause
 
--- the same where a call joins only some of the files
+-- the same if a call joins only some of the files
 pub some_handed_on : (all some : List File) (why : Refusal) (r : Result File Refusal) → AreFactsGiven all some → IsErr r × IsErrAnd r (λ e. e ≡ why) → IsCauseFor some why → JoinsToOne all r
 some_handed_on all some why r sub is cause = handed_on all why r is (cause_for all some why sub cause)
 

@@ -1,4 +1,4 @@
--- The join of two files is worth both.
+-- The join of two files represents both.
 use Rattle.std.proofs.Common.{◌≡◌, ◌≤◌, nat_lt, ◌||◌, Bool, true, false, cond, [], ◌∷◌, Some, None, Option, ◌⊎◌, inl, inr, ⊎_elim, refl, sym, ap, ◌∙◌, arith}
 use Rattle.std.proofs.lemmas.Bool.{ltb-true, ltb-false}
 use Rattle.pc_model.specs.Maps.{get}

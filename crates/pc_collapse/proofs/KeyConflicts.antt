@@ -15,7 +15,7 @@ use Rattle.pc_model.proofs.PairMapLaws.{tested}
 use Rattle.pc_model.proofs.JoinLaws.{one_key}
 use Rattle.pc_model.proofs.RisingLaws.{Rise, Below, both, none_below}
 
--- what the entries have at a key, where it differs nowhere from what is there
+-- what the entries have at a key, if it differs nowhere from what is there
 abbrev Apart : (List ℕ → Option AtPoint) → (List ℕ → Option AtPoint) → Type 0
 Apart here there = (q : List ℕ) (a : AtPoint) → here q ≡ Some a → differs a (there q) ≡ false
 

@@ -1,4 +1,4 @@
--- A lent part, read at its number.
+-- A borrowed part, read at its number.
 use Rattle.std.proofs.Common.{◌≡◌, ℕ, ◌<◌, List, length, get_or, sym, ap, subst, ◌∙◌}
 use Rattle.std.proofs.lemmas.List.{get_or_default}
 use Rattle.pc_model.specs.Files.{File}

@@ -1,4 +1,4 @@
--- The merge of parts of one run is worth them; and why it is refused.
+-- The merge of parts of one run represents them; and why it is refused.
 use Rattle.std.proofs.Common.{◌≡◌, ℕ, ◌<◌, ◌≤◌, eqb, ◌||◌, not, Bool, true, false, cond, List, [], ◌∷◌, ◌++◌, length, map, take, drop, get_or, slice_get, Option, Some, None, Result, Ok, Err, inl, inr, ⊎_elim, refl, sym, ap, ◌∙◌, subst, arith}
 use Rattle.std.specs.List.{All, Contains}
 use Rattle.std.specs.Prelude.{IsTrue, IfOk, MatchResult}
@@ -44,7 +44,7 @@ use Rattle.pc_collapse.proofs.KeyConflicts.{one_triple}
 use Rattle.pc_collapse.proofs.Members.{contains_cases, contains_first, contains_more, mapped_has, mapped_of}
 use Rattle.pc_collapse.proofs.PartEntries.{are_within, at_key, file_rises, file_triples, known, no_device}
 
--- ---- entries of lists that rise
+-- ---- entries of lists that ascend
 
 abbrev at_point : Triple → AtPoint
 at_point entry = (entry_of entry).1
@@ -113,7 +113,7 @@ below_first key (entry ∷ entries) rise below =
     let parts = both (below_all key_cmp entry.key (entries_of entries)) (is_sorted key_cmp (entries_of entries)) rise in
     and_of (is_lt (key_cmp key entry.key)) (below_all key_cmp key (entries_of entries)) (ap is_lt below) (lesser_below key entry.key (entries_of entries) below parts.0)
 
--- they rise by key
+-- they ascend by key
 given_rise : (start : List Coming) (given : List Triple) (left : List Coming) → HasGiven start given left → KeysRise (entries_of given)
 given_rise start [] left has = refl
 given_rise start (entry ∷ given) left has =
@@ -167,7 +167,7 @@ merge_cause parts why no_device cause given sound f fs is one = by cause
     by (inl (inr (inr (inr (inr order))))) = absurd (all_rise parts order.1)
     by (inr many) = inr (inr (many.0, too_many parts f fs of many.1))
 
--- ---- what the merge is worth
+-- ---- what the merge represents
 
 abbrev input_triples : List File → List Triples
 input_triples parts = map (λ (input : Coming). triples_of input.entries) (map file_coming parts)
@@ -232,7 +232,7 @@ one_run_some (f ∷ fs) (g ∷ gs) there sound one = others gs (λ r h. sound (H
         let same : eqb h.run g.run ≡ true = grind (arith, nat_tests, a, b) in
         ap (λ t. not t || has_other_run g hs) same ∙ others hs (λ r e. own r (inr e))
 
--- the back half of files of one run, where there is any
+-- the back half of files of one run, if there is any
 pub one_run_back : (half : ℕ) (all front back : List File) → front ≡ take half all → back ≡ drop half all → 0 < length back → AreOfOneRun all → AreOfOneRun back
 one_run_back half all front back is_front is_back there one = one_run_some all back there (sound_halves half all front back is_front is_back).1 one
 

@@ -1,4 +1,4 @@
--- What the bag and the collapsers' hands hold together.
+-- The files that the bag and the collapsers' hands hold together.
 use Rattle.std.specs.Prelude.{◌≡◌, ℕ, ◌+◌, ◌≤◌, List, [], ◌∷◌, ◌++◌, length, Option, None, IfSome}
 use Rattle.std.specs.Option.{option_or}
 use mathlib.Core.Option.{some}
@@ -13,7 +13,7 @@ use Rattle.pc_collapse.specs.declared.limits.TheConstants.{MOST_COLLAPSERS}
 use Rattle.pc_collapse.specs.declared.bag.BagCollapser.{BagCollapser}
 use Rattle.pc_collapse.specs.declared.rule.Hand.{Hand}
 
--- a hand with so many parts of the right to know the whole
+-- a hand with that many parts of the right to know the whole
 abbrev pub hand : ℕ → List File → Hand
 hand parts held = record { parts = parts; held = held }
 
@@ -31,8 +31,8 @@ abbrev pub parts_of : List Hand → ℕ
 parts_of [] = 0
 parts_of (v ∷ vs) = v.parts + parts_of vs
 
--- The rule: what the bag and the hands hold together is worth the given files, and is no more of them. A hand without a part
--- of the right to know the whole holds nothing.
+-- The rule: the files in the bag and in the hands together represent the given files, and are no more of them. A hand
+-- without a part of the right to know the whole holds nothing.
 pub record Bagged (given items : List File) (views : List Hand) : Type 0 where
   pub worth : AreWorth given (items ++ held_by views)
   pub few : length items + length (held_by views) ≤ length given
@@ -49,7 +49,7 @@ module _ {G Q A : Type 0} (bag : Slotted (Option File) (Doing File Hand) Q A) wh
   abbrev pub IsReady : BagCollapser G → Type 0
   IsReady c = IsPassOf bag c.pass × (view c.pass ≡ hand 1 [])
 
--- the same, and where a join was refused, the fold of the given files may be refused for it
+-- the same, and if a join was refused, the fold of the given files may be refused for it
 abbrev pub IsBagDone : {G Q A : Type 0} → List File → Slotted (Option File) (Doing File Hand) Q A → BagCollapser G → Type 0
 IsBagDone given bag c = IsReady bag c × IfSome c.refused (IsCauseFor given)
 

@@ -1,4 +1,4 @@
--- Laws of folds, for files of one run: which causes are left, which file the fold is, and what it is worth.
+-- Laws of folds, for files of one run: which causes are left, which file the fold is, and what it represents.
 use Rattle.std.specs.Prelude.{◌≡◌, ℕ, ◌⊎◌, List, ◌∷◌, Result, IfOk, MatchResult}
 use Rattle.std.specs.List.{Contains, list_any}
 use Rattle.pc_types.specs.declared.Entry.{Entry}
@@ -27,8 +27,8 @@ FilesFoldWell = (run : ℕ) (base : Database) (log : List Entry) (first : File) 
     ((f : File) → Contains (first ∷ others) f → IsOfItsPoints run base log f) → Folds (first ∷ others) result →
     MatchResult result (IsOfAllPoints run base log (first ∷ others)) (λ why. (why ≡ OutOfMemory) ⊎ (why ≡ Full))
 
--- the file is made of a run's shelf by joins; it is each other such file of its points; and where these are 1 to n, the
--- base with it laid on is the state of n
+-- the file is made of a run's shelf by joins; it is each other such file of its points; and if these are 1 to n, the
+-- base with it applied is the state of n
 pub record IsStateOfItsPoints (st : Setting) (history : History) (file : File) : Type 0 where
   pub is_made : IsMade (shelf st.run history) file
   pub is_only : (other : File) → IsMade (shelf st.run history) other → other.points ≡ file.points → other ≡ file

@@ -1,4 +1,4 @@
--- What is joined, as a file.
+-- The piece to be joined, as a file.
 use Rattle.std.specs.Prelude.{ℕ, ◌<◌, List, length, slice_index_or, ⊤}
 use Rattle.pc_model.specs.Maps as map_of
 use Rattle.pc_model.specs.Sets as set
@@ -6,16 +6,16 @@ use Rattle.pc_model.specs.Files.{File}
 use Rattle.pc_collapse.specs.declared.piece.Source.{Source}
 use Rattle.pc_collapse.specs.declared.piece.Source.TheVariants.{Lent, Own}
 
--- the file of a number among the lent parts, from 0; the empty one where there is none
+-- the file of a number among the borrowed parts, from 0; the empty one if there is none
 abbrev pub file_at : List File → ℕ → File
 file_at parts number = slice_index_or parts number (record { run = 0; points = set.empty; triples = map_of.empty })
 
--- the file of a part that is lent, by its number, or owned
+-- the file of a part that is borrowed, by its number, or owned
 abbrev pub file_of : List File → Source → File
 file_of parts (Lent number) = file_at parts number
 file_of parts (Own part) = part
 
--- a lent part is one of these
+-- a borrowed part is one of these
 abbrev pub IsLentOf : List File → Source → Type 0
 IsLentOf parts (Lent number) = number < length parts
 IsLentOf parts (Own part) = ⊤

@@ -1,4 +1,4 @@
--- What is dealt in a round, and what comes back.
+-- The parts dealt in a round, and those that come back.
 use Rattle.std.specs.Prelude.{ℕ, ◌<◌, List, [], ◌∷◌, ◌++◌, length, map, slice_index_or, Result, MatchResult, ⊤}
 use Rattle.std.specs.declared.vec.Vec.{Vec}
 use Rattle.std.specs.declared.alloc.Global.{Global}
@@ -26,7 +26,7 @@ hand_files hand = together (map files_of hand.pairs.items)
 abbrev pub dealt_files : {G : Type 0} → List (Dealt G) → List File
 dealt_files hands = together (map hand_files hands)
 
--- the files become others that are worth them, or there is a cause why not
+-- the files become others that represent them, or there is a cause why not
 abbrev pub Become : List File → Result (Vec File Global) Refusal → Type 0
 Become files result = MatchResult result (λ left. AreWorth files left.items) (IsCauseFor files)
 

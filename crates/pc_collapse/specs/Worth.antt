@@ -1,4 +1,4 @@
--- What files are worth: which facts hold among them, and when some files may stand for others.
+-- What files represent: which facts hold among them, and when some files may replace others.
 use Rattle.std.specs.Prelude.{◌≡◌, ℕ, ◌≤◌, ◌⊎◌, List, [], ◌∷◌, Some, ⊤, IsTrue, IsFalse, MatchResult, Result}
 use Rattle.pc_types.specs.declared.Refusal.{Refusal}
 use Rattle.pc_model.specs.Maps as map_of
@@ -24,7 +24,7 @@ abbrev pub Among : Fact → List File → Type 0
 Among w [] = ⊥
 Among w (f ∷ fs) = FactHolds w f ⊎ Among w fs
 
--- the fact has to stay: a triple does where none of its key in the files has a greater point
+-- the fact has to stay: a triple does if none of its key in the files has a greater point
 abbrev pub Stays : Fact → List File → Type 0
 Stays (HasTriple key x) files = (u : AtPoint) → Among (HasTriple key u) files → u.point ≤ x.point
 Stays other files = ⊤
@@ -33,7 +33,7 @@ Stays other files = ⊤
 abbrev pub AreFactsGiven : List File → List File → Type 0
 AreFactsGiven given files = (w : Fact) → Among w files → Among w given
 
--- files that are worth the given ones: each triple is one of theirs, and so are points and runs; the points, the runs and of
+-- files that represent the given ones: each triple is one of theirs, and so are points and runs; the points, the runs and of
 -- each key the triples of the greatest point are all there
 pub record AreWorth (given files : List File) : Type 0 where
   pub sound : AreFactsGiven given files
@@ -52,6 +52,6 @@ IsCauseOf given why = (first : File) (others : List File) → given ≡ first �
 abbrev pub IsCauseFor : List File → Refusal → Type 0
 IsCauseFor files why = (given : List File) → AreFactsGiven given files → IsCauseOf given why
 
--- the files are joined to one that is worth them, or there is a cause why not
+-- the files are joined to one that represents them, or there is a cause why not
 abbrev pub JoinsToOne : List File → Result File Refusal → Type 0
 JoinsToOne files result = MatchResult result (λ file. AreWorth files (file ∷ [])) (IsCauseFor files)

@@ -50,7 +50,7 @@ pub fn collapse_bag_owned<E: Gate + Sync, R: Threads + Wait + Sync>(
     collapse::<Brand, E, R>(rt, alloc, &[], parts, workers, gate)
 }
 
-// The join of parts that are lent and others that are handed over.
+// The join of parts that are borrowed and others that are handed over.
 fn collapse<G: Given + Send + Sync, E: Gate + Sync, R: Threads + Wait + Sync>(
     rt: &R,
     alloc: Global,
@@ -72,8 +72,8 @@ fn collapse<G: Given + Send + Sync, E: Gate + Sync, R: Threads + Wait + Sync>(
     left_by(rt, alloc, parts, &bag, &mut pass, all)
 }
 
-// What has become of the files once all collapsers have ended: where one of them kept a refusal, the first that was kept; and else
-// the join of what is left in the bag.
+// The result once all collapsers have ended: if one of them kept a refusal, the first that was kept; and otherwise the join of
+// what is left in the bag.
 fn left_by<G: Given, R: Wait>(
     rt: &R,
     alloc: Global,
@@ -117,7 +117,7 @@ fn fill<G: Given, R: Wait>(rt: &R, bag: &Bag<G>, pass: &mut BagPass<G>, pieces: 
     }
 }
 
-// So many collapsers, with a hand each.
+// The given number of collapsers, with a hand each.
 fn hands<G: Given>(
     alloc: Global,
     bag: &Bag<G>,
@@ -170,7 +170,6 @@ fn work_all<G: Given + Send + Sync, E: Gate + Sync, R: Threads + Wait + Sync>(
     );
 }
 
-// The collapser's turns.
 fn work<G: Given, E: Gate, R: Wait>(
     rt: &R,
     alloc: Global,
@@ -220,7 +219,7 @@ fn turns<G: Given, E: Gate, R: Wait>(
     None
 }
 
-// Two files become one. False where there are no two.
+// Two files become one. False if there are no two.
 fn turn<G: Given, E: Gate, R: Wait>(
     rt: &R,
     alloc: Global,
@@ -306,7 +305,7 @@ fn gather<G: Given>(
     refused
 }
 
-// What is left in the bag.
+// The rest of the bag.
 fn drain<G: Given, R: Wait>(
     rt: &R,
     alloc: Global,

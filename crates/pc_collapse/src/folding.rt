@@ -1,4 +1,4 @@
-//! The fold of many files: one merge of all of them; and the join of pieces, by halves.
+//! The fold of many files: one merge of all of them; and the join of pieces, each half by itself.
 ghost use Rattle.std.specs.Prelude.{◌≡◌, ◌<◌, ◌++◌, ◌∷◌, [], length, IfOk, MatchResult, vec_len};
 ghost use Rattle.pc_merge.specs.Folds.{Folds, has_other_run};
 ghost use Rattle.pc_collapse.specs.Worth.{AreOfOneRun, JoinsToOne};
@@ -10,14 +10,14 @@ use pc_part::{Part, join};
 use pc_types::Refusal;
 use std::alloc::{AllocError, Global};
 
-/// The join of all the parts: it stands for the points of all, and has of each key the entry of the greatest point. The
-/// parts stay as they are; none of them is copied, unless it is the only one. Refuses, in this order:
+/// The join of all the parts: it covers the points of all, and has of each key the entry of the greatest point. The parts
+/// stay as they are; none of them is copied, unless it is the only one. Refuses, in this order:
 ///
-/// - `NoFile` exactly where there are no parts;
-/// - `OtherRun` exactly where two are of different runs;
-/// - else for one of these causes: `Conflict` where some key has in two of them the same point and different contents (and
-///   no join is answered where that is a key's greatest point); `Full` where the join would have more than 4,294,967,295
-///   entries; `OutOfMemory` where memory ran out.
+/// - `NoFile` if and only if there are no parts;
+/// - `OtherRun` if and only if two are of different runs;
+/// - else for one of these causes: `Conflict` if some key has in two of them the same point and different contents (and no
+///   join is answered if that is a key's greatest point); `Full` if the join would have more than 4,294,967,295 entries;
+///   `OutOfMemory` if an allocation failed.
 pub fn fold(alloc: Global, parts: &[Part]) -> Result<Part, Refusal>
     ensures { Folds parts.now result }
 {
@@ -55,7 +55,7 @@ fn is_other_run(first: &Part, others: &[Part]) -> bool
     others.iter().any(|part| part.run() != first.run())
 }
 
-// The join of parts of one run: where they are too many for one merge, the joins of both halves are joined.
+// The join of parts of one run: if they are too many for one merge, the joins of both halves are joined.
 fn fold_lent(alloc: Global, parts: &[Part]) -> Result<Part, Refusal>
     requires { AreOfOneRun parts.now }
     ensures { JoinsToOne parts.now result }
@@ -69,7 +69,7 @@ fn fold_lent(alloc: Global, parts: &[Part]) -> Result<Part, Refusal>
     join(alloc, &left, &right)
 }
 
-// The lent parts, and behind them the others.
+// The borrowed parts, and after them the others.
 pub(crate) fn pieces_of<G: Given>(
     alloc: Global,
     lent: &[Part],
@@ -85,7 +85,6 @@ pub(crate) fn pieces_of<G: Given>(
     Ok(pieces)
 }
 
-// The lent parts.
 fn lent_pieces<G: Given>(alloc: Global, lent: &[Part]) -> Result<Vec<Piece<G>>, AllocError>
     requires { lent.now ≡ G.parts }
     ensures { IfOk result (λ pieces. pieces.items ≡ lent.now) }
@@ -131,7 +130,6 @@ fn fold_halves<G: Given>(
     join_pieces(alloc, parts, &left, &right)
 }
 
-// The only piece.
 fn only<G: Given>(mut pieces: Vec<Piece<G>>) -> Piece<G>
     requires { vec_len pieces ≡ 1 }
     ensures { pieces.items ≡ result ∷ [] }

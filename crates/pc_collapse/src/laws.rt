@@ -7,7 +7,7 @@ pub fn files_fold_well()
 {}
 
 /// The headline holds of folds: there is one file of the points of all, in whatever order and by whatever joins it was
-/// made, and where the points are 1 to n, the base with it laid on is the state of n.
+/// made, and if the points are 1 to n, the base with it applied is the state of n.
 pub fn folds_are_states()
     ensures { FoldsAreStates }
 {}

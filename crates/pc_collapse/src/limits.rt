@@ -1,4 +1,4 @@
 //! The limit of collapsers.
 
-/// Parts are joined by at least one collapser, and by at most so many.
+/// The most collapsers that join parts; there is at least one.
 pub const MOST_COLLAPSERS: u8 = 64;

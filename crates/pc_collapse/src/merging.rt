@@ -57,7 +57,7 @@ impl<'a> Entries for PartEntries<'a> {
     }
 }
 
-// A copy of the next entry in this memory, or None at the end. It fails only where memory ran out.
+// A copy of the next entry in this memory, or `None` at the end. It fails only if an allocation fails.
 fn next_copy(pass: &mut Pass, memory: Vec<u8>) -> Result<Option<EntryText>, AllocError>
     ensures { IfOk result (λ next. YieldsFirst (λ entries. entries) pass.old next pass.new) }
 {
@@ -101,7 +101,7 @@ fn entries_of_parts(alloc: Global, parts: &[Part]) -> Result<Vec<PartEntries<'_>
     Ok(inputs)
 }
 
-// The ranges of the points that are in any of the parts. It fails only where memory ran out.
+// The ranges of the points that are in any of the parts. It fails only if an allocation fails.
 fn all_ranges(alloc: Global, parts: &[Part]) -> Result<Vec<Range>, AllocError>
     requires { 0 < length parts.now }
     ensures apart { IfOk result (λ all. AreRanges all.items) }

@@ -1,4 +1,4 @@
-//! What is joined: parts that are lent to be read, by their numbers, and parts of one's own, which end as soon as they are
+//! The pieces to be joined: borrowed parts, by their numbers, and owned parts, which are freed as soon as they are
 //! joined.
 ghost use Rattle.std.specs.Prelude.{◌≡◌, ◌<◌, [], ◌∷◌, length};
 ghost use Rattle.pc_collapse.specs.Pieces.{file_at};
@@ -9,7 +9,7 @@ use pc_types::Refusal;
 use std::alloc::Global;
 use std::marker::{Brand, Model, PhantomData};
 
-// Which parts are lent, and which files are joined.
+// Which parts are borrowed, and which files are joined.
 pub(crate) trait Given {
     ghost use Rattle.std.specs.Prelude.{List};
     ghost use Rattle.pc_model.specs.Files.{File};
@@ -57,7 +57,7 @@ impl<G: Given> Model for Piece<G> {
 }
 
 impl<G: Given> Piece<G> {
-    // The lent part of this number, from 0.
+    // The borrowed part of this number, from 0.
     pub(crate) fn lent(number: usize) -> Piece<G>
         requires { number < length G.parts }
         ensures { result ≡ file_at G.parts number }
@@ -89,7 +89,7 @@ impl<G: Given> Piece<G> {
         }
     }
 
-    // The part, to be kept. One that is lent is copied, which is to join it with itself.
+    // The part, to be kept. One that is borrowed is copied, which is to join it with itself.
     pub(crate) fn into_part(self, alloc: Global, parts: &[Part]) -> Result<Part, Refusal>
         requires { parts.now ≡ G.parts }
         ensures { JoinsToOne (self ∷ []) result }

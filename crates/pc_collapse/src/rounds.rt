@@ -17,9 +17,9 @@ use std::thread;
 use std::thread::Threads;
 
 /// The join of all the parts, as `fold` gives it, in rounds, by 1 to 64 collapsers: in each round the neighbours (1, 2),
-/// (3, 4), .. are dealt to the collapsers in turn, each on a thread of its own, which joins its pairs one after the other
-/// and passes `Pair` with its number (from 0) at the gate before each; an odd last file goes on unchanged. What the
-/// collapsers give back, those of the first one first, are the files of the next round. The work of a thread that can't be
+/// (3, 4), .. are dealt to the collapsers in turn, each on a thread of its own, which joins its pairs in order and passes
+/// `Pair` with its number (from 0) at the gate before each; an odd last file goes on unchanged. The files that the
+/// collapsers return, those of the first one first, are the files of the next round. The work of a thread that can't be
 /// started is done by the caller. The parts stay as they are; none of them is copied, unless it is the only one. The result
 /// is the same for every number of collapsers. Refuses as `fold` does.
 pub fn collapse_rounds<E: Gate + Sync, R: Threads + Wait + Sync>(
@@ -51,8 +51,8 @@ pub fn collapse_rounds_owned<E: Gate + Sync, R: Threads + Wait + Sync>(
     rounds::<Brand, E, R>(rt, alloc, &[], parts, workers, gate)
 }
 
-// The join of parts that are lent and others that are handed over. Each round halves them, so that there are no more rounds
-// than bits in their number.
+// The join of parts that are borrowed and others that are handed over. Each round halves them, so that there are no more
+// rounds than bits in their number.
 fn rounds<G: Given + Send + Sync, E: Gate + Sync, R: Threads + Wait + Sync>(
     rt: &R,
     alloc: Global,
@@ -77,7 +77,6 @@ fn rounds<G: Given + Send + Sync, E: Gate + Sync, R: Threads + Wait + Sync>(
     fold_pieces(alloc, parts, left)
 }
 
-// One round.
 fn round<G: Given + Send + Sync, E: Gate + Sync, R: Threads + Wait + Sync>(
     rt: &R,
     alloc: Global,
@@ -102,7 +101,7 @@ pub(crate) struct Neighbours<G: Given> {
     second: Option<Piece<G>>,
 }
 
-// What a collapser was dealt, and its number.
+// The pairs dealt to a collapser, and its number.
 #[derive(Drop)]
 pub(crate) struct Dealt<G: Given> {
     number: u8,
@@ -129,7 +128,7 @@ fn deal<G: Given>(
     Ok(all)
 }
 
-// So many collapsers, to which nothing has been dealt.
+// The given number of collapsers, to which nothing has been dealt.
 fn empty_hands<G: Given>(alloc: Global, workers: u8) -> Result<Vec<Dealt<G>>, AllocError>
     ensures len { IfOk result (λ all. vec_len all ≡ workers) }
     ensures none { IfOk result (λ all. dealt_files all.items ≡ []) }
@@ -142,7 +141,7 @@ fn empty_hands<G: Given>(alloc: Global, workers: u8) -> Result<Vec<Dealt<G>>, Al
     Ok(all)
 }
 
-// Gives the neighbours to the collapser of this number.
+// Deals the neighbours to the collapser of this number.
 fn give<G: Given>(
     all: &mut [Dealt<G>],
     number: usize,
@@ -179,7 +178,6 @@ fn join_dealt<G: Given + Send + Sync, E: Gate + Sync, R: Threads + Wait + Sync>(
     )
 }
 
-// A collapser's work.
 fn join_pairs<G: Given, E: Gate>(
     alloc: Global,
     parts: &[Part],
@@ -218,7 +216,7 @@ fn join_pair<G: Given, E: Gate>(
     }
 }
 
-// What the collapsers give back.
+// The files that the collapsers return.
 fn gather<G: Given>(
     alloc: Global,
     joined: Vec<Result<Vec<Piece<G>>, Refusal>>,

@@ -1,4 +1,4 @@
-//! The rule of the bag: what it and the collapsers' hands hold together is worth the given files.
+//! The rule of the bag: the files in it and in the collapsers' hands together represent the given files.
 use crate::piece::{Given, Piece};
 use crossbeam_queue::RuledArrayQueue;
 use crossbeam_queue::protocol::{Join, Lesson, Outcome, Protocol, Split};
@@ -6,7 +6,7 @@ use pc_part::Part;
 use std::collections::LinkedList;
 use std::marker::PhantomData;
 
-// What a collapser holds, and its parts of the right to know the whole. No value of it is made.
+// The file that a collapser holds, and its parts of the right to know the whole. No value of it is made.
 pub(crate) struct Hand {
     pub(crate) parts: u64,
     pub(crate) held: LinkedList<Part>,
@@ -25,7 +25,7 @@ impl<G: Given> Protocol<Piece<G>, Hand> for InBag<G> {
     ghost first = { hand all_parts G.files };
 }
 
-// A collapser gets its hand, and gives it back.
+// A collapser gets its hand, and returns it back.
 pub(crate) struct Shares;
 
 impl Split<Hand> for Shares {
@@ -82,7 +82,7 @@ impl<G: Given> Lesson<Piece<G>, Hand> for Drains<G> {
     ghost fact = { λ v items. AreWorth G.files (items ++ v.held) };
 }
 
-// What is held is put in as one file.
+// The file that is held is put in as one file.
 pub(crate) struct PutsFile<G> {
     of: PhantomData<G>,
 }

@@ -17,7 +17,7 @@ use Rattle.pc_collapse_files.specs.Collapses.{AreKnown, IsCollapseCause, IsJoinO
 use Rattle.pc_collapse_files.specs.Inputs.{IsHeadFault, IsUnwritten}
 
 module _ {R : Type 0} (remaining : R → Option (List ℕ)) (files : List (NamedFile R)) where
-  -- why no file is made is a cause
+  -- a reason why no file is made is a cause
   pub head_cause : (inputs : List (PartReader R)) (Refuses : Refusal → Type 0) (f : CollapseFault) → IsHeadFault remaining files inputs f → IsCollapseCause remaining files inputs Refuses f
   head_cause inputs Refuses (fault.Unopened name why) is = is
   head_cause inputs Refuses (fault.Refused why) is = is
@@ -28,7 +28,7 @@ module _ {R : Type 0} (remaining : R → Option (List ℕ)) (files : List (Named
   head_cause inputs Refuses fault.Output is = absurd is
 
   module _ {F : Type 0} (contents : F → Option (List ℕ)) where
-    -- so is why the join isn't written
+    -- so is one why the join isn't written
     pub unwritten_cause : (inputs : List (PartReader R)) (Refuses : Refusal → Type 0) (made : Option (Tally F)) (f : CollapseFault) → IsUnwritten remaining contents files inputs Refuses made f → IsCollapseCause remaining files inputs Refuses f
     unwritten_cause inputs Refuses made (fault.Unopened name why) is = absurd is
     unwritten_cause inputs Refuses made (fault.Refused why) is = absurd is
@@ -38,7 +38,7 @@ module _ {R : Type 0} (remaining : R → Option (List ℕ)) (files : List (Named
     unwritten_cause inputs Refuses made (fault.Unnamed why) is = absurd is
     unwritten_cause inputs Refuses made fault.Output is = absurd is
 
-    -- a whole file that can't get its name leaves what stood there, or has its name
+    -- a whole file that can't get its name leaves the earlier text, or has its name
     pub named_or_not : (before between after : List ℕ → Type 0) → StaysAs before between → (file : File) → IsJoinOf remaining files file
         → (held : Option (List ℕ)) → (AreKnown contents → held ≡ Some (part_text file)) → StaysAs between after ⊎ ((text : List ℕ) → held ≡ Some text → after text)
         → IsNamedOrNot remaining contents files before after
@@ -46,7 +46,7 @@ module _ {R : Type 0} (remaining : R → Option (List ℕ)) (files : List (Named
     named_or_not before between after first file join held whole (inr named) = inr (file, join, λ known. named (part_text file) (whole known))
 
     module _ {W : Type 0} (printed : W → Option (List ℕ)) (before after : List ℕ → Type 0) (stays : StaysAs before after) (out : Tally W) where
-      -- no file is left where none is made, and nothing is printed
+      -- no file is left if none is made, and nothing is printed
       pub head_leaves : (inputs : List (PartReader R)) (f : CollapseFault) → IsHeadFault remaining files inputs f → IsLeftByCollapse remaining contents printed files f None before after out out
       head_leaves inputs (fault.Unopened name why) is = (refl, stays, refl)
       head_leaves inputs (fault.Refused why) is = (refl, stays, refl)
@@ -56,7 +56,7 @@ module _ {R : Type 0} (remaining : R → Option (List ℕ)) (files : List (Named
       head_leaves inputs (fault.Unnamed why) is = absurd is
       head_leaves inputs fault.Output is = absurd is
 
-      -- what is left where the join isn't written
+      -- the state if the join isn't written
       pub unwritten_leaves : (inputs : List (PartReader R)) (Refuses : Refusal → Type 0) (made : Option (Tally F)) (f : CollapseFault) → IsUnwritten remaining contents files inputs Refuses made f → IsLeftByCollapse remaining contents printed files f made before after out out
       unwritten_leaves inputs Refuses made (fault.Unopened name why) is = absurd is
       unwritten_leaves inputs Refuses made (fault.Refused why) is = absurd is
@@ -66,13 +66,13 @@ module _ {R : Type 0} (remaining : R → Option (List ℕ)) (files : List (Named
       unwritten_leaves inputs Refuses made (fault.Unnamed why) is = absurd is
       unwritten_leaves inputs Refuses made fault.Output is = absurd is
 
--- a text that went out to a file without bytes is what it holds
+-- a text that went out to a file without bytes is its whole text
 pub whole_of : (a b : Option (List ℕ)) (text : List ℕ) → IsSome a → IsSome b → IfSome a (λ bytes. bytes ≡ []) → Appends a b text → b ≡ Some text
 whole_of None b text known after empty out = absurd cc
 whole_of (Some xs) None text known after empty out = absurd cc
 whole_of (Some xs) (Some ys) text known after empty out = ap Some (out ∙ ap (λ zs. zs ++ text) empty)
 
--- what is left short in it is all that it holds
+-- a short text in it is its whole text
 pub short_of : (a b : Option (List ℕ)) → IsSome a → IsSome b → IfSome a (λ bytes. bytes ≡ []) → LeavesShort a b → (bytes : List ℕ) × (b ≡ Some bytes) × (part_at bytes ≡ Err Short)
 short_of None b known after empty left = absurd cc
 short_of (Some xs) None known after empty left = absurd cc

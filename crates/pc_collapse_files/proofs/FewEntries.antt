@@ -1,4 +1,4 @@
--- What is to come of a text and ends without a fault is the part that is read of it at once, where it has fewer than 2^64 entries.
+-- If the entries of a text end without a fault, they are the part that is decoded of the whole text, if it has fewer than 2^64 entries.
 use Rattle.std.proofs.Common.{◌≡◌, ℕ, zero, suc, ◌+◌, ◌^◌, ◌<◌, eqb, cond, Bool, true, false, List, [], ◌∷◌, ◌++◌, length, Option, Some, None, Result, Ok, Err, refl, sym, ap, subst, ◌∙◌, append_assoc, append-nil, arith}
 use Rattle.std.specs.Int.{w32}
 use Rattle.std.proofs.lemmas.List.{length-append}
@@ -54,7 +54,7 @@ entry_in_front : (header : ℕ × List Range) (front : List Triple) (entry : Tri
 entry_in_front header front entry (Err why) = refl
 entry_in_front header front entry (Ok behind) = ap (λ (es : List Triple). number_at Short w32 behind.1 >>= after_total header es) (sym (append_assoc front (entry ∷ []) behind.0))
 
--- what is to come of entries with some in front, where that is without a fault and few, is what is read of them
+-- the rest of entries with some in front, if that is without a fault and few, is the decoded rest
 abbrev Reads : ℕ × List Range → List Triple → Coming → Result (List Triple × List ℕ) Refusal → Type 0
 Reads header front coming r = coming.fault ≡ None → length front + length coming.entries < 2 ^ 64 → (r >>= after_front header front) ≡ read_as header (front ++ coming.entries)
 

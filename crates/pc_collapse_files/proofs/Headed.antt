@@ -1,4 +1,4 @@
--- The headers of part files, as their readers have them.
+-- The headers of part files, in their readers.
 use Rattle.std.proofs.Common.{◌≡◌, ◌⊎◌, ℕ, List, [], ◌∷◌, length, map, suc, Option, Some, Result, inl, inr, refl, sym, ap, subst, ◌∙◌}
 use Rattle.std.specs.Vec.{with_items}
 use Rattle.std.specs.declared.alloc.Global.{Global}
@@ -24,7 +24,7 @@ module _ {R : Type 0} (remaining : R → Option (List ℕ)) where
   stay_many (w ∷ was) [] stay = absurd stay
   stay_many (w ∷ was) (n ∷ now) stay = ap suc (stay_many was now stay.2)
 
-  -- a vector of them has them as they are now
+  -- a vector of them has them in their current state
   pub now_in : (v : Vec (PartReader R) Global) (now : List (PartReader R)) → StayKnown remaining v.items now → (with_items v now).items ≡ now
   now_in v now stay = with_items_is v now (stay_many v.items now stay ∙ sym v.ok.0)
 
@@ -33,7 +33,7 @@ module _ {R : Type 0} (remaining : R → Option (List ℕ)) where
   still_readers files was now stay are texts hold = (stay_known (header_of remaining) part_header was now texts (headers_stay remaining was now stay) (are texts hold).0, stay_known (coming_of remaining) part_coming was now texts (comings_stay remaining was now stay) (are texts hold).1)
 
 module _ {R : Type 0} (remaining : R → Option (List ℕ)) where
-  -- what is refused of the readers of files, which a vector has as they are now, is what is refused of the files
+  -- a refusal of the readers of files, in a vector in their current state, is one of the files
   pub head_refusal : (files : List (NamedFile R)) (v : Vec (PartReader R) Global) (now : List (PartReader R)) (why : Refusal) → length v.items ≡ length files → length now ≡ length v.items → IsHeadersRefusal remaining v.items now why
       → IsHeadRefusal remaining files (with_items v now).items why
   head_refusal files v now why many same (inl (is, none)) = inl (is, nil_from_length files (sym many ∙ ap length none))
@@ -51,7 +51,7 @@ module _ {R : Type 0} (remaining : R → Option (List ℕ)) (files : List (Named
   pub have_header : (run : ℕ) (ranges : List Range) → AreHeaded remaining run ranges readers → HaveHeader remaining files
   have_header run ranges headed = (opened, λ texts hold. one_header remaining run ranges readers headed (map part_header texts) ((are texts hold).0 ∙ map_some part_header texts))
 
-  -- and where these have none, nor have they
+  -- and if these have none, nor have they
   pub head_fault : (why : Refusal) → IsHeadersFault (map (header_of remaining) readers) why → (why ≡ OutOfMemory) ⊎ HaveNoHeader remaining files why
   head_fault why (inl memory) = inl memory
   head_fault why (inr (inl device)) = inr (opened, inr (inl device))

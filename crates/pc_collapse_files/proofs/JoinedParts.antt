@@ -30,7 +30,7 @@ abbrev pub parts_of : List (ℕ × List Range) → List Coming → List File
 parts_of (header ∷ headers) (input ∷ inputs) = file_of header.0 header.1 input.entries ∷ parts_of headers inputs
 parts_of headers inputs = []
 
--- a file is under itself
+-- a file is covered by itself
 under_itself : (x : Option AtPoint) → IsUnderAt x x
 under_itself None = tt
 under_itself (Some a) = inr refl
@@ -45,7 +45,7 @@ alone file = record {
     only : (one : File) → Contains (file ∷ []) one → file ≡ one
     only one there = All-contains (λ (f : File). file ≡ f) (file ∷ []) one (All-cons (λ (f : File). file ≡ f) file [] refl (All-nil (λ (f : File). file ≡ f))) there
 
--- ---- what a fold of such files has
+-- ---- the keys of a fold of such files
 
 nothing_joined : (m : Triples) → m ≡ joined m map_of.empty
 unfolding map_of.empty
@@ -86,7 +86,7 @@ one_run run other (h ∷ hs) (i ∷ is) first all =
     let same : eqb h.0 other ≡ true = grind (arith, nat_tests, own, first) in
     ap (λ t. not t || list_any (λ (g : File). not (eqb g.run other)) (parts_of hs is)) same ∙ one_run run other hs is first (All-tail (λ (h : ℕ × List Range). h.0 ≡ run) h hs all)
 
--- what holds of the triples of each input holds of those of each file
+-- a fact of the triples of each input is one of those of each file
 each_part : (P : Triples → Type 0) (headers : List (ℕ × List Range)) (inputs : List Coming) → All (λ (i : Coming). P (triples_of i.entries)) inputs → All (λ (f : File). P f.triples) (parts_of headers inputs)
 each_part P [] inputs all = All-nil (λ (f : File). P f.triples)
 each_part P (h ∷ hs) [] all = All-nil (λ (f : File). P f.triples)

@@ -1,4 +1,4 @@
--- How many keys there are: entries of which no key is missing among others are no more.
+-- Numbers of keys: entries whose keys are all among others are no more than those.
 use Rattle.std.proofs.Common.{◌≡◌, ℕ, ◌≤◌, ◌<◌, ◌+◌, ◌^◌, Bool, true, false, cond, List, [], ◌∷◌, length, map, Some, None, Option, is_some, refl, sym, ap, ◌∙◌, arith}
 use Rattle.std.specs.FinMap.{find}
 use Rattle.std.specs.FinMap.Entries.{length-put, is_some-find}
@@ -42,7 +42,7 @@ has_keys : (m : Triples) (q : List ℕ) → set.contains (keys_of m) q ≡ is_so
 unfolding keys_of
 has_keys m q = contains-from_list key_order (map (λ e. e.0) m.entries) q ∙ sym (is_some-find key_cmp q m.entries)
 
--- where one has all keys of the other, it has no fewer
+-- if one has all keys of the other, it has no fewer
 len_sub : (m n : Triples) → ((q : List ℕ) (x : AtPoint) → get m q ≡ Some x → is_some (get n q) ≡ true) → len m ≤ len n
 len_sub m n sub = let more = len_entries m n.entries in let same : len (joined m n) ≡ len n = as_many in omega (arith, more, same)
   where
@@ -56,7 +56,7 @@ len_sub m n sub = let more = len_entries m n.entries in let same : len (joined m
     as_many = length_of_set (joined m n).entries (keys_of n) (tested (joined m n).rises) (λ q. has_keys n q ∙ ap is_some (sym (get-entries n q)) ∙ both (get m q) (get n q) (sub q) ∙ ap is_some (sym (get-joined m n q) ∙ get-entries (joined m n) q))
         ∙ sym (length_of_set n.entries (keys_of n) (tested n.rises) (has_keys n))
 
--- how many keys entries have that rise
+-- the number of keys of entries that ascend
 pub len_rising : (es : List Triple) → KeysRise (entries_of es) → len (triples_of es) ≡ length es
 len_rising es rise = ap length (pair_maps.entries_of (entries_of es) rise) ∙ length-map es entry_of
 
@@ -65,7 +65,7 @@ is_there None y t under is = cc
 is_there (Some a) None t under is = absurd under
 is_there (Some a) (Some b) t under is = refl
 
--- entries that rise, under triples of which a file has no more than the limit
+-- entries that ascend, under triples of which a file has no more than the limit
 few : (es : List Triple) (all : Triples) → KeysRise (entries_of es) → IsUnder (triples_of es) all → len all ≤ MOST_FILE_ENTRIES → length es < 2 ^ 64
 few es all rise under limit =
     let less = len_sub (triples_of es) all (λ q x is. is_there (get (triples_of es) q) (get all q) x (under q) is) in

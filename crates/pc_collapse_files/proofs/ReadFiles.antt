@@ -1,4 +1,4 @@
--- Part files as readers, one after the other.
+-- Part files as readers, in order.
 use Rattle.std.proofs.Common.{◌≡◌, ℕ, ◌+◌, List, [], ◌∷◌, ◌++◌, length, length-append, map, Option, Some, Err, refl, sym, ap, subst, ◌∙◌, append_assoc}
 use Rattle.std.specs.Prelude.{IsOk, option_map, Result}
 use Rattle.std.proofs.lemmas.List.{append-nil, map-append}
@@ -28,13 +28,13 @@ known_coming text = Some (part_coming text)
 abbrev pub AreLeft : {R : Type 0} → (R → Option (List ℕ)) → List (NamedFile R) → List (NamedFile R) → List (PartReader R) → Type 0
 AreLeft {R} remaining files left readers = (done : List (NamedFile R)) × (files ≡ done ++ left) × AreOpened done × AreReadersOf remaining done readers × (length readers ≡ length done)
 
--- the reader of an opened file has what its bytes say
+-- the reader of an opened file has the header and entries of its bytes
 pub reader_is : {R : Type 0} (remaining : R → Option (List ℕ)) (reader : R) (header : Option (Result (ℕ × List Range) Refusal)) (coming : Option Coming) → header ≡ option_map part_header (remaining reader) → coming ≡ option_map part_coming (remaining reader)
     → (text : List ℕ) → remaining reader ≡ Some text → (header ≡ Some (part_header text)) × (coming ≡ Some (part_coming text))
 reader_is remaining reader header coming h c text is = (h ∙ ap (option_map part_header) is, c ∙ ap (option_map part_coming) is)
 
 module _ {R : Type 0} (remaining : R → Option (List ℕ)) where
-  -- what some files and more hold is what these hold and what those hold
+  -- the texts of some files and more are those of the first and then those of the others
   hold_append : (done more : List (NamedFile R)) (texts : List (List ℕ)) → HoldTexts remaining (done ++ more) texts
       → (ts : List (List ℕ)) × (us : List (List ℕ)) × (texts ≡ ts ++ us) × HoldTexts remaining done ts × HoldTexts remaining more us
   hold_append [] more texts hold = ([], texts, refl, tt, hold)

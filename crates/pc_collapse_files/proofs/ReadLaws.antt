@@ -1,4 +1,4 @@
--- A failed read is told of by Device, and nothing else is.
+-- A failed read is reported by Device, and nothing else is.
 use Rattle.std.proofs.Common.{◌≡◌, ◌≢◌, ◌⊎◌, ◌<◌, ◌≤◌, ◌||◌, ℕ, zero, suc, nat_lt, Bool, true, false, List, [], ◌∷◌, ◌++◌, length, map, take, drop, Option, Some, None, Err, refl, sym, ap, subst, ◌∙◌, inl, inr, arith}
 use Rattle.std.specs.List.{All, list_any}
 use Rattle.std.proofs.lemmas.Bool.Decides.{nat_tests}
@@ -40,7 +40,7 @@ either false b e = e
 risen_above : (n : ℕ) → HasRisen 0 n → 0 < n
 risen_above n risen = let one : 1 ≤ n = risen in omega (arith, one)
 
--- in the first so many of them, and others
+-- in the first `count` of them, and others
 at_any : (count : ℕ) (now others : List Standing) (place : ℕ) → place < count → 0 < (standing_at now place).failures → list_any failed (take count (now ++ others)) ≡ true
 at_any zero now others place less above = absurd (omega (arith, less))
 at_any (suc count) [] others zero less above = absurd (omega (arith, above))
@@ -104,11 +104,11 @@ module _ {R : Type 0} (v : Vec (PartReader R) Global) (now : List (PartReader R)
 pub standing_is : (refused : Option Refusal) (count : ℕ) → refused ≡ None → count ≡ 0 → (record { refused = refused; failures = count }) ≡ sound
 standing_is refused count none zero_long = rw (none, zero_long) refl
 
--- none is there
+-- the empty list
 pub none_sound : (R : Type 0) → AreSound {R = R} []
 none_sound R = All-nil IsSound
 
--- of no inputs a want of memory tells of no read
+-- without inputs a failed allocation reports no read
 pub memory_tells : (R : Type 0) → TellsReads {R = R} [] OutOfMemory
 memory_tells R = (λ device. absurd (let bad : OutOfMemory ≡ Device = device in cc), λ other. refl)
 

@@ -1,4 +1,4 @@
--- What is written of the readers of part files is the join of the files, or why it isn't.
+-- The text that is written of the readers of part files is the join of the files, or there is a reason why not.
 use Rattle.std.proofs.Common.{◌≡◌, ℕ, ◌<◌, ◌^◌, nat_lt, Bool, true, false, suc, List, [], ◌∷◌, length, map, Option, Some, None, Result, Ok, refl, sym, ap, subst, ◌∙◌}
 use Rattle.std.specs.Prelude.{MatchBool}
 use Rattle.std.specs.List.{All}
@@ -35,7 +35,7 @@ use Rattle.pc_collapse_files.proofs.JoinedParts.{alone, merged_folds, parts_of}
 use Rattle.pc_collapse_files.proofs.KeyCounts.{all_few}
 use Rattle.pc_collapse_files.proofs.ReadFiles.{known_coming, known_header}
 
--- ---- what is known of all
+-- ---- the known facts of all
 
 known_texts : (texts : List (List ℕ)) → all_known (map known_coming texts) ≡ Some (map part_coming texts)
 known_texts [] = refl
@@ -73,7 +73,7 @@ parts_read (h ∷ hs) (t ∷ ts) is sound few =
     (parts_read hs ts parts.1 (All-tail Sound (part_coming t) (map part_coming ts) sound) (All-tail Few (part_coming t) (map part_coming ts) few))
 
 module _ {R : Type 0} (remaining : R → Option (List ℕ)) (files : List (NamedFile R)) (readers : List (PartReader R)) (are : AreReadersOf remaining files readers) where
-  -- what is to come of the readers is what is to come of the texts
+  -- the further entries of the readers are those of the texts
   of_texts : (texts : List (List ℕ)) → HoldTexts remaining files texts → all_known (map (coming_of remaining) readers) ≡ Some (map part_coming texts)
   of_texts texts hold = ap all_known (are texts hold).1 ∙ known_texts texts
 
@@ -103,7 +103,7 @@ module _ {R : Type 0} (remaining : R → Option (List ℕ)) (files : List (Named
   pub unjoined : (why : Refusal) → IsUnjoinedFor remaining readers why → AreUnjoined remaining files why
   unjoined why cause texts hold = cause (map part_coming texts) (of_texts texts hold)
 
--- what a file that was begun is left with
+-- the state of a file that was begun
 pub unwritten : {R F : Type 0} (remaining : R → Option (List ℕ)) (contents : F → Option (List ℕ)) (files : List (NamedFile R)) (inputs : List (PartReader R)) (Refuses : Refusal → Type 0) (file : Tally F) (why : Refusal) (f : CollapseFault)
     → HaveHeader remaining files → AreUnjoined remaining files why → (nat_lt 0 (failures_of file) ≡ false → TellsReads inputs why) → IsJoinRefusal why → IsShortIn contents file → IsFaultOf file why f → IsUnwritten remaining contents files inputs Refuses (Some file) f
 unwritten remaining contents files inputs Refuses file why f have cause tells refusal short is = by (nat_lt 0 (failures_of file)) refl is

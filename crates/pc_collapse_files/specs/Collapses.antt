@@ -1,4 +1,4 @@
--- A collapse of part files: what they hold, the file that it gives, what goes out, and why it may fail.
+-- A collapse of part files: their texts, the file that it gives, its output, and why it may fail.
 use Rattle.std.specs.Prelude.{◌≡◌, ◌⊎◌, ◌<◌, ℕ, Bool, List, [], ◌∷◌, ◌++◌, map, Option, Some, None, Result, Ok, Err, IsSome, MatchOption, codes, ⊤}
 use Rattle.std.specs.Io.KnownBytes.{Appends}
 use Rattle.std.specs.List.{list_any}
@@ -31,11 +31,11 @@ use Rattle.pc_collapse_files.specs.Reads.{TellsReads}
 abbrev pub is_one_of : {R : Type 0} → List (NamedFile R) → List ℕ → Bool
 is_one_of files name = list_any (λ file. bytes_eq file.name.items name) files
 
--- what is told where the file that is to be written has the name of an input
+-- the report if the file that is to be written has the name of an input
 abbrev pub usage_text : List ℕ → List ℕ
 usage_text name = line_about name (codes "an input has this name")
 
--- it is told, as far as the writer takes it
+-- it is reported, as far as the writer takes it
 abbrev pub TellsUsage : {T : Type 0} → (T → Option (List ℕ)) → Tally T → Tally T → List ℕ → Type 0
 TellsUsage contents old new name = (told : Result (Unit {0}) Refusal) × Puts contents old new told (usage_text name)
 
@@ -53,7 +53,7 @@ parts_at (text ∷ texts) = do
   parts ← parts_at texts
   Ok (part ∷ parts)
 
--- the files hold these parts; said where their bytes are known
+-- the files hold these parts; said if their bytes are known
 abbrev pub AreReadAs : {R : Type 0} → (R → Option (List ℕ)) → List (NamedFile R) → List File → Type 0
 AreReadAs remaining files parts = (texts : List (List ℕ)) → HoldTexts remaining files texts → parts_at texts ≡ Ok parts
 
@@ -73,13 +73,13 @@ pub record IsFirstUnopened {R : Type 0} (files : List (NamedFile R)) (file : Nam
 abbrev pub texts_fault : List (List ℕ) → Option Refusal
 texts_fault texts = headers_fault (all_headers (map part_header texts))
 
--- files that were opened have no header together: memory ran out, a device failed, or so say their bytes, where they are known
+-- files that were opened have no header together: an allocation failed, a device failed, or so say their bytes, if they are known
 abbrev pub HaveNoHeader : {R : Type 0} → (R → Option (List ℕ)) → List (NamedFile R) → Refusal → Type 0
 HaveNoHeader remaining files why =
     AreOpened files × ((why ≡ OutOfMemory) ⊎ (why ≡ Device) ⊎ ((texts : List (List ℕ)) → HoldTexts remaining files texts → texts_fault texts ≡ Some why))
 
--- What may be refused of files that have no header together, whether their bytes are known or not: NoFile where there are none,
--- OtherRun where all headers were read and two are of different runs, and what a reader refuses.
+-- The possible refusals of files that have no header together, whether their bytes are known or not: NoFile if there are none,
+-- OtherRun if all headers were read and two are of different runs, and those of a reader.
 abbrev pub IsHeadRefusal : {R : Type 0} → (R → Option (List ℕ)) → List (NamedFile R) → List (PartReader R) → Refusal → Type 0
 IsHeadRefusal remaining files inputs why = ((why ≡ NoFile) × (files ≡ [])) ⊎ ((why ≡ OtherRun) × HaveTwoRuns remaining inputs) ⊎ IsReadRefusal why
 
@@ -87,13 +87,13 @@ IsHeadRefusal remaining files inputs why = ((why ≡ NoFile) × (files ≡ [])) 
 abbrev pub HaveHeader : {R : Type 0} → (R → Option (List ℕ)) → List (NamedFile R) → Type 0
 HaveHeader remaining files = AreOpened files × ((texts : List (List ℕ)) → HoldTexts remaining files texts → texts_fault texts ≡ None)
 
--- the entries of the files can't be joined, where their bytes are known
+-- the entries of the files can't be joined, if their bytes are known
 abbrev pub AreUnjoined : {R : Type 0} → (R → Option (List ℕ)) → List (NamedFile R) → Refusal → Type 0
 AreUnjoined remaining files why = (texts : List (List ℕ)) → HoldTexts remaining files texts → IsJoinCause (map part_coming texts) why
 
--- Why a collapse failed: a file can't be opened; the files have no header together; or they have one, and what is to be made of it can't
--- be made, joined, written or told of. Device is told of the inputs exactly where a read of theirs failed, and what the maker refused is
--- told of it. What is refused of the files is one of what readers and joins refuse, whether their bytes are known or not.
+-- Why a collapse failed: a file can't be opened; the files have no header together; or they have one, and their join can't be made,
+-- written or printed. Device is reported of the inputs if and only if a read of theirs failed, and for the maker its own refusal
+-- is. A refusal of the files is one of those of readers and joins, whether their bytes are known or not.
 abbrev pub IsCollapseCause : {R : Type 0} → (R → Option (List ℕ)) → List (NamedFile R) → List (PartReader R) → (Refusal → Type 0) → CollapseFault → Type 0
 IsCollapseCause {R} remaining files inputs Refuses (fault.Unopened name why) = (file : NamedFile R) × IsFirstUnopened files file why × (name ≡ file.name)
 IsCollapseCause remaining files inputs Refuses (fault.Refused why) = ((why ≡ OutOfMemory) ⊎ HaveNoHeader remaining files why) × TellsReads inputs why × IsHeadRefusal remaining files inputs why
@@ -103,15 +103,15 @@ IsCollapseCause remaining files inputs Refuses (fault.Unnamed why) = AreOpened f
 IsCollapseCause remaining files inputs Refuses fault.Output = AreOpened files × ((file : File) × IsJoinOf remaining files file)
 IsCollapseCause remaining files inputs Refuses fault.Unwritten = HaveHeader remaining files
 
--- of every file of this kind it is known what it holds
+-- of every file of this kind the text is known
 abbrev pub AreKnown : {F : Type 0} → (F → Option (List ℕ)) → Type 0
 AreKnown {F} contents = (file : F) → IsSome (contents file)
 
--- the texts that stood under a name stand there still
+-- the texts under a name stay
 abbrev pub StaysAs : (List ℕ → Type 0) → (List ℕ → Type 0) → Type 0
 StaysAs before after = (text : List ℕ) → before text → after text
 
--- a text stands under the file's name; said where it is known what files hold
+-- a text is under the file's name; said if the texts of files are known
 abbrev pub StandsThere : {F : Type 0} → (F → Option (List ℕ)) → (List ℕ → Type 0) → List ℕ → Type 0
 StandsThere contents stands text = AreKnown contents → stands text
 
@@ -119,7 +119,7 @@ StandsThere contents stands text = AreKnown contents → stands text
 abbrev pub IsWholeIn : {F : Type 0} → (F → Option (List ℕ)) → List ℕ → Tally F → Type 0
 IsWholeIn contents text file = AreKnown contents → contents (inner_of file) ≡ Some text
 
--- it holds what is read as Short
+-- its text is read as Short
 abbrev pub IsShortIn : {F : Type 0} → (F → Option (List ℕ)) → Tally F → Type 0
 IsShortIn contents file = AreKnown contents → (bytes : List ℕ) × (contents (inner_of file) ≡ Some bytes) × (part_at bytes ≡ Err Short)
 
@@ -127,11 +127,11 @@ IsShortIn contents file = AreKnown contents → (bytes : List ℕ) × (contents 
 abbrev pub HasFailed : {F : Type 0} → Tally F → Type 0
 HasFailed file = 0 < failures_of file
 
--- the line that tells of a joined file
+-- the line of a joined file
 abbrev pub line_of : File → List ℕ
 line_of file = joined_line (set.items file.points) (map_of.len file.triples)
 
--- The fold of the parts that the files hold stands whole under the name of the file that is to be written, and was told of.
+-- The fold of the files' parts is whole under the name of the file that is to be written, and its line was printed.
 pub record IsCollapseDone {R F W : Type 0} (remaining : R → Option (List ℕ)) (contents : F → Option (List ℕ)) (printed : W → Option (List ℕ)) (files : List (NamedFile R)) (stands : List ℕ → Type 0) (old new : Tally W) : Type 0 where
   pub opened : AreOpened files
   pub file : File
@@ -140,7 +140,7 @@ pub record IsCollapseDone {R F W : Type 0} (remaining : R → Option (List ℕ))
   pub line : Appends (printed (inner_of old)) (printed (inner_of new)) (line_of file)
   pub sound : failures_of new ≡ failures_of old
 
--- the same, but that the output failed: a beginning of the line went out
+-- the same, except that the output failed: a beginning of the line went out
 pub record IsCollapseUntold {R F W : Type 0} (remaining : R → Option (List ℕ)) (contents : F → Option (List ℕ)) (printed : W → Option (List ℕ)) (files : List (NamedFile R)) (stands : List ℕ → Type 0) (old new : Tally W) : Type 0 where
   pub file : File
   pub join : IsJoinOf remaining files file
@@ -148,13 +148,13 @@ pub record IsCollapseUntold {R F W : Type 0} (remaining : R → Option (List ℕ
   pub line : AppendsBeginning (printed (inner_of old)) (printed (inner_of new)) (line_of file)
   pub counted : HasRisen (failures_of old) (failures_of new)
 
--- A file that was written whole may have got its name or not: what stood there stands there still, or the fold of the parts does.
+-- A file that was written whole may have got its name or not: the earlier text is still there, or the fold of the parts is.
 abbrev pub IsNamedOrNot : {R F : Type 0} → (R → Option (List ℕ)) → (F → Option (List ℕ)) → List (NamedFile R) → (List ℕ → Type 0) → (List ℕ → Type 0) → Type 0
 IsNamedOrNot remaining contents files before after = StaysAs before after ⊎ ((file : File) × IsJoinOf remaining files file × StandsThere contents after (part_text file))
 
--- What a fault leaves: a file that was begun and isn't whole only where its writing failed, which is read as Short, and has failed where
--- its device did; under the name what stood there before, unless the file was whole; and nothing printed but a beginning of the line
--- where the output failed.
+-- The state after a fault: a file that was begun and isn't whole only if its writing failed, which is read as Short, and has
+-- counted a failure if its device failed; under the name the earlier text, unless the file was whole; and nothing printed but a
+-- beginning of the line if the output failed.
 abbrev pub IsLeftByCollapse : {R F W : Type 0} → (R → Option (List ℕ)) → (F → Option (List ℕ)) → (W → Option (List ℕ)) → List (NamedFile R) → CollapseFault → Option (Tally F) → (List ℕ → Type 0) → (List ℕ → Type 0) → Tally W → Tally W → Type 0
 IsLeftByCollapse remaining contents printed files fault.Unwritten begun before after old new = MatchOption begun ⊥ (λ f. HasFailed f × IsShortIn contents f) × StaysAs before after × (new ≡ old)
 IsLeftByCollapse remaining contents printed files (fault.Unjoined why) begun before after old new = MatchOption begun ⊥ (IsShortIn contents) × StaysAs before after × (new ≡ old)
@@ -162,7 +162,7 @@ IsLeftByCollapse remaining contents printed files (fault.Unnamed why) begun befo
 IsLeftByCollapse remaining contents printed files fault.Output begun before after old new = (begun ≡ None) × IsCollapseUntold remaining contents printed files after old new
 IsLeftByCollapse remaining contents printed files other begun before after old new = (begun ≡ None) × StaysAs before after × (new ≡ old)
 
--- what is told of a fault, where the file that is to be written has this name; of an output that failed nothing
+-- the report of a fault, if the file that is to be written has this name; nothing for an output that failed
 abbrev pub IsCollapseTold : {T : Type 0} → (T → Option (List ℕ)) → Tally T → Tally T → List ℕ → CollapseFault → Type 0
 IsCollapseTold contents old new name (fault.Unopened input why) = TellsOf contents old new input.items why
 IsCollapseTold contents old new name (fault.Refused why) = TellsOf contents old new name why
@@ -172,6 +172,6 @@ IsCollapseTold contents old new name (fault.Unnamed why) = TellsOf contents old 
 IsCollapseTold contents old new name fault.Unwritten = TellsOf contents old new name Device
 IsCollapseTold contents old new name fault.Output = new ≡ old
 
--- a fault has ended a collapse: it is a cause, this is left, and it was told
+-- a fault has ended a collapse: it is a cause, this is left, and it was reported
 abbrev pub IsCollapseFailed : {R F W : Type 0} → (R → Option (List ℕ)) → (F → Option (List ℕ)) → (W → Option (List ℕ)) → List (NamedFile R) → List (PartReader R) → (Refusal → Type 0) → Option (Tally F) → (List ℕ → Type 0) → (List ℕ → Type 0) → Tally W → Tally W → (CollapseFault → Type 0) → Type 0
 IsCollapseFailed remaining contents printed files inputs Refuses begun before after old new Told = (fault : CollapseFault) × IsCollapseCause remaining files inputs Refuses fault × IsLeftByCollapse remaining contents printed files fault begun before after old new × Told fault

@@ -19,6 +19,6 @@ AreSound readers = All (λ standing. standing ≡ sound) (map standing_of reader
 abbrev pub has_failed_read : {R : Type 0} → List (PartReader R) → Bool
 has_failed_read readers = list_any (λ standing. nat_lt 0 standing.failures) (map standing_of readers)
 
--- Device is the reason exactly where a read has failed
+-- Device is the reason if and only if a read has failed
 abbrev pub TellsReads : {R : Type 0} → List (PartReader R) → Refusal → Type 0
 TellsReads readers why = (why ≡ Device → has_failed_read readers ≡ true) × (why ≢ Device → has_failed_read readers ≡ false)

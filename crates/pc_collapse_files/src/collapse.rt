@@ -13,8 +13,8 @@ use pc_types::{Refusal, Tally};
 use std::alloc::Global;
 use std::io::{Read, Write};
 
-/// How a collapse ended: its exit status; where what the inputs hold ended it, their readers, with how many of their reads failed; and
-/// the file that was begun and could not be written whole, where there is one, with how many of its calls failed.
+/// How a collapse ended: its exit status; if the inputs ended it, their readers, with the number of their reads that failed; and
+/// the file that was begun and could not be written whole, if there is one, with the number of its calls that failed.
 #[derive(Drop)]
 pub struct EndedCollapse<R, F> {
     pub status: u8,
@@ -22,20 +22,20 @@ pub struct EndedCollapse<R, F> {
     pub begun: Option<Tally<F>>,
 }
 
-/// Joins part files to a file that the maker makes, and prints the points of the join and how many entries it has. First what stands
-/// before the entries of each is read, in their order; then the file is made, and the entries are read, joined and written one after
-/// the other, with no more in memory than an entry and a piece of each file; then the file gets its name. It gives the status
+/// Joins part files to a file that the maker makes, and prints the points of the join and the number of its entries. First the
+/// header of each is read, in their order; then the file is made, and the entries are read, joined and written in order, with no
+/// more in memory than an entry and a piece of each file; then the file gets its name. Its status is
 ///
-/// - 0 where all of that was done;
-/// - 2 where an input has the name of the file that is to be written: nothing is read or made, and a line on the error
-///   writer says so;
-/// - else 1, and a line on the error writer tells of the fault: by the name of the first input that can't be opened; else by
-///   the name of the file that is to be written, where an input can't be read or is refused, the parts can't be joined, memory
-///   ran out, or the file can't be made, written or named. Of an output that fails nothing is told. `Device` is told of the inputs
-///   exactly where a read of theirs failed, which the readers that are handed back have counted; of the maker is told what it refused.
+/// - 0 if all of that was done;
+/// - 2 if an input has the name of the file that is to be written: nothing is read or made, and a line on the error writer says so;
+/// - otherwise 1, and a line on the error writer reports the fault: by the name of the first input that can't be opened; otherwise
+///   by the name of the file that is to be written, if an input can't be read or is refused, the parts can't be joined, an
+///   allocation failed, or the file can't be made, written or named. An output that fails isn't reported. `Device` is reported of
+///   the inputs if and only if a read of theirs failed, which the returned readers have counted; for the maker its own refusal is
+///   reported.
 ///
-/// No file is made before what stands before the entries of all inputs is read. Until a file is whole, what stands under its name
-/// stays there, whatever fails. One that was made, and could not be written whole, holds what is read as `Short`.
+/// No file is made before the headers of all inputs are read. Until a file is whole, the earlier text under its name stays,
+/// whatever fails. A file that was made, and could not be written whole, is read as `Short`.
 pub fn run_collapse<R: Read + Drop, F: Write + Drop, M: Maker<F>, W: Write, E: Write>(
     alloc: Global,
     name: &str,
@@ -75,7 +75,7 @@ pub fn run_collapse<R: Read + Drop, F: Write + Drop, M: Maker<F>, W: Write, E: W
     }
 }
 
-// The collapse ended with this status, and hands nothing back.
+// The collapse ended with this status, and returns no files.
 fn ended<R, F>(alloc: Global, status: u8) -> EndedCollapse<R, F>
     ensures { (result.status ≡ status) × (result.begun ≡ None) }
 {
@@ -86,14 +86,14 @@ fn ended<R, F>(alloc: Global, status: u8) -> EndedCollapse<R, F>
     }
 }
 
-// Tells that an input has the name of the file that is to be written.
+// Reports that an input has the name of the file that is to be written.
 fn put_usage<E: Write>(name: &str, errors: &mut Tally<E>) -> Result<(), Refusal>
     ensures { Puts E.contents errors.old errors.new result (usage_text name.now) }
 {
     report_words(name.as_bytes(), b"an input has this name", errors)
 }
 
-// Tells of the fault.
+// Reports the fault.
 fn tell<E: Write>(name: &str, fault: &CollapseFault, errors: &mut Tally<E>)
     ensures { IsCollapseTold E.contents errors.old errors.new name.now fault.now }
 {
@@ -108,7 +108,7 @@ fn tell<E: Write>(name: &str, fault: &CollapseFault, errors: &mut Tally<E>)
     };
 }
 
-// The file is made, written, named and told of.
+// Makes, writes and names the file, and prints its line.
 fn collapse<R: Read + Drop, F: Write + Drop, M: Maker<F>, W: Write>(
     alloc: Global,
     files: Vec<NamedFile<R>>,
@@ -137,7 +137,7 @@ fn collapse<R: Read + Drop, F: Write + Drop, M: Maker<F>, W: Write>(
     }
 }
 
-// No file is made of inputs that have no header together.
+// No file is made if the inputs have no header together.
 fn unstarted<R, F>(unopened: UnopenedInputs<R>) -> Unfinished<R, F>
     ensures { result ≡ record { inputs = unopened.readers; file = None; fault = unopened.fault } }
 {

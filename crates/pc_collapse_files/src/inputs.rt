@@ -20,21 +20,20 @@ use pc_types::{Items, Point, Refusal, Tally};
 use std::alloc::Global;
 use std::io::Read;
 
-/// Why no file was written whole, or why it isn't told of.
+/// Why no file was written whole, or why its line isn't printed.
 #[derive(Drop)]
 pub enum CollapseFault {
     /// The part file of this name can't be opened: no file was made.
     Unopened(Vec<u8>, Refusal),
-    /// What stands before the entries of a part file can't be read or is refused, two files are of different runs, or memory ran out: no
-    /// file was made.
+    /// The header of a part file can't be read or is refused, two files are of different runs, or an allocation failed: no file was made.
     Refused(Refusal),
     /// The file that is to be written can't be made.
     Unmade(Refusal),
-    /// The entries of a part file can't be read or are refused, they can't be joined, or memory ran out, while the file was written.
+    /// The entries of a part file can't be read or are refused, they can't be joined, or an allocation failed, while the file was written.
     Unjoined(Refusal),
     /// The device failed while the file was written.
     Unwritten,
-    /// The file was written whole, and can't get its name, or it isn't known to have reached the device under it.
+    /// The file was written whole, and can't get its name, or it isn't known to have reached the device under that name.
     Unnamed(Refusal),
     /// The output failed.
     Output,

@@ -1,4 +1,4 @@
-//! The joined file is made and written, and told of.
+//! The joined file is made and written, and its line printed.
 ghost use Rattle.std.specs.Prelude.{◌≡◌, ◌⊎◌, ℕ, List, Some, None, IfOk, IfErr, OnOk, OnErr};
 ghost use Rattle.std.specs.Io.KnownBytes.{Appends};
 ghost use Rattle.pc_types.specs.declared.refusal.Refusal.{Refusal};
@@ -19,35 +19,35 @@ use pc_types::{Items, Point, Refusal, Tally};
 use std::alloc::Global;
 use std::io::{Read, Write};
 
-/// What makes the file that a collapse writes. The file is made apart from what stands under its name, and takes its place once it
-/// is whole. What is written to it goes straight out: it is not flushed, and a file that isn't whole must not become so behind a
-/// fault. Contracts see which texts stand under the name; of a device of which that isn't known each text counts as standing there.
+/// Makes the file that a collapse writes. The file is made apart from an earlier one of its name, and takes its place once it is
+/// whole. Bytes that are written to it go straight out: it is not flushed, and a file that isn't whole must not become so after a
+/// fault. Contracts see the texts under the name; on a device whose texts aren't known each text counts as there.
 pub trait Maker<F: Write> {
     ghost use Rattle.std.specs.Prelude.{◌≡◌, ◌⊎◌, ℕ, List, [], Some, IfErr, IfOk, IfSome, OnOk, OnErr, ⊤};
     ghost use Rattle.pc_types.specs.declared.refusal.Refusal.{Refusal};
     ghost use Rattle.pc_collapse_files.specs.Collapses.{StaysAs};
 
-    // This text stands under the file's name.
+    // The file's name has this text.
     ghost stands: { Self → List ℕ → Type 0 };
 
-    // A call that leaves the maker so is refused for this reason.
+    // A call that leaves the maker in this state is refused for this reason.
     ghost refuses: { Self → Refusal → Type 0 } = { λ _ _. ⊤ };
 
-    /// Makes the file, without bytes; what stands under its name stays. Refuses for whatever keeps it from being made.
+    /// Makes the file, without bytes; the text under its name stays. Its error is the cause that prevents this.
     fn make(&mut self) -> Result<F, Refusal>
         ensures empty { IfOk result (λ file. IfSome (F.contents file) (λ bytes. bytes ≡ [])) }
         ensures stays { StaysAs (stands self.old) (stands self.new) }
         ensures refused { IfErr result (refuses self.new) };
 
-    /// All bytes of the file were written: it gets its name, in the place of what stood there. Refuses for whatever keeps it from
-    /// that; then what stood there stays, or the file has its name.
+    /// All bytes of the file were written: it gets its name, in place of the earlier text. Its error is the cause that prevents
+    /// this; then the earlier text stays, or the file has its name.
     fn finish(&mut self, file: F) -> Result<(), Refusal>
         ensures named { OnOk result ((text : List ℕ) → F.contents file ≡ Some text → stands self.new text) }
         ensures unnamed { OnErr result (StaysAs (stands self.old) (stands self.new) ⊎ ((text : List ℕ) → F.contents file ≡ Some text → stands self.new text)) }
         ensures refused { IfErr result (refuses self.new) };
 }
 
-// A joined file that was written, and what is printed of it.
+// A joined file that was written, and its line of output.
 #[derive(Drop)]
 pub(crate) struct WrittenFile<F> {
     pub(crate) file: Tally<F>,
@@ -55,8 +55,7 @@ pub(crate) struct WrittenFile<F> {
     pub(crate) entries: u32,
 }
 
-// A collapse that ended by a fault, with the readers of the inputs where what they hold ended it, and the file where it was begun and
-// not written whole.
+// A collapse that ended by a fault, with the readers of the inputs if they ended it, and the file if it was begun and not written whole.
 #[derive(Drop)]
 pub(crate) struct Unfinished<R, F> {
     pub(crate) inputs: Vec<PartReader<R>>,
@@ -76,7 +75,7 @@ pub(crate) fn unmade<R, F>(inputs: Vec<PartReader<R>>, fault: CollapseFault) -> 
     }
 }
 
-// Makes the file and writes the join of the inputs to it; what stands under its name stays.
+// Makes the file and writes the join of the inputs to it; the text under its name stays.
 pub(crate) fn write_file<R: Read + Drop, F: Write + Drop, M: Maker<F>>(
     alloc: Global,
     inputs: OpenedInputs<R>,
@@ -118,7 +117,7 @@ pub(crate) fn write_file<R: Read + Drop, F: Write + Drop, M: Maker<F>>(
     }
 }
 
-// The fault of a file that was begun: the device's where one of its own calls failed.
+// The fault of a file that was begun: the device's if one of its own calls failed.
 fn fault_of<F>(file: &Tally<F>, why: Refusal) -> CollapseFault
     ensures { IsFaultOf file.now why result }
 {
@@ -144,7 +143,7 @@ pub(crate) fn name_file<F: Write + Drop, M: Maker<F>>(
     }
 }
 
-// Prints the line that tells of the joined part.
+// Prints the line of the joined part.
 pub(crate) fn print<W: Write>(
     out: &mut Tally<W>,
     points: &[Point],

@@ -29,7 +29,7 @@ pub places_count : (side : Side) (slots : List ℕ) → length (places_of side s
 places_count side [] = refl
 places_count side (x ∷ xs) = let h = places_count side xs in omega (arith, h)
 
--- a place is told to be in a list, as its slot is
+-- a place is in a list if its slot is
 pub place_told : (side : Side) (slot : ℕ) (slots : List ℕ) (answer : Bool) → (answer ≡ false) ↔ Avoids (place_of side slot) (places_of side slots) → (answer ≡ false) ↔ Avoids slot slots
 place_told side slot slots answer h = ((λ e. avoids_slots side slot slots (h.0 e)), (λ a. h.1 (avoids_places side slot slots a)))
 

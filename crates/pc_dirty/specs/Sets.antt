@@ -33,7 +33,7 @@ pub record AreEmpty (dirty : Dirty) : Type 0 where
   pub open_count : dirty.open_count ≡ 0
   pub closed_count : dirty.closed_count ≡ 0
 
--- so many slots at most, along the links from this place on
+-- at most that many slots, along the links from this place on
 abbrev pub follow : (SideSlot → Option SideSlot) → ℕ → Option SideSlot → List ℕ
 follow next n None = []
 follow next zero (Some place) = []
@@ -47,7 +47,7 @@ opened_of next dirty = follow next dirty.open_count dirty.opened.first
 abbrev pub closed_of : (SideSlot → Option SideSlot) → Dirty → List ℕ
 closed_of next dirty = follow next dirty.closed_count dirty.closed.first
 
--- no slot stands twice
+-- no slot occurs twice
 abbrev pub HasNoRepeats : List ℕ → Type 0
 HasNoRepeats [] = ⊤
 HasNoRepeats (x ∷ xs) = Avoids x xs × HasNoRepeats xs

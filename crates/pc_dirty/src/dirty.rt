@@ -7,8 +7,8 @@ use crate::side::{Side, SideSlot};
 use pc_chain::{Chain, Links};
 use pc_types::SlotId;
 
-/// Two sets of slots, the open one and the closed one; a slot can be in both. Each is a list without repeats, in the order of
-/// first addition. The sets have their ends alone: each slot's links, one on either side, are kept by whoever is given at each
+/// Two sets of slots, the open one and the closed one; a slot can be in both. Each is a list without repeats, in the order of first
+/// addition. The sets have their ends alone: each slot's links, one on either side, are kept by the keeper that is given at each
 /// call, in the words that the call's marker `K` names. No call takes memory, none but `in_open`, `in_closed` and `add` goes over the
 /// slots, and each succeeds.
 #[derive(Clone, Copy)]
@@ -42,8 +42,8 @@ impl Dirty {
         side
     }
 
-    /// Whether a slot is in the open set. It goes along the set, up to all of its slots: whoever keeps the links may know it at
-    /// once.
+    /// Whether a slot is in the open set. It goes along the set, up to all of its slots: the keeper of the links may know it without
+    /// that.
     #[tactic(auto, using(crate::proofs::Changing::none_told))]
     pub fn in_open<K, L: Links<K, Id = SideSlot>>(&self, links: &L, slot: SlotId) -> bool
         requires { (opened closed : List ℕ) × AreSets (L.has links.now) (L.next_of links.now) self.now opened closed }
@@ -56,8 +56,8 @@ impl Dirty {
         self.opened.contains(links, SideSlot { slot, side })
     }
 
-    /// Whether a slot is in the closed set. It goes along the set, up to all of its slots: whoever keeps the links may know it at
-    /// once.
+    /// Whether a slot is in the closed set. It goes along the set, up to all of its slots: the keeper of the links may know it
+    /// without that.
     #[tactic(auto, using(crate::proofs::Changing::none_told))]
     pub fn in_closed<K, L: Links<K, Id = SideSlot>>(&self, links: &L, slot: SlotId) -> bool
         requires { (opened closed : List ℕ) × AreSets (L.has links.now) (L.next_of links.now) self.now opened closed }
@@ -70,7 +70,7 @@ impl Dirty {
         self.closed.contains(links, SideSlot { slot, side })
     }
 
-    /// Adds a slot at the end of the open set; where the set has it, all stays as it is. It looks for the slot along the set
+    /// Adds a slot at the end of the open set; if the set has it, all stays as it is. It looks for the slot along the set
     /// (`in_open`); `add_new` doesn't.
     pub fn add<K, L: Links<K, Id = SideSlot>>(&mut self, links: &mut L, slot: SlotId)
         requires has { L.has links.old (place_of self.old.side slot) }
@@ -114,7 +114,7 @@ impl Dirty {
         self.side = self.side.other();
     }
 
-    /// The first slot of the closed set; None where the set is empty.
+    /// The first slot of the closed set; `None` if the set is empty.
     pub fn first_closed<K, L: Links<K, Id = SideSlot>>(&self, links: &L) -> Option<SlotId>
         ensures { (opened closed : List ℕ) → AreSets (L.has links.now) (L.next_of links.now) self.now opened closed → result ≡ first_of closed }
     {
@@ -122,7 +122,7 @@ impl Dirty {
         Some(place.slot)
     }
 
-    /// Takes the first slot out of the closed set and gives it; None where the set is empty. No link changes.
+    /// Takes the first slot out of the closed set and returns it; `None` if the set is empty. No link changes.
     pub fn pop_closed<K, L: Links<K, Id = SideSlot>>(&mut self, links: &L) -> Option<SlotId>
         requires { (opened closed : List ℕ) × AreSets (L.has links.now) (L.next_of links.now) self.old opened closed }
         ensures given { (opened closed : List ℕ) → AreSets (L.has links.now) (L.next_of links.now) self.old opened closed → result ≡ first_of closed }

@@ -23,7 +23,7 @@ impl Side {
     }
 }
 
-/// What names a link: a slot, and a side.
+/// The name of a link: a slot, and a side.
 #[derive(Clone, Copy, PartialEq)]
 pub struct SideSlot {
     pub slot: SlotId,

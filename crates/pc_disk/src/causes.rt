@@ -1,4 +1,4 @@
-//! What the system said where a file could not be had, kept until it is told.
+//! The system's error for a file that couldn't be opened or read, kept until it is printed.
 use pc_texts::put_name;
 use pc_types::Tally;
 use std::alloc::{AllocError, Global};
@@ -8,10 +8,10 @@ use std::io::{Error, ErrorKind, Read, Write};
 use std::string::String;
 use std::sync::OnceLock;
 
-/// So many failures are kept; of later ones nothing is known.
+/// The most failures that are kept; later ones are dropped.
 const KEPT: usize = 8;
 
-/// What was being done with a file when it failed.
+/// The operation on a file that failed.
 #[derive(Clone, Copy)]
 pub enum Doing {
     Opening,
@@ -26,7 +26,7 @@ pub enum Doing {
 }
 
 impl Doing {
-    /// The word that tells of it.
+    /// The word that reports it.
     pub fn word(self) -> &'static str {
         match self {
             Doing::Opening => "opening",
@@ -48,7 +48,7 @@ pub struct Cause {
     pub doing: Doing,
     /// The file's path.
     pub path: String,
-    /// What the system said.
+    /// The system's error.
     pub error: Error,
 }
 
@@ -69,7 +69,7 @@ impl Causes {
         Ok(Causes { alloc, kept })
     }
 
-    /// Keeps the failure, where there is room for it.
+    /// Keeps the failure, if there is room for it.
     pub fn note(&self, doing: Doing, path: &str, error: Error) {
         let Ok(path) = String::from_str(self.alloc, path) else {
             return;

@@ -17,10 +17,10 @@ pub const BASE: &str = "base.pcb";
 /// The name of the log.
 pub const LOG: &str = "log.pcl";
 
-/// How the names of parts end.
+/// The suffix of the names of parts.
 pub const PART_END: &[u8] = b".pcp";
 
-/// What recovery finds in a folder.
+/// The files that recovery finds in a folder.
 #[derive(Drop)]
 pub struct FoundFolder<'a> {
     /// The base, the parts in the byte order of their names, and the log.
@@ -34,11 +34,11 @@ pub struct FoundFolder<'a> {
 pub struct ReadFolder<'a> {
     pub rt: &'a HostRuntime,
     pub path: &'a str,
-    /// Where it is noted why a file can't be read.
+    /// The list of the causes why files can't be read.
     pub causes: &'a Causes,
 }
 
-/// What the folder has for recovery. It is an error only where memory ran out.
+/// The folder's files for recovery. It is an error only if an allocation failed.
 pub fn open_folder<'a>(dir: ReadFolder<'a>) -> Result<FoundFolder<'a>, AllocError> {
     let mut unopened = Vec::new(dir.rt.alloc());
     let base = open_named(dir, BASE)?;
@@ -51,7 +51,7 @@ pub fn open_folder<'a>(dir: ReadFolder<'a>) -> Result<FoundFolder<'a>, AllocErro
     Ok(FoundFolder { folder, unopened })
 }
 
-/// Tells of the part files that can't be opened, by their names.
+/// Reports the part files that can't be opened, by their names.
 pub fn tell_unopened<E: Write>(unopened: &[Vec<u8>], errors: &mut Tally<E>) {
     for name in unopened {
         let _ = report(name, Refusal::Device, errors);
@@ -81,7 +81,7 @@ fn open_named<'a>(
     }
 }
 
-/// Why a file can't be opened or a folder can't be listed, as the program tells it.
+/// Why a file can't be opened or a folder can't be listed, as the program reports it.
 pub fn why_not(e: &io::Error) -> Refusal {
     if e.kind() == ErrorKind::NotFound {
         return Refusal::NoFile;
@@ -144,8 +144,8 @@ fn late_files<'a>(
     Ok(files)
 }
 
-// Whether what has a part's name is none: a folder; or a pipe, a socket or a device, also where a link leads to it, which might be
-// read for ever.
+// Whether what has a part's name is none: a folder; or a pipe, a socket or a device, also if a link leads to it, which might be read
+// for ever.
 fn is_passed_by(rt: &HostRuntime, path: &str) -> bool {
     if let Ok(found) = fs::symlink_metadata(rt, path) {
         if found.is_dir() {

@@ -16,12 +16,12 @@ pub struct LateFile<'a> {
     opened: Opened,
 }
 
-// What is left to be read of a file.
+// The rest of a file, to be read.
 #[derive(Drop)]
 enum Opened {
     NotYet,
     File(File),
-    // All of its bytes, of which so many were read.
+    // All of its bytes, and how many of them were read.
     Bytes(Vec<u8>, usize),
     // It couldn't be read.
     Failed,
@@ -52,8 +52,8 @@ impl<'a> LateFile<'a> {
         }
     }
 
-    /// Reads all of a file that is not yet opened, so that of many files one is open at a time. Where it can't be read, that is told
-    /// when it is: it is an error only where memory ran out.
+    /// Reads all of a file that is not yet opened, so that of many files one is open at a time. If it can't be read, that is reported
+    /// when it is: it is an error only if an allocation failed.
     pub fn read_whole(self) -> Result<LateFile<'a>, Refusal> {
         let opened = match self.all_bytes() {
             Ok(bytes) => Opened::Bytes(bytes, 0),

@@ -1,5 +1,5 @@
 //! Files and folders of a real file system, by their paths: how they are opened, listed and made, the standard streams, and what the
-//! system said where one of them could not be had.
+//! system said if one of them could not be had.
 #![tactic(auto)]
 
 mod causes;

@@ -1,4 +1,4 @@
-//! How a file is made so that nothing is lost: apart from what stands under its name, which it gets once it is whole.
+//! How a file is made so that nothing is lost: under another name, and renamed once it is whole.
 use crate::causes::{Causes, Doing, Noted};
 use pc_types::Refusal;
 use std::alloc::AllocError;
@@ -7,15 +7,15 @@ use std::io::ErrorKind;
 use std::string::String;
 use std::{fs, io};
 
-/// What stands behind the name of a file that is not whole yet. Recovery reads none of such a name.
+/// The suffix of the name of a file that is not whole yet. Recovery ignores files with such names.
 const NEW_END: &str = ".new";
 
-/// So many names are tried for a file that is made apart.
+/// The most temporary names that are tried for a file.
 const MOST_NAMES: u32 = 1_000;
 
-/// Where a file is to stand. What is written of it goes into another file in the same folder, which no other process has and no link
-/// leads to, and which gets the name once it is whole; until then what stands there stays. Where what stands there is no plain file,
-/// as a device or a pipe, it is written to as it is.
+/// The destination of a file. Its bytes are written to another file in the same folder, which no other process has and no link leads
+/// to, and which gets the name once it is whole; until then the file at the destination stays. If that is no plain file, as a device
+/// or a pipe, it is written to as it is.
 #[derive(Drop)]
 pub struct Target<'a> {
     rt: &'a HostRuntime,
@@ -26,7 +26,7 @@ pub struct Target<'a> {
 }
 
 impl<'a> Target<'a> {
-    /// A file of this path is to be made; nothing is yet.
+    /// A file to be made at this path; nothing is made yet.
     pub fn new(rt: &'a HostRuntime, causes: &'a Causes, path: String) -> Target<'a> {
         let apart = None;
         Target {
@@ -37,7 +37,7 @@ impl<'a> Target<'a> {
         }
     }
 
-    /// The path under which the file is to stand.
+    /// The path that the file is to have.
     pub fn path(&self) -> &str {
         self.path.as_str()
     }
@@ -55,14 +55,14 @@ impl<'a> Target<'a> {
         }
     }
 
-    // What stands there, to be written to as it is.
+    // The file at the destination, to be written to as it is.
     fn open_stream(&self) -> io::Result<File> {
         File::options()
             .append(true)
             .open(self.rt, self.path.as_str())
     }
 
-    // A new file in the same folder. It may be read and written by whoever may do so with what stands there.
+    // A new file in the same folder, with the permissions of the file at the destination, if there is one and they can be set.
     fn make_apart(&mut self, standing: Option<Metadata>) -> io::Result<File> {
         for number in 0..MOST_NAMES {
             let path = self.path_apart(number)?;
@@ -90,7 +90,7 @@ impl<'a> Target<'a> {
         format!(in alloc; "{}{NEW_END}{number}", self.path.as_str())
     }
 
-    /// The file is whole and gets its name. Where it is synced, all of it has reached the device before, and the name does.
+    /// The file is whole and gets its name. If it is synced, all of it has reached the device before, and the name does.
     pub fn finish(&mut self, file: &Noted<'a, File>, is_synced: bool) -> Result<(), Refusal> {
         let Some(apart) = &self.apart else {
             return Ok(());
@@ -113,7 +113,7 @@ impl<'a> Target<'a> {
         }
     }
 
-    /// A file that is not whole goes, and what stands under its name stays.
+    /// A file that is not whole is removed, and the file at the destination stays.
     pub fn discard(&mut self) {
         if let Some(apart) = &self.apart {
             let _ = fs::remove_file(self.rt, apart.as_str());
@@ -127,7 +127,7 @@ impl<'a> Target<'a> {
     }
 }
 
-// Whether what stands there is written to as it is: it is no plain file, or the system's own name of an open one.
+// Whether the file at the destination is written to as it is: it is no plain file, or the system's own name of an open one.
 fn is_stream(found: &Metadata, path: &str) -> bool {
     let is_open = path.starts_with("/dev/std") || path.starts_with("/dev/fd/");
     !found.is_file() || is_open || path.starts_with("/proc/")
@@ -147,7 +147,7 @@ pub fn sync_folder(rt: &HostRuntime, path: &str) -> io::Result<()> {
     File::open(rt, path)?.sync_all()
 }
 
-/// Why a file can't be made or get its name, as the program tells it.
+/// Why a file can't be made or get its name, as the program reports it.
 pub fn why_unmade(e: &io::Error) -> Refusal {
     if e.kind() == ErrorKind::OutOfMemory {
         return Refusal::OutOfMemory;

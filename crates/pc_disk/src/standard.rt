@@ -7,10 +7,10 @@ use std::os::fd::AsRawFd;
 use std::string::String;
 use std::{fs, io};
 
-/// What standard output is called where its failure is told.
+/// The name of standard output in the message of its failure.
 pub const OUTPUT: &str = "standard output";
 
-/// What standard input is called.
+/// The name of standard input.
 pub const INPUT: &str = "standard input";
 
 /// How many standard streams there are; they have the first descriptors.
@@ -18,7 +18,7 @@ const STREAMS: i32 = 3;
 
 /// Fills the places of those standard streams that the program was started without, until the files are dropped: else a file that
 /// it opens would take such a place, and what is printed would go into it. They are open for reading, so that printing fails as it
-/// does on a closed stream. Where there is no null device, no place is filled.
+/// does on a closed stream. If there is no null device, no place is filled.
 pub fn fill_places(rt: &HostRuntime) -> Result<Vec<File>, AllocError> {
     let mut files = Vec::new(rt.alloc());
     for _ in 0..STREAMS {

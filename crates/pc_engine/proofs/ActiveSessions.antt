@@ -53,7 +53,7 @@ one_session ss s x e h own is others before t there = session_set ss s t x own t
     by_same true same = is ∙ ap (λ k. active_by k e h) (let one : s ≡ t = grind (arith, nat_tests, same) in one)
     by_same false same = before t there ∙ sym (others t same)
 
--- how many are active of a class is told by the sessions
+-- the sessions determine how many are active of a class
 of_in : (class : Class) (b : Bool) (a : Active) → is_of class (cond b (Some a) None) ≡ (b && same_class a.class class)
 of_in class true a = refl
 of_in class false a = refl

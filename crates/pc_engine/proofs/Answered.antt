@@ -1,4 +1,4 @@
--- A call is refused exactly where its reply is a refusal.
+-- A call is refused if and only if its reply is a refusal.
 use Rattle.std.specs.Prelude.{ℕ, Result, Ok, Err, OnErr}
 use Rattle.pc_types.specs.declared.Outcome.{Outcome}
 use Rattle.pc_types.specs.declared.Outcome.TheVariants.{Granted, Queued, Died}

@@ -1,4 +1,4 @@
--- What is owed where a cause stands.
+-- The reply that is owed if a cause applies.
 use Rattle.pc_engine.specs.Adds.{add_causes, GoesOn, IsRefusedFor, sum_in}
 use Rattle.pc_types.specs.Changes.{number_of, sum_if, added, can_add}
 use Rattle.pc_types.specs.declared.Outcome.TheVariants.{Granted, Queued, Died}
@@ -28,12 +28,12 @@ get_refused w s key r due = rw (due ((is_full_for w.kept key, why.Full) ∷ []))
 pub commit_refused : (w : Store) (s : ℕ) (r : Refusal) → OpenCause w s (Some r) → Commits w s (told.Refused r) w
 commit_refused w s r due = rw (due ((is_log_full w, why.LogFull) ∷ [])) (refl, refl)
 
--- what was refused was due, or memory ran out
+-- what was refused was due, or an allocation failed
 pub owed_refusal : (o : Option Reply) (e : Refusal) (old new : Store) (Done : Type 0) → MatchOption o (e ≡ why.OutOfMemory) (λ due. due ≡ told.Refused e) → new ≡ old → Owes o old (told.Refused e) new Done
 owed_refusal None e old new Done is same = inr (ap told.Refused is, same)
 owed_refusal (Some due) e old new Done is same = (sym is, same)
 
--- of one cause that is left: it stands, or memory ran out
+-- of one cause that is left: it applies, or an allocation failed
 full_or_memory : (full : Bool) (old : Store) (Done : Type 0) → Owes (first_refusal ((full, why.Full) ∷ [])) old (told.Refused (if full then why.Full else why.OutOfMemory)) old Done
 full_or_memory true old Done = (refl, refl)
 full_or_memory false old Done = inr (refl, refl)
@@ -51,11 +51,11 @@ write_answered old new s key content reply o may room asked is leaves =
       leaves ∙ ap (λ p. after_asking old s key Exclusive p (if_granted p (with_session old.sessions s (after_writing (active old s) (write_of key (change_to content)))) old.sessions)) asked,
     ))
 
--- a write that isn't answered, where nothing else stands against it
+-- a write that isn't answered, if nothing else prevents it
 pub write_unanswered : (w : Store) (s : ℕ) (key : List ℕ) (content : Option (List ℕ)) → WriteCause w s key None → WritesKey w s key content (told.Refused (why_refused w.kept key)) w
 write_unanswered w s key content may = rw (may.0.known, may.0.opened, may.0.ready, may.0.alive, may.1) (full_or_memory (is_full_for w.kept key) w _)
 
--- a write whose request was answered so, or refused, where nothing stood against it before; the world holds what goes on
+-- a write whose request was answered so, or refused, if nothing prevented it before; the world holds what goes on
 pub write_requested : (W : Ongoing → Store) (was new : Ongoing) (s : ℕ) (key : List ℕ) (content : Option (List ℕ)) (r : Result Outcome Refusal) → WriteCause (W was) s key None →
     ((o : Outcome) → W (asked_so was s key content o) ≡ after_asking (W was) s key Exclusive o (if_granted o (with_session (W was).sessions s (after_writing (active (W was) s) (write_of key (change_to content)))) (W was).sessions)) →
     IfOk r (λ o. o ≡ outcome_in (W was) s key Exclusive) → IfOk r (λ o. new ≡ asked_so was s key content o) → IfOk r (λ o. is_full_for (W was).kept key ≡ false) →
@@ -63,7 +63,7 @@ pub write_requested : (W : Ongoing → Store) (was new : Ongoing) (s : ℕ) (key
 write_requested W was new s key content (Ok o) may same asked leaves room refusal stays = write_answered (W was) (W new) s key content (by_outcome o told.Ok) o may room asked refl (ap W leaves ∙ same o)
 write_requested W was new s key content (Err e) may same asked leaves room refusal stays = rw (refusal, stays) (write_unanswered (W was) s key content may)
 
--- where the first of a list of causes stands, so it does before others
+-- if the first of a list of causes applies, so it does before others
 stands_before : (causes more : List (Bool × Refusal)) (r : Reply) → first_refusal causes ≡ Some r → first_refusal (causes ++ more) ≡ Some r
 stands_before [] more r e = absurd (let no : false ≡ true = ap is_some e in cc)
 stands_before (c ∷ causes) more r e = by_test c.0 refl e (stands_before causes more r)
@@ -72,7 +72,7 @@ stands_before (c ∷ causes) more r e = by_test c.0 refl e (stands_before causes
     by_test true is e later = rw is e
     by_test false is e later = rw is (later e)
 
--- an add that goes on: nothing stands against it, and it has this sum where its request is granted
+-- an add that goes on: nothing prevents it, and it has this sum if its request is granted
 record Goes (full : Bool) (o : Outcome) (there : Option (List ℕ)) (own : Option Change) (delta : ℤ) (sum : Option ℤ) : Type 0 where
   room : full ≡ false
   none : first_refusal (add_causes o there own delta) ≡ None
@@ -103,7 +103,7 @@ goes full o there own delta (Some sum) g = record {
     has_number None e = absurd (let no : false ≡ true = ap is_some e in cc)
     has_number (Some n) e = refl
 
--- a cause of a write stands against an add too
+-- a cause that refuses a write refuses an add too
 pub add_stopped : (w : Store) (s : ℕ) (key : List ℕ) (delta : ℤ) (r : Refusal) → WriteCause w s key (Some r) → AddsTo w s key delta (told.Refused r) w
 add_stopped w s key delta r due = rw (stands_before (write_causes w s key) (add_causes (outcome_in w s key Exclusive) (seen_in w.kept.rows (active w s) key) (written (writes_in (active w s)) key) delta) (told.Refused r) due) (refl, refl)
 
@@ -124,7 +124,7 @@ module _ (w : Store) (s : ℕ) (key : List ℕ) (delta : ℤ) (may : WriteCause 
         let g = goes _ _ _ _ _ _ on in
         left_causes ∙ ap (λ b. first_refusal ((b, why.Full) ∷ mine)) g.room ∙ g.none
 
-    -- memory ran out
+    -- an allocation failed
     pub add_unanswered : AddsTo w s key delta (told.Refused why.OutOfMemory) w
     add_unanswered = rw none_stands (inr (refl, refl))
 

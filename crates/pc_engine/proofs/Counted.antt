@@ -16,7 +16,7 @@ use Rattle.pc_engine.specs.InPlace.{at_place}
 use Rattle.pc_engine.specs.Counts.{AreCounted}
 use Rattle.pc_phase.proofs.PhaseLaws.{phase_stays, point_stays}
 
--- 1 where it is so, else 0
+-- 1 if it is so, else 0
 abbrev one_if : Bool → ℕ
 one_if b = cond b 1 0
 
@@ -140,7 +140,7 @@ module _ (phases : Phases) (ss : List (Option Active)) (counted : AreCounted pha
   wrote_of None write c = refl
   wrote_of (Some x) write c = refl
 
-  -- a request to read was answered, or memory ran out
+  -- a request to read was answered, or an allocation failed
   pub read_counted : {A E : Type 0} (result : Result A E) (o : Outcome) (after : List (Option Active)) (j : ℕ) → IfOk result (λ r. after ≡ if_died o (set ss j (after_dying (at_place ss j))) ss) → OnErr result (after ≡ ss) → AreCounted phases after
   read_counted (Ok r) o after j is same c = counted c ∙ sym (ap (count_of c) is ∙ by_outcome o)
     where
@@ -161,7 +161,7 @@ module _ (phases : Phases) (ss : List (Option Active)) (counted : AreCounted pha
       by_outcome Died = same_counted c ss j (after_dying (at_place ss j)) (died_of (at_place ss j) c)
   request_counted (Err e) told write after j is same c = counted c ∙ sym (ap (count_of c) same)
 
--- none is counted where no transaction is open
+-- none is counted if no transaction is open
 pub first_counted : (phases : Phases) (ss : List (Option Active)) (n : ℕ) → phases ≡ (let first : Phases = record { phase = phase.Rest; point = 0; before = 0; during = 0; after = 0 } in first) → ss ≡ replicate n None → AreCounted phases ss
 first_counted phases ss n is idle c = rw (is, idle) (by_class c ∙ sym (none n))
   where

@@ -1,4 +1,4 @@
--- What each step of the checkpointer leaves of a world that stands after a history.
+-- The effect of each step of the checkpointer on a world that represents a history.
 use Rattle.std.proofs.Common.{◌≡◌, ℕ, ◌+◌, List, [], ◌∷◌, ◌++◌, length, map, append-nil, subst, Option, Some, None, is_none, refl, sym, ap, ◌∙◌, cond, true, false, Bool, not, eqb, ◌||◌}
 use Rattle.std.specs.Prelude.{IfSome}
 use Rattle.std.specs.FinMap.{put as put_entry}
@@ -134,7 +134,7 @@ module _ (old new : Store) (h : History) (reply : Reply) (stands : Stands old h)
       idle_or event (first_refusal other) (or_else (not_yet (count_of class old.sessions)) (first_refusal full)) (refused_idle event other)
       (idle_or event (not_yet (count_of class old.sessions)) (first_refusal full) (yet_idle event (count_of class old.sessions)) (refused_idle event full))
 
-  -- where nothing else is due at first, the phase is the right one
+  -- if nothing else is due at first, the phase is the right one
   first_phase : (p : Phase) (rest : Option Reply) → or_else (first_refusal ((not (same_phase old.cycle.phase p), why.WrongPhase) ∷ [])) rest ≡ None → is_in p h ≡ true
   first_phase p rest none = sym (in_phase p) ∙ by_test (same_phase old.cycle.phase p) none
     where
@@ -142,7 +142,7 @@ module _ (old new : Store) (h : History) (reply : Reply) (stands : Stands old h)
       by_test true e = refl
       by_test false e = cc
 
-  -- and so it is where no refusal is due
+  -- and so it is if no refusal is due
   right_phase : (from : Phase) (class : Class) → move_due from class old ≡ None → is_in from h ≡ true
   right_phase from class none = first_phase from (or_else (not_yet (count_of class old.sessions)) (first_refusal ((eqb (length old.log) 16777216, why.LogFull) ∷ []))) none
 

@@ -1,4 +1,4 @@
--- What a begin and the two ends of a transaction leave of a world that stands after a history.
+-- What a begin and the two ends of a transaction leave of a world that represents a history.
 use Rattle.std.proofs.Common.{◌≡◌, ℕ, ◌+◌, List, [], ◌∷◌, ◌++◌, length, append-nil, subst, Option, Some, None, is_some, is_none, refl, sym, ap, ◌∙◌, cond, true, false, Bool, not, eqb, nat_lt, ◌||◌, map}
 use Rattle.std.specs.Prelude.{MatchOption, IfSome, ◌⊎◌, option_map}
 use Rattle.std.proofs.lemmas.List.{length-set}
@@ -42,7 +42,7 @@ use Rattle.pc_engine.proofs.ActiveSessions.{is_past, active_now, active_by, same
 use Rattle.pc_engine.proofs.LocalSteps.{same_setting, IsLocal, local_left, log_stays, keys_stay, closed_set_stays, state_stays_at}
 use Rattle.pc_engine.proofs.Owing.{states_stay, with_step, IsLeft, IsOpenIn, open_in, open_then, owes_follows, goes_on, unmoved, legal_then, refused_idle, same_cycle, not_first, by_session, in_transaction, locked_now}
 
--- whether a session has a transaction is told by the history
+-- the history determines whether a session has a transaction
 some_of : (b : Bool) (a : Active) → is_some (cond b (Some a) None) ≡ b
 some_of true a = refl
 some_of false a = refl
@@ -56,7 +56,7 @@ sessions_with : (w : Store) (s : ℕ) (x : Option Active) (fact : (t : ℕ) → 
     (t : ℕ) → is_past (with_session w.sessions s x) t ≡ false → session_at (with_session w.sessions s x) t ≡ fact t
 sessions_with w s x fact are t there = are t (sym (ap (λ n. eqb t 0 || nat_lt n t) (length-set w.sessions _ _)) ∙ there)
 
--- what is told of an abort, by what is due before it
+-- the reply to an abort, by what is due before it
 abbrev ToldOfAbort : Reply → Option Reply → Type 0
 ToldOfAbort reply o = MatchOption (or_else o (Some told.Aborted)) (⊥ ⊎ (reply ≡ told.Refused why.OutOfMemory)) (λ due. reply ≡ due)
 
@@ -64,7 +64,7 @@ told_of_abort : (o : Option Reply) (reply : Reply) → MatchOption o (reply ≡ 
 told_of_abort None reply fact = fact
 told_of_abort (Some due) reply fact = fact
 
--- what distinct writes leave of a key, where the rows have what the database has of it
+-- what distinct writes leave of a key, if the rows have what the database has of it
 left_of_writes : (rows : List Row) (db : Database) (ws : List Write) (q : List ℕ) → AreDistinct ws → stored (record_of rows q) ≡ map_of.get db q → map_of.get (applied_all db ws) q ≡ now_or (left_by ws rows q) (map_of.get db q)
 left_of_writes rows db ws q distinct is = seen_of db ws q distinct ∙ by_change (written ws q) ∙ ap (λ c. now_or (option_map (λ change. changed change c) (written ws q)) (map_of.get db q)) (sym is)
   where

@@ -11,7 +11,7 @@ abbrev content_of : Option (List ℕ × Option (List ℕ)) → Option (List ℕ)
 content_of None = None
 content_of (Some p) = p.1
 
--- where one was found the set begins with it
+-- if one was found the set begins with it
 pub first_key : (rows : List Row) (shut : List (List ℕ)) (key : List ℕ) (content : Option (List ℕ)) → Some (key, content) ≡ first_pinned rows shut → (keys : List (List ℕ)) × (shut ≡ key ∷ keys) × (content ≡ at_point (record_of rows key))
 first_key rows [] key content e = absurd cc
 first_key rows (k ∷ keys) key content e =

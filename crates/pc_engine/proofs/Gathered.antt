@@ -95,7 +95,7 @@ length_insert : (m : Map key_order (Option (List ℕ))) (k : List ℕ) (v : Opti
 unfolding insert
 length_insert m k v none = length-put key_cmp key_order.total k v m.entries m.rises ∙ ap (λ b. cond b (length m.entries) (length m.entries + 1)) none
 
--- of keys that stand once each a first one isn't among the others
+-- of keys that occur once each a first one isn't among the others
 pub apart_from : (key : List ℕ) (keys : List (List ℕ)) → AllByRecursion (λ k. same_bytes key k ≡ false) keys → is_among keys key ≡ false
 apart_from key [] all = refl
 apart_from key (k ∷ keys) all = ap (λ b. b || is_among keys key) all.0 ∙ apart_from key keys all.1
@@ -108,7 +108,7 @@ count_by_key (t ∷ ts) once =
     let one = length_insert (from_list ts) t.0 t.1 (ap is_some (find-by_key t.0 ts) ∙ is_some-find key_cmp t.0 ts ∙ apart_from t.0 (keys_in ts) once.0) in
     omega (arith, one, count_by_key ts once.1)
 
--- a key that stands behind others, once, isn't among them
+-- a key that comes after others, once, isn't among them
 pub earlier_apart : (gone : List (List ℕ)) (key : List ℕ) (keys : List (List ℕ)) → IsDistinct same_bytes (gone ++ key ∷ keys) → is_among gone key ≡ false
 unfolding IsDistinct
 earlier_apart [] key keys once = refl
@@ -118,7 +118,7 @@ earlier_apart (g ∷ gone) key keys once = ap (λ b. b || is_among gone key) ((e
     at_key [] all = all.0
     at_key (k ∷ between) all = at_key between all.1
 
--- keys that stand before others, all once, stand once
+-- keys that come before others, all once, occur once
 pub front_once : (gone keys : List (List ℕ)) → IsDistinct same_bytes (gone ++ keys) → IsDistinct same_bytes gone
 unfolding IsDistinct
 front_once [] keys once = tt

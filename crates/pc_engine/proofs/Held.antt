@@ -1,4 +1,4 @@
--- What is due where a change is held back, and where it isn't.
+-- What is due if a change is held back, and if it isn't.
 use Rattle.std.proofs.Common.{◌≡◌, ℕ, ◌+◌, ◌≤◌, ◌==◌, List, [], ◌∷◌, ◌++◌, length, Option, Some, None, is_some, refl, ap, sym, ◌∙◌, arith, Bool, true, false, not, inl, inr}
 use Rattle.std.specs.Prelude.{option_map, if◌then◌else◌, ◌⊎◌}
 use Rattle.std.proofs.lemmas.Bool.Decides.{nat_tests}
@@ -45,7 +45,7 @@ is_free phases change left none = by_tests (same_phase phases.phase (from_of cha
     by_tests true true zero a b c e = absurd (let no : true ≡ false = ap is_some e in cc)
     by_tests false full zero a b c e = absurd (let no : true ≡ false = ap is_some e in cc)
 
--- what is due where a change is held back, and where nothing holds it back
+-- what is due if a change is held back, and if nothing holds it back
 held_due : (due later : Option Reply) (h : Option Held) (held : Held) → due ≡ or_else (option_map reply_of h) later → h ≡ Some held → due ≡ Some (reply_of held)
 held_due due later h held is some = is ∙ ap (λ h. or_else (option_map reply_of h) later) some
 
@@ -57,7 +57,7 @@ pub begun_outside_rest : (now : Phase) (point : ℕ) → same_phase now phase.Ca
 begun_outside_rest now point capture (inr has) = has
 begun_outside_rest now point capture (inl rest) = absurd (let no : true ≡ false = sym rest ∙ ap (λ p. same_phase p phase.Rest) (is_this now phase.Capture capture) in cc)
 
--- what is answered to each change where it isn't made
+-- what is answered to each change if it isn't made
 abbrev pub due_of : Change → Store → Option Reply
 due_of change.StartPoint w = first_refusal (start_causes w)
 due_of change.Seal w = move_due phase.Prepare Before w
@@ -73,7 +73,7 @@ after_change change.OpenCapture w = after_moving phase.Capture w.cycle.point w
 after_change change.Done w = w
 after_change change.Rest w = after_moving phase.Rest w.cycle.point w
 
--- where the world's phase and point are these, and its sessions are counted
+-- if the world's phase and point are these, and its sessions are counted
 module _ (w : Store) (phases : Phases) (left : ℕ) (at_phase : w.cycle.phase ≡ phases.phase) (at_point : w.cycle.point ≡ phases.point) (counted : AreCounted phases w.sessions) where
   abbrev full : List (Bool × Refusal)
   full = (is_log_full w, why.LogFull) ∷ []

@@ -1,4 +1,4 @@
--- The locks' queues of every world that stands after a history are legal.
+-- The locks' queues of every world that represents a history are legal.
 use Rattle.std.proofs.Common.{[], sym, subst}
 use Rattle.pc_model.specs.Locks.{queue_of}
 use Rattle.pc_model.specs.Queues.{IsLegalQueue}

@@ -20,7 +20,7 @@ use Rattle.pc_engine.specs.Stands.{IsReadOff}
 use Rattle.pc_engine.proofs.ActiveSessions.{is_past, active_by}
 use Rattle.pc_engine.proofs.Owing.{with_step, IsLeft, same_cycle, states_stay}
 
--- the setting stays where there are as many sessions
+-- the setting stays if there are as many sessions
 pub same_setting : (w : Store) (n : ℕ) → n ≡ length w.sessions → (let st : Setting = record { run = w.base.run; base = w.base.pairs; sessions = n; capacity = w.kept.capacity } in st) ≡ setting_of w
 same_setting w n same = ap (λ n. let st : Setting = record { run = w.base.run; base = w.base.pairs; sessions = n; capacity = w.kept.capacity } in st) same
 

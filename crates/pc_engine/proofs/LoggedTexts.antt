@@ -1,4 +1,4 @@
--- The log of every world that stands after a history has a text, and its replay on the base is what is committed.
+-- The log of every world that represents a history has a text, and its replay on the base is what is committed.
 use Rattle.std.proofs.Common.{◌≡◌, ℕ, List, sym, ◌∙◌, subst}
 use Rattle.pc_model.specs.Maps as map_of
 use Rattle.pc_model.specs.Database.{database_of}

@@ -1,4 +1,4 @@
--- How many writes there are once one more is noted.
+-- The number of writes once one more is noted.
 use Rattle.std.proofs.Common.{◌≤◌, Bool, true, false, List, [], ◌∷◌, length, cond, arith}
 use Rattle.pc_types.specs.declared.Write.{Write}
 use Rattle.pc_types.specs.Changes.{merged}

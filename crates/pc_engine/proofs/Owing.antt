@@ -55,7 +55,7 @@ states_stay st h step legal q there = by_taking (is_taking (phase_of h)) refl
     by_taking true e = ap (λ db. map_of.get db q) (state_stays st h step legal e)
     by_taking false e = absurd (empty_has_none (closed_set h) (none_left st h legal.1 e) there)
 
--- where the step does nothing to it the cycle stays
+-- if the step does nothing to it the cycle stays
 pub same_cycle : (st : Setting) (c : Cycle) (files : List File) (h : History) (step : Step) → HasLegalEffects st (step ∷ h) → phase_of (step ∷ h) ≡ phase_of h → point_of (step ∷ h) ≡ point_of h → open_set (step ∷ h) ≡ open_set h →
     changes_closed (effect step) ≡ false → taken (step ∷ h) ≡ taken h → shelf st.run (step ∷ h) ≡ shelf st.run h → IsCycle st.run c files h → IsCycle st.run c files (step ∷ h)
 same_cycle st c files h step legal phase point written same takes shelved was = record {
@@ -83,7 +83,7 @@ still w h step legal e parts =
           (ap (λ d. shelf w.base.run h ++ shelved_by w.base.run d h (shelf w.base.run h)) e ∙ append-nil (shelf w.base.run h)) parts.cycle;
     }
 
--- a world that stands keeps what checkpoints promise
+-- a world that represents a history keeps what checkpoints promise
 pub keeps_points : (w : Store) (h : History) → Stands w h → KeepsPoints w h
 keeps_points w h stands =
     let legal : HasLegalEffects (setting_of w) h = legal_has_legal_effects (setting_of w) h stands.legal in
@@ -93,7 +93,7 @@ keeps_points w h stands =
 pub locked_now : (w : Store) (h : History) → Stands w h → Locked h
 locked_now w h stands = locked (setting_of w) h (legal_has_legal_effects (setting_of w) h stands.legal)
 
--- what an event leaves where it is done
+-- what an event leaves if it is done
 abbrev pub IsLeft : Store → Store → History → Event → Reply → Type 0
 IsLeft old new h event reply = (setting_of new ≡ setting_of old) × IsReadOff new (with_step h event reply) × ValueBy old.base.pairs (effect_of event reply) h
 
@@ -122,7 +122,7 @@ unmoved old new h event reply stands limits none unchanged legal =
       subst (λ e. ValueBy old.base.pairs e h) (sym none) tt,
     )
 
--- what an event leaves, given what it leaves where it is done
+-- what an event leaves, given what it leaves if it is done
 pub owes_follows : (old new : Store) (h : History) (event : Event) (reply : Reply) (Done : Type 0) (due : Option Reply) → Stands old h → IsInLimits event → due ≡ certain (setting_of old) h event → IfSome due (λ d. effect_of event d ≡ Nothing) → Owes due old reply new Done →
     (due ≡ None → Done → Answers (setting_of old) h event reply) → (due ≡ None → Done → HasLegalEffects (setting_of old) (with_step h event reply) → IsLeft old new h event reply) → Follows (setting_of old) h event reply new
 owes_follows old new h event reply Done due stands limits same idle step answers leaves = by_due due refl idle step
@@ -148,7 +148,7 @@ refused_idle event causes = by_first (first_refusal causes) (first_refusal_refus
     by_first None refuses = tt
     by_first (Some due) refuses = ap (effect_of event) refuses.1 ∙ refused_does_nothing event refuses.0
 
--- where the first cause does not stand
+-- if the first cause does not apply
 pub not_first : (b : Bool) (r : Refusal) (cs : List (Bool × Refusal)) → first_refusal ((b, r) ∷ cs) ≡ None → (b ≡ false) × (first_refusal cs ≡ None)
 not_first true r cs e = cc
 not_first false r cs e = (refl, e)
@@ -157,7 +157,7 @@ pub not_not : (b : Bool) → not b ≡ false → b ≡ true
 not_not true e = refl
 not_not false e = cc
 
--- the same first refusal, where the causes behind NoSession are told for a session that there is
+-- the same first refusal, if the causes after NoSession are checked for an existing session
 pub by_session : (st : Setting) (s : ℕ) (mine theirs : List (Bool × Refusal)) → (no_session st s ≡ false → first_refusal mine ≡ first_refusal theirs) →
     first_refusal ((no_session st s, why.NoSession) ∷ mine) ≡ first_refusal ((no_session st s, why.NoSession) ∷ theirs)
 by_session st s mine theirs then = by_test (no_session st s) refl
@@ -166,7 +166,7 @@ by_session st s mine theirs then = by_test (no_session st s) refl
     by_test true e = refl
     by_test false e = then e
 
--- the causes of an open transaction's events behind NoSession, by what the session has and by the history
+-- the causes of an open transaction's events after NoSession, by what the session has and by the history
 abbrev causes_by : Store → List (Bool × Refusal) → Option Active → List (Bool × Refusal)
 causes_by w mine a = (is_none a, why.NoTransaction) ∷ (waits_in_rows w.kept.rows (number_in a), why.StillWaiting) ∷ (has_died_in a, why.MustAbort) ∷ mine
 
@@ -206,13 +206,13 @@ open_in w h s stands there some = by_open (is_open s h) refl (stands.parts.sessi
         no true t f = cc
         no false t f = cc
 
--- where no cause stands the session is open
+-- if no cause applies the session is open
 pub open_then : (w : Store) (h : History) (s : ℕ) (causes : List (Bool × Refusal)) → Stands w h → first_refusal (open_causes w s causes) ≡ None → IsOpenIn w h s
 open_then w h s causes stands none =
     let first = not_first (no_session (setting_of w) s) why.NoSession (causes_by w causes (active w s)) none in
     open_in w h s stands first.0 (not_first (is_none (active w s)) why.NoTransaction ((waits_in_rows w.kept.rows (number_in (active w s)), why.StillWaiting) ∷ (has_died_in (active w s), why.MustAbort) ∷ causes) first.1).0
 
--- what was refused was due, or memory ran out
+-- what was refused was due, or an allocation failed
 pub owed_refusal : (o : Option Reply) (e : Refusal) (old new : Store) (Done : Type 0) → MatchOption o (e ≡ why.OutOfMemory) (λ due. due ≡ told.Refused e) → new ≡ old → Owes o old (told.Refused e) new Done
 owed_refusal None e old new Done is same = inr (ap told.Refused is, same)
 owed_refusal (Some due) e old new Done is same = (sym is, same)

@@ -33,7 +33,7 @@ by_place ss j x P inside own others i = by_test (eqb j i) refl
 abbrev in_place : Active → Option (List ℕ) → Pending
 in_place a value = record { by = a.number; class = a.class; value = value }
 
--- what stands of a transaction's write has its number and its class
+-- a transaction's write in place has its number and its class
 pub number_of : (rows : List Row) (a : Option Active) (q : List ℕ) (p : Pending) → write_in rows a q ≡ Some p → (p.by ≡ number_in a) × (p.class ≡ class_at a) × (is_some a ≡ true)
 number_of rows None q p e = absurd (let no : false ≡ true = ap is_some e in cc)
 number_of rows (Some a) q p e = by_left (left_by a.writes rows q) e
@@ -66,7 +66,7 @@ value_in rows (Some a) q e = by_left (left_by a.writes rows q)
     by_left None = refl
     by_left (Some v) = refl
 
--- where what is committed of the key stays, what stands of a write of it does
+-- if the committed content of the key stays, so does a write of it
 same_in : (rows now : List Row) (a : Option Active) (q : List ℕ) → stored (record_of now q) ≡ stored (record_of rows q) → write_in now a q ≡ write_in rows a q
 same_in rows now None q e = refl
 same_in rows now (Some a) q e = ap (λ c. option_map (in_place a) (option_map (λ change. changed change c) (written a.writes q))) e
@@ -106,7 +106,7 @@ written_other ws w q other = written_with ws w q ∙ second_of (same_bytes w.key
 written_there : (ws : List Write) (w : Write) → is_some (written (with_write ws w) w.key) ≡ true
 written_there ws w = ap is_some (written_with ws w w.key) ∙ some_first (same_bytes w.key w.key) _ (written ws w.key) ((eq_by_cmp_equiv key_order.total).refl w.key)
 
--- what a transaction's write of a key leaves stands in its place once it has made the write, and its other writes stand as they stood
+-- what a transaction's write of a key leaves is in its place once it has made the write, and its other writes are as they were
 write_made : (rows : List Row) (a : Option Active) (w : Write) (value : Option (List ℕ)) (q : List ℕ) → is_some a ≡ true → value ≡ seen_in rows (after_writing a w) w.key →
     write_in rows (after_writing a w) q ≡ cond (same_bytes w.key q) (Some (let p : Pending = record { by = number_in a; class = class_at a; value = value } in p)) (write_in rows a q)
 write_made rows None w value q there leaves = absurd (let no : false ≡ true = there in cc)
@@ -148,7 +148,7 @@ module _ (t : RecordsView) (ss : List (Option Active)) (begun : ℕ) (writes : A
       let second = number_of t.rows (at_place ss j) q p.0 (sym (writes.placed j q b) ∙ writes.placed i q a ∙ p.1) in
       numbers.apart i j (there_of t.rows (at_place ss i) q a) (there_of t.rows (at_place ss j) q b) (sym first.0 ∙ second.0)
 
-  -- what stands in a place, where it has this transaction's number, is what this transaction has written
+  -- what is in a place, if it has this transaction's number, is what this transaction has written
   pub own_write : (j : ℕ) (q : List ℕ) (p : Pending) → is_some (at_place ss j) ≡ true → pending_at t q ≡ Some p → p.by ≡ number_in (at_place ss j) → write_in t.rows (at_place ss j) q ≡ Some p
   own_write j q p there stands own = by_owner (writes.owned q)
     where
@@ -175,7 +175,7 @@ module _ (t : RecordsView) (ss : List (Option Active)) (begun : ℕ) (writes : A
       by_owner q (inl none) = inl (stays q ∙ none)
       by_owner q (inr owner) = inr (owner.0, stays q ∙ owner.1 ∙ sym (still owner.0 q))
 
-  -- where what stands in each place stays, the sessions' writes do
+  -- if what is in each place stays, the sessions' writes do
   pub same_places : (after : RecordsView) → ((q : List ℕ) → stored (record_of after.rows q) ≡ stored (record_of t.rows q)) → ((q : List ℕ) → pending_at after q ≡ pending_at t q) → AreInPlace after ss
   same_places after values stays = over_rows after t.rows ss values (record { placed = λ i q some. stays q ∙ writes.placed i q some; owned = λ q. by_owner q (writes.owned q); apply = writes.apply })
     where
@@ -238,7 +238,7 @@ module _ (t : RecordsView) (ss : List (Option Active)) (begun : ℕ) (writes : A
           still : (i : ℕ) → write_in t.rows (at_place (set ss j (after_writing (at_place ss j) w)) i) q ≡ write_in t.rows (at_place ss i) q
           still i = by_place ss j (after_writing (at_place ss j) w) (λ k a. write_in t.rows a q ≡ write_in t.rows (at_place ss k) q) inside (now q ∙ ap (λ b. cond b (Some mine) (write_in t.rows (at_place ss j) q)) e) (λ k other. refl) i
 
-  -- once a transaction is over, none of its writes stands in a place
+  -- once a transaction is over, none of its writes is in a place
   pub ended_in_place : (after : RecordsView) (j : ℕ) → j < length ss → ((q : List ℕ) → is_some (written (writes_in (at_place ss j)) q) ≡ false → stored (record_of after.rows q) ≡ stored (record_of t.rows q)) → ((q : List ℕ) → pending_at after q ≡ pending_without (writes_in (at_place ss j)) t q) →
       AreInPlace after (set ss j None)
   ended_in_place after j inside values is = record {
@@ -294,7 +294,7 @@ module _ (t : RecordsView) (ss : List (Option Active)) (begun : ℕ) (writes : A
   pub writes_stand : (j : ℕ) (q : List ℕ) → is_some (written (writes_in (at_place ss j)) q) ≡ true → is_some (pending_at t q) ≡ true
   writes_stand j q some = ap is_some (writes.placed j q (is_written t.rows (at_place ss j) q ∙ some)) ∙ is_written t.rows (at_place ss j) q ∙ some
 
-  -- what stands in the places of a transaction's writes is what they leave
+  -- what is in the places of a transaction's writes is what they leave
   pub made_left : (j : ℕ) (q : List ℕ) → is_some (at_place ss j) ≡ true → made_committed (writes_in (at_place ss j)) t q ≡ left_by (writes_in (at_place ss j)) t.rows q
   made_left j q there = by_test (is_some (written (writes_in (at_place ss j)) q)) refl
     where
@@ -302,7 +302,7 @@ module _ (t : RecordsView) (ss : List (Option Active)) (begun : ℕ) (writes : A
       by_test true e = ap (option_map value_of) (writes.placed j q (is_written t.rows (at_place ss j) q ∙ e)) ∙ value_in t.rows (at_place ss j) q there
       by_test false e = sym (none_of (left_by (writes_in (at_place ss j)) t.rows q) (is_left (writes_in (at_place ss j)) t.rows q ∙ e))
 
-  -- a transaction reads what it sees, where no other has a write in place
+  -- a transaction reads what it sees, if no other has a write in place
   pub reads_right : (j : ℕ) (key : List ℕ) → is_some (at_place ss j) ≡ true → IsClearFor t key (number_in (at_place ss j)) → read_of (pending_at t key) (stored (record_of t.rows key)) ≡ seen_in t.rows (at_place ss j) key
   reads_right j key there clear = by_place_of (pending_at t key) refl clear
     where
@@ -340,7 +340,7 @@ module _ (t : RecordsView) (ss : List (Option Active)) (begun : ℕ) (writes : A
       too_great : (n : ℕ) → n ≤ begun → n ≡ begun + 1 → ⊥
       too_great n le is = omega (arith, le, is)
 
-  -- where a session keeps its number, or has no transaction, the numbers are apart as before
+  -- if a session keeps its number, or has no transaction, the numbers are apart as before
   pub same_numbers : (j : ℕ) (x : Option Active) → j < length ss → (is_some x ≡ true → is_some (at_place ss j) ≡ true) → (is_some x ≡ true → number_in x ≡ number_in (at_place ss j)) → number_in x ≤ begun → AreNumbered begun (set ss j x)
   same_numbers j x inside there same le = record {
     apart = λ i k.

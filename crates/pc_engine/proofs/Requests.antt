@@ -1,4 +1,4 @@
--- What a read and a write leave of a world that stands after a history.
+-- What a read and a write leave of a world that represents a history.
 use Rattle.std.specs.Prelude.{ℤ}
 use Rattle.pc_types.specs.declared.Change.TheVariants.{Add}
 use Rattle.pc_types.specs.Changes.{added, fits}
@@ -38,7 +38,7 @@ use Rattle.pc_engine.proofs.ActiveSessions.{is_past, active_now, active_by, same
 use Rattle.pc_engine.proofs.LocalSteps.{IsLocal, local_left, log_stays, keys_stay, closed_set_stays, state_stays_at}
 use Rattle.pc_engine.proofs.Owing.{with_step, IsLeft, IsOpenIn, open_then, owes_follows, refused_idle, in_transaction}
 
--- the effect of a request, by its outcome and the effect that it has where it is granted
+-- the effect of a request, by its outcome and the effect that it has if it is granted
 abbrev asked_effect : ℕ → List ℕ → Mode → Effect → Outcome → Effect
 asked_effect s key mode granted Granted = granted
 asked_effect s key mode granted Queued = Waits s key mode
@@ -60,7 +60,7 @@ add_effect s key delta sum Granted = refl
 add_effect s key delta sum Queued = refl
 add_effect s key delta sum Died = refl
 
--- where a granted add has a sum, that is told
+-- if a granted add has a sum, that is the reply
 sum_told : (o : Outcome) (sum : Option ℤ) → (o ≡ Granted → is_none sum ≡ false) → by_outcome o (told.Sum (sum_in sum)) ≡ by_outcome o (sum_reply sum)
 sum_told Granted None some = absurd (let no : true ≡ false = some refl in cc)
 sum_told Granted (Some n) some = refl

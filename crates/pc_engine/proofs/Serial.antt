@@ -1,4 +1,4 @@
--- Serial truth holds of every world that stands after a history.
+-- Serial truth holds of every world that represents a history.
 use Rattle.pc_model.proofs.AddLaws.{adds_apply}
 use Rattle.pc_model.specs.Changes.{AddsApply}
 use Rattle.std.proofs.Common.{◌∙◌, ap, sym, subst}

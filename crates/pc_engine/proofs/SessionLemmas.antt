@@ -60,11 +60,11 @@ module _ (lanes : List LaneView) (s i : ℕ) (found : LaneView) (at : i ≡ s - 
   pub opened_before : (prepared : LaneView) (a : Active) → prepared.own ≡ found.own → Some a ≡ prepared.own → get_or before i None ≡ Some a
   opened_before prepared a same e = sym (e ∙ same ∙ own_before)
 
-  -- where the lane is seen as before
+  -- if the lane is seen as before
   pub unchanged : (new : LaneView) → new.own ≡ found.own → actives_of (set lanes i new) ≡ before
   unchanged new same = set_one lanes i new ∙ ap (set before i) (same ∙ own_before) ∙ set_back before i None
 
-  -- and where its transaction has written, or died, or waits, by the outcome
+  -- and if its transaction has written, or died, or waits, by the outcome
   pub answered_by : (prepared new : LaneView) (write : Write) (o : Outcome) → prepared.own ≡ found.own → new.own ≡ if_granted o (after_writing prepared.own write) (if_died o (after_dying prepared.own) prepared.own) →
       actives_of (set lanes i new) ≡ if_died o (set before i (after_dying (get_or before i None))) (if_granted o (set before i (after_writing (get_or before i None) write)) before)
   answered_by prepared new write Granted same e = set_one lanes i new ∙ ap (set before i) (e ∙ ap (λ a. after_writing a write) (same ∙ own_before))

@@ -49,7 +49,7 @@ pub sees_content : (rows : List Row) (a : Option Active) (key : List ℕ) (conte
 sees_content rows None key content there = absurd (let no : true ≡ false = there in cc)
 sees_content rows (Some a) key content there = content_of content (stored (record_of rows key)) ∙ sym (ap (λ o. seen o (stored (record_of rows key))) (written_last a.writes key content))
 
--- where an add applies to what a transaction sees of a key, it leaves the sum there
+-- if an add applies to what a transaction sees of a key, it leaves the sum there
 pub sees_sum : (rows : List Row) (a : Option Active) (key : List ℕ) (delta sum : ℤ) → is_none a ≡ false → AppliesIfAny (written (writes_in a) key) (stored (record_of rows key)) → added delta (seen_in rows a key) ≡ Some sum →
     Some (number_text sum) ≡ seen_in rows (after_writing a (write_of key (Add delta))) key
 sees_sum rows None key delta sum there apply is = absurd (let no : true ≡ false = there in cc)
@@ -62,7 +62,7 @@ sees_sum rows (Some a) key delta sum there apply is =
     ∙ (merge_if before (Add delta) committed apply some).0 ∙ ap (or_same (seen before committed)) is
     )
 
--- an add that goes on leaves its sum in the key's place, where its request is granted
+-- an add that goes on leaves its sum in the key's place, if its request is granted
 pub sum_left : (rows : List Row) (a : Option Active) (key : List ℕ) (delta : ℤ) (full : Bool) (o : Outcome) (sum : Option ℤ) → is_none a ≡ false → AppliesIfAny (written (writes_in a) key) (stored (record_of rows key)) → GoesOn full o (seen_in rows a key) (written (writes_in a) key) delta sum → o ≡ Granted →
     value_of_sum sum ≡ seen_in rows (after_writing a (write_of key (Add delta))) key
 sum_left rows a key delta full o None there apply on granted = absurd (let no : true ≡ false = sym (ap is_granted granted) ∙ on.1 in cc)

@@ -1,4 +1,4 @@
--- Every world that stands after a history is sound.
+-- Every world that represents a history is sound.
 use Rattle.std.proofs.Common.{◌≡◌, ◌↔◌, ℕ, List, get_or, All, IsTrue, sym, ap, ◌∙◌, subst, arith}
 use Rattle.std.proofs.lemmas.List.Elements.{Contains-get_or}
 use Rattle.pc_types.specs.declared.Entry.{Entry}
@@ -40,7 +40,7 @@ sound_by w pairs given b base log files own is_base is_log is_files is_given com
     let D : List (List ℕ × List ℕ) → Type 0 = λ given. IsTrue b ↔ ((database_of given ≡ after w.base.pairs w.log) × All (IsFileRight w.base.pairs w.log) w.shelf) in
     sound_is w pairs b own (subst D is_given (subst C is_files (subst B is_log (subst A is_base compared))))
 
--- every world that stands after a history is sound
+-- every world that represents a history is sound
 pub stands_sound : (w : Store) (history : History) → Stands w history → IsStoreSound w
 stands_sound w history stands = record {
   contents = (is_serial w history stands).contents;

@@ -1,4 +1,4 @@
--- What every event keeps of a world, and that a new world stands after no event.
+-- What every event keeps of a world, and that a new world represents the empty history.
 use Rattle.pc_types.specs.declared.Change.TheVariants.{Add}
 use Rattle.std.proofs.Common.{◌≡◌, ℕ, ◌+◌, ◌-◌, ◌≤◌, zero, suc, List, [], ◌∷◌, length, get_or, replicate, Option, Some, None, refl, sym, ap, subst, ◌∙◌, inl, inr, map}
 use Rattle.std.specs.Prelude.{MatchOption, ℤ}
@@ -27,7 +27,7 @@ if_refused : (reply : Reply) (Fact : Type 0) → Fact → IfRefused reply Fact
 if_refused (told.Refused why) Fact fact = fact
 if_refused other Fact fact = tt
 
--- what every event keeps: what the run started from, and, where it is refused, all
+-- what every event keeps: what the run started from, and, if it is refused, all
 abbrev Keeps : Store → Reply → Store → Type 0
 Keeps old reply new = (setting_of new ≡ setting_of old) × IfRefused reply (new ≡ old)
 
@@ -134,7 +134,7 @@ all_idle zero i = refl
 all_idle (suc n) zero = refl
 all_idle (suc n) (suc i) = all_idle n i
 
--- a world made of a base stands after no step
+-- a world made of a base represents the empty history
 pub stands_first : (w : Store) (pairs : List (List ℕ × List ℕ)) (n : ℕ) → KeysRise pairs → database_of pairs ≡ w.base.pairs → w.kept.rows ≡ map committed_row pairs → w.log ≡ [] → w.begun ≡ 0 → w.sessions ≡ replicate n None → w.cycle.phase ≡ Rest → w.cycle.point ≡ 0 → w.cycle.open_set ≡ [] → w.cycle.closed_set ≡ [] → w.shelf ≡ [] → w.base.point ≡ 0 → n ≤ 64 → Stands w []
 stands_first w pairs n rise base rows log begun idle phase point open_keys closed shelf start few = record {
   sessions = subst (λ k. k ≤ 64) (sym (ap (λ (ss : List (Option Active)). length ss) idle ∙ length-replicate n no_transaction)) few;

@@ -1,4 +1,4 @@
--- That sessions, records and phases stand together whatever a call makes of them.
+-- Sessions, records and phases stay consistent whatever a call does to them.
 use Rattle.pc_model.specs.Changes.{Applies}
 use Rattle.std.proofs.Common.{◌≡◌, ℕ, zero, suc, ◌+◌, ◌-◌, ◌<◌, ◌≤◌, List, [], ◌∷◌, ◌++◌, length, map, set, replicate, Option, Some, None, is_some, is_none, refl, sym, ap, subst, ◌∙◌, arith, true, false, inl, inr}
 use Rattle.std.specs.Prelude.{◌⊎◌, Ok}

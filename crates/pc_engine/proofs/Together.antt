@@ -106,7 +106,7 @@ in_first keys more q among = list_any-append (same_bytes q) keys more ∙ ap (λ
 in_second : (keys more : List (List ℕ)) (q : List ℕ) → is_among more q ≡ true → is_among (keys ++ more) q ≡ true
 in_second keys more q among = list_any-append (same_bytes q) keys more ∙ ap (λ b. is_among keys q || b) among ∙ elim (is_among keys q) as (λ b. (b || true) ≡ true) [ true ↦ refl | false ↦ refl ]
 
--- where none is counted, none is of the class
+-- if none is counted, none is of the class
 none_counted : (class : Class) (ss : List (Option Active)) → count_of class ss ≡ 0 → (i : ℕ) → is_of class (at_place ss i) ≡ false
 none_counted class [] none i = refl
 none_counted class (a ∷ rest) none i = by_head (is_of class a) refl none i (λ later. none_counted class rest later)
@@ -145,7 +145,7 @@ is_this Complete Resolve e = absurd (let no : false ≡ true = e in cc)
 is_this Complete Capture e = absurd (let no : false ≡ true = e in cc)
 
 module _ (t : RecordsView) (ss : List (Option Active)) (begun : ℕ) (phase : Phase) (point : ℕ) (open_keys closed : List (List ℕ)) (hold : HoldTogether t ss begun phase point open_keys closed) where
-  -- no key of a closed set is left where the point is over
+  -- no key of a closed set is left if the point is over
   pub none_closed : is_open_point phase ≡ false → (q : List ℕ) → is_in_closed_set (record_of t.rows q) ≡ false
   none_closed over q = by_flag (is_in_closed_set (record_of t.rows q)) refl
     where
@@ -172,7 +172,7 @@ module _ (t : RecordsView) (ss : List (Option Active)) (begun : ℕ) (phase : Ph
   pub same_again : (j : ℕ) (q : List ℕ) (p : Pending) → is_some (at_place ss j) ≡ true → pending_at t q ≡ Some p → p.by ≡ number_in (at_place ss j) → p.class ≡ class_at (at_place ss j)
   same_again j q p there stands own = (number_of t.rows (at_place ss j) q p (own_write t ss begun hold.writes hold.numbers j q p there stands own)).1
 
-  -- what stands in a place is of a class that may be active
+  -- what is in a place is of a class that may be active
   pub may_stand : (q : List ℕ) (p : Pending) → pending_at t q ≡ Some p → (i : ℕ) × (p.class ≡ class_at (at_place ss i)) × (is_some (at_place ss i) ≡ true) × (may_be_active phase p.class ≡ true)
   may_stand q p stands = by_owner (hold.writes.owned q)
     where
@@ -453,7 +453,7 @@ goes_to_rest Before e f = refl
 goes_to_rest During e f = e
 goes_to_rest After e f = absurd (let no : true ≡ false = f in cc)
 
--- a transaction's writes are committed where they stand, and its requests released
+-- a transaction's writes are committed where they are, and its requests released
 pub committed_together : (t middle after : RecordsView) (ss : List (Option Active)) (j n : ℕ) (ws : List Write) → j < length ss → KeysRise t.rows → ws ≡ writes_in (at_place ss j) → kept_of middle ≡ record (kept_of t) { rows = map (written_row (left_by ws t.rows)) t.rows } → ((q : List ℕ) → pending_at middle q ≡ pending_without ws t q) →
     middle.point ≡ t.point → after ≡ record middle { rows = released_rows n middle.rows } → (begun : ℕ) (phase : Phase) (point : ℕ) (open_keys closed : List (List ℕ)) → HoldTogether t ss begun phase point open_keys closed →
     HoldTogether after (set ss j None) begun phase point (open_keys ++ new_keys t.rows (writes_in (at_place ss j))) closed
@@ -482,19 +482,19 @@ rows_left t kept ss begun j ws placed there mine rows = rows ∙ ap (λ (left : 
     made : (q : List ℕ) → made_committed ws t q ≡ left_by ws t.rows q
     made q = subst (λ w. made_committed w t q ≡ left_by w t.rows q) (sym mine) (made_left t ss begun placed.writes placed.numbers j q there)
 
--- and then none stands
+-- and then there is none
 pub none_placed : (t middle : RecordsView) (ss : List (Option Active)) (begun j n : ℕ) (ws : List Write) → AreOpen t ss begun → is_some (at_place ss j) ≡ true → ws ≡ writes_in (at_place ss j) → n ≡ number_in (at_place ss j) → ((q : List ℕ) → pending_at middle q ≡ pending_without ws t q) →
     (q : List ℕ) (p : Pending) → pending_at middle q ≡ Some p → eqb p.by n ≡ false
 none_placed t middle ss begun j n ws placed there mine number pending q p stands =
     ap (eqb p.by) number ∙ none_by t ss begun placed.writes placed.numbers middle j there (λ k. pending k ∙ ap (λ w. pending_without w t k) mine) q p stands
 
--- what is read where the request was granted is what the transaction sees
+-- what is read if the request was granted is what the transaction sees
 pub read_granted : (t : RecordsView) (ss : List (Option Active)) (begun j n : ℕ) (key : List ℕ) (o : Outcome) (found : Reply) → AreOpen t ss begun → is_some (at_place ss j) ≡ true → Granted ≡ o → n ≡ number_in (at_place ss j) → IsClearFor t key n →
     found ≡ read_reply (read_of (pending_at t key) (stored (record_of t.rows key))) → found ≡ by_outcome o (read_reply (seen_in t.rows (at_place ss j) key))
 read_granted t ss begun j n key o found placed there granted number clear is =
     is ∙ ap read_reply (reads_right t ss begun placed.writes placed.numbers j key there (subst (λ k. IsClearFor t key k) number clear)) ∙ ap (λ x. by_outcome x (read_reply (seen_in t.rows (at_place ss j) key))) granted
 
--- and so it sees what stands in the place of a key that it may write
+-- and so it sees what is in the place of a key that it may write
 pub seen_granted : (t : RecordsView) (ss : List (Option Active)) (begun j n : ℕ) (key : List ℕ) (found : Option (List ℕ)) → AreOpen t ss begun → is_some (at_place ss j) ≡ true → n ≡ number_in (at_place ss j) → IsClearFor t key n → found ≡ read_of (pending_at t key) (stored (record_of t.rows key)) →
     found ≡ seen_in t.rows (at_place ss j) key
 seen_granted t ss begun j n key found placed there number clear is = is ∙ reads_right t ss begun placed.writes placed.numbers j key there (subst (λ k. IsClearFor t key k) number clear)

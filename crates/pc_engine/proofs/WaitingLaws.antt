@@ -18,7 +18,7 @@ use Rattle.pc_engine.specs.Waiting.{opens_after, waits_after}
 pub one_there : (w : Store) (s : ℕ) → no_session (setting_of w) s ≡ false → active_of w s ≡ active w s
 one_there w s there = ap (λ b. cond b None (active w s)) (let some : eqb s 0 ≡ false = grind (arith, nat_tests, there) in some)
 
--- where no session has the number, nothing is open under it
+-- if no session has the number, nothing is open under it
 none_there : (w : Store) (s : ℕ) → no_session (setting_of w) s ≡ true → active_of w s ≡ None
 none_there w s past = by_zero (eqb s 0) refl
   where

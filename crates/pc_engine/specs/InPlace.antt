@@ -1,4 +1,4 @@
--- What the sessions, the records and the cycle keep together: open transactions have their writes in place.
+-- The joint invariant of the sessions, the records and the cycle: open transactions have their writes in place.
 use Rattle.pc_model.specs.Database.{written}
 use Rattle.pc_model.specs.Changes.{AppliesIfAny}
 use Rattle.std.specs.Prelude.{◌≡◌, ℕ, ◌<◌, ◌≤◌, Bool, true, false, List, [], length, Option, Some, None, is_some, option_map, slice_index_or, ◌⊎◌}
@@ -21,13 +21,13 @@ use Rattle.pc_engine.specs.Store.{Active}
 abbrev pub at_place : List (Option Active) → ℕ → Option Active
 at_place sessions i = slice_index_or sessions i None
 
--- what the transaction has written of the key, as it stands in the key's place, where these rows say what is committed
+-- the transaction's write of the key, in the key's place, if these rows have the committed contents
 abbrev pub write_in : List Row → Option Active → List ℕ → Option Pending
 write_in rows None key = None
 write_in rows (Some t) key = option_map (λ value. record { by = t.number; class = t.class; value = value }) (left_by t.writes rows key)
 
--- Each write of an open transaction stands in its key's place, and what stands there is such a write; and what it does to the key
--- applies to what is committed.
+-- Each write of an open transaction is in its key's place, and only such writes are there; and its effect on the key applies to
+-- what is committed.
 pub record AreInPlace (table : RecordsView) (sessions : List (Option Active)) : Type 0 where
   pub placed : (i : ℕ) (q : List ℕ) → is_some (write_in table.rows (at_place sessions i) q) ≡ true → pending_at table q ≡ write_in table.rows (at_place sessions i) q
   pub owned : (q : List ℕ) → (pending_at table q ≡ None) ⊎ ((i : ℕ) × (pending_at table q ≡ write_in table.rows (at_place sessions i) q))

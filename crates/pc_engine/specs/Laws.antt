@@ -1,4 +1,4 @@
--- What holds of every world that stands after a history, whatever calls led there.
+-- The laws of every world that represents a history, whatever calls led there.
 use Rattle.std.specs.Prelude.{ℕ, List}
 use Rattle.pc_model.specs.History.{History}
 use Rattle.pc_model.specs.Queues.{IsLegalQueue}
@@ -6,7 +6,7 @@ use Rattle.pc_records.specs.Rows.{record_of, requests_on}
 use Rattle.pc_engine.specs.Store.{Store}
 use Rattle.pc_engine.specs.Stands.{Stands, IsSerial, KeepsPoints}
 
--- Its committed contents are those of its log, and committed transactions have read right.
+-- Its committed contents are those of its log, and committed transactions have read correctly.
 abbrev pub StandingWorldsAreSerial : Type 0
 StandingWorldsAreSerial = (w : Store) (history : History) → Stands w history → IsSerial w history
 

@@ -1,4 +1,4 @@
--- What the sessions are seen as, with the records and the phases below their open transactions, and what each call makes of it.
+-- The view of the sessions, with the records and the phases below their open transactions, and the effect of each call on it.
 use Rattle.std.specs.Prelude.{ℕ, ◌+◌, List, [], ◌++◌, map, replicate, Option, Some, None, false}
 use Rattle.pc_types.specs.declared.Class.{Class}
 use Rattle.pc_types.specs.declared.Mode.{Mode}
@@ -29,7 +29,7 @@ pub record Ongoing : Type 0 where
 abbrev pub own : Ongoing → ℕ → Option Active
 own o s = active_in o.sessions s
 
--- so many sessions without a transaction, over the records of these pairs
+-- that many idle sessions, over the records of these pairs
 abbrev pub at_start : ℕ → ℕ → List (List ℕ × List ℕ) → Ongoing
 at_start count capacity pairs = record {
   sessions = replicate count None;
@@ -55,7 +55,7 @@ after_beginning o s =
 abbrev pub answer_to : Ongoing → ℕ → List ℕ → Mode → Outcome
 answer_to o s key mode = outcome (requests_on (record_of o.kept.rows key)) (number_in (own o s)) mode
 
--- once it was answered so, where it dies or leaves these sessions
+-- once it was answered so, if it dies or leaves these sessions
 abbrev pub after_answer : Ongoing → ℕ → List ℕ → Mode → Outcome → List (Option Active) → Ongoing
 after_answer o s key mode answer sessions =
     record o { kept = with_rows (rows_after o.kept.rows key (number_in (own o s)) mode answer) o.kept; sessions = if_died answer (with_session o.sessions s (after_dying (own o s))) sessions }

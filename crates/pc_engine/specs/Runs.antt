@@ -8,7 +8,7 @@ use Rattle.pc_model.specs.Replies.{Setting, IsLegalHistory}
 use Rattle.pc_engine.specs.Store.{Store, setting_of}
 use Rattle.pc_engine.specs.Stands.{Stands, IsSerial, KeepsPoints}
 
--- what a run starts from that is given this base, so many sessions and this capacity
+-- the start of a run with this base, this number of sessions and this capacity
 abbrev pub starting : BaseFile → ℕ → ℕ → Setting
 starting base sessions capacity = record { run = base.run; base = base.pairs; sessions = sessions; capacity = capacity }
 

@@ -1,4 +1,4 @@
--- What happens to the sessions' open transactions.
+-- The effects on the sessions' open transactions.
 use Rattle.std.specs.Prelude.{ℕ, ◌-◌, ◌≤◌, Bool, true, false, List, [], map, filter, length, Option, Some, None, slice_index_or, slice_set, option_map}
 use Rattle.pc_types.specs.declared.Write.{Write}
 use Rattle.pc_types.specs.Changes.{changed}
@@ -27,7 +27,7 @@ with_writes writes t = record { number = t.number; class = t.class; has_died = t
 abbrev pub actives_of : List LaneView → List (Option Active)
 actives_of lanes = map (λ lane. lane.own) lanes
 
--- the sessions, where this one has this transaction, or none
+-- the sessions, if this one has this transaction, or none
 abbrev pub with_session : List (Option Active) → ℕ → Option Active → List (Option Active)
 with_session sessions s transaction = slice_set sessions (s - 1) transaction
 
@@ -65,7 +65,7 @@ abbrev pub writes_in : Option Active → List Write
 writes_in None = []
 writes_in (Some t) = t.writes
 
--- what the writes leave of a key, if they are of it, where these rows say what is committed
+-- what the writes leave of a key, if they are of it, if these rows say what is committed
 abbrev pub left_by : List Write → List Row → List ℕ → Option (Option (List ℕ))
 left_by writes rows key = option_map (λ change. changed change (stored (record_of rows key))) (written writes key)
 
@@ -83,13 +83,13 @@ abbrev pub after_dying : Option Active → Option Active
 after_dying None = None
 after_dying (Some t) = Some (record t { has_died = true })
 
--- the first where the request died, and else the second
+-- the first if the request died, and otherwise the second
 abbrev pub if_died : {X : Type 0} → Outcome → X → X → X
 if_died Granted a b = b
 if_died Queued a b = b
 if_died Died a b = a
 
--- the first where the request is granted, and else the second
+-- the first if the request is granted, and otherwise the second
 abbrev pub if_granted : {X : Type 0} → Outcome → X → X → X
 if_granted Granted a b = a
 if_granted Queued a b = b

@@ -15,7 +15,7 @@ pub record IsShelvable (part : File) (s : Shelvable) : Type 0 where
   pub points_are : s.points ≡ set.items part.points
   pub count : s.entries ≡ map_of.len part.triples
 
--- the join, where no refusal is due; else the refusal, or that memory ran out
+-- the join, if no refusal is due; otherwise the refusal, or that an allocation failed
 abbrev pub IsJoin : List File → ℕ → ℕ → Result Shelvable Refusal → Type 0
 IsJoin shelf a b (Ok s) = (join_refusal shelf (file_at shelf a) (file_at shelf b) ≡ None) × (join_of (file_at shelf a) (file_at shelf b) ≡ s.part ∷ []) × IsShelvable s.part s
 IsJoin shelf a b (Err e) = MatchOption (join_refusal shelf (file_at shelf a) (file_at shelf b)) (e ≡ why.OutOfMemory) (λ due. due ≡ told.Refused e)

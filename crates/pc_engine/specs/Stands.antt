@@ -1,4 +1,4 @@
--- Which histories a world stands after.
+-- Which histories a world represents.
 use Rattle.pc_model.specs.Changes.{AddsApply}
 use Rattle.std.specs.Prelude.{◌≡◌, ℕ, ◌≤◌, true, false, Option, Some, None, List, ◌∷◌, length, if◌then◌else◌}
 use Rattle.pc_types.specs.declared.Event.{Event}
@@ -45,7 +45,7 @@ pub record IsReadOff (w : Store) (history : History) : Type 0 where
   pub cycle : IsCycle w.base.run w.cycle w.shelf history
   pub start : w.base.point ≡ 0
 
--- The world stands after the history: it has at most 64 sessions; what was asked of it was within the limits of keys and
+-- The world represents the history: it has at most 64 sessions; what was asked of it was within the limits of keys and
 -- values; the history is legal, each Take has carried what its key has at the point, and each part of the world is read off
 -- the history.
 pub record Stands (w : Store) (history : History) : Type 0 where
@@ -56,20 +56,20 @@ pub record Stands (w : Store) (history : History) : Type 0 where
   pub parts : IsReadOff w history
 
 -- Serial truth: each key's committed value is that of the log replayed on the base, the reads and the sums of each committed
--- transaction are right, and each add of the log applies to what was committed before it.
+-- transaction are correct, and each add of the log applies to what was committed before it.
 pub record IsSerial (w : Store) (history : History) : Type 0 where
   pub contents : (key : List ℕ) → stored (record_of w.kept.rows key) ≡ map_of.get (after w.base.pairs w.log) key
   pub reads : HasRightReads w.base.pairs history
   pub adds : AddsApply w.base.pairs w.log
 
--- What checkpoints promise: each touched key is taken once, with what it has at the point, and the headline.
+-- The promise of checkpoints: each touched key is taken once, with what it has at the point, and the headline.
 pub record KeepsPoints (w : Store) (history : History) : Type 0 where
   pub once : TakesEachKeyOnce history
   pub values : TakesPointValue w.base.pairs history
   pub headline : HasHeadline (setting_of w) history
 
--- Legal steps: the reply is legal, and what the world stands after is then the history and, behind it, the event with its
--- reply; of all of that serial truth holds, and so does what checkpoints promise.
+-- Legal steps: the reply is legal, and the world then represents the history followed by the event with its reply; of all of
+-- that serial truth holds, and so does what checkpoints promise.
 pub record Follows (st : Setting) (history : History) (event : Event) (reply : Reply) (new : Store) : Type 0 where
   pub legal : IsLegal st history event reply
   pub stands : Stands new (record { event = event; reply = reply } ∷ history)

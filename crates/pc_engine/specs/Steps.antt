@@ -1,4 +1,4 @@
--- What one event does to a world.
+-- The effect of one event on a world.
 use Rattle.std.specs.Prelude.{⊤, ◌≡◌, ℕ, ◌+◌, ◌-◌, ◌<◌, ◌==◌, not, Bool, false, List, [], ◌∷◌, ◌++◌, length, map, Option, Some, None, ◌⊎◌, is_some, is_none, ℤ, if◌then◌else◌, MatchOption}
 use Rattle.std.specs.FinMap.{put as put_entry}
 use Rattle.pc_types.specs.declared.Entry.TheVariants.{Commit, Token}
@@ -32,7 +32,8 @@ use Rattle.pc_engine.specs.Adds.{add_causes, sum_in}
 use Rattle.pc_engine.specs.Store.{Active, Store, setting_of, active}
 use Rattle.pc_engine.specs.Sessions.{with_session, number_in, has_died_in, writes_in, left_by, seen_in, count_of, after_writing, after_dying, if_died, if_granted}
 
--- What is certain is answered and changes nothing; where nothing is certain this is done, or memory ran out and nothing changed.
+-- A certain reply is given and changes nothing; if no reply is certain this is done, or an allocation failed and nothing
+-- changed.
 abbrev pub Owes : Option Reply → Store → Reply → Store → Type 0 → Type 0
 Owes None old reply new Done = Done ⊎ ((reply ≡ told.Refused why.OutOfMemory) × (new ≡ old))
 Owes (Some due) old reply new Done = (reply ≡ due) × (new ≡ old)
@@ -58,7 +59,7 @@ pub record MayGoOn (w : Store) (s : ℕ) : Type 0 where
   pub ready : is_waiting w.kept.rows (number_in (active w s)) ≡ false
   pub alive : has_died_in (active w s) ≡ false
 
--- the first of those causes that stands, or none does
+-- the first of those causes that applies, or none does
 abbrev pub OpenCause : Store → ℕ → Option Refusal → Type 0
 OpenCause w s None = MayGoOn w s
 OpenCause w s (Some r) = (causes : List (Bool × Refusal)) → first_refusal (open_causes w s causes) ≡ Some (told.Refused r)
@@ -73,7 +74,7 @@ Begins old s reply new =
     Owes (first_refusal (begin_causes old s)) old reply new
     ((reply ≡ told.Begun (old.begun + 1)) × (new ≡ record old { begun = old.begun + 1; sessions = with_session old.sessions s (Some (record { number = old.begun + 1; class = class_in old.cycle.phase; has_died = false; writes = [] })) }))
 
--- the world once the request of the session's transaction is answered, where it dies or leaves these sessions
+-- the world once the request of the session's transaction is answered, if it dies or leaves these sessions
 abbrev pub after_asking : Store → ℕ → List ℕ → Mode → Outcome → List (Option Active) → Store
 after_asking w s key mode o sessions = record w { kept = record w.kept { rows = rows_after w.kept.rows key (number_in (active w s)) mode o }; sessions = if_died o (with_session w.sessions s (after_dying (active w s))) sessions }
 
@@ -81,7 +82,7 @@ after_asking w s key mode o sessions = record w { kept = record w.kept { rows = 
 abbrev pub outcome_in : Store → ℕ → List ℕ → Mode → Outcome
 outcome_in w s key mode = outcome (requests_on (record_of w.kept.rows key)) (number_in (active w s)) mode
 
--- what the transaction sees of the key is read, where the request is granted
+-- what the transaction sees of the key is read, if the request is granted
 abbrev pub Gets : Store → ℕ → List ℕ → Reply → Store → Type 0
 Gets old s key reply new =
     Owes (first_refusal (open_causes old s ((is_full_for old.kept key, why.Full) ∷ []))) old reply new
@@ -92,12 +93,12 @@ Gets old s key reply new =
 abbrev pub write_causes : Store → ℕ → List ℕ → List (Bool × Refusal)
 write_causes w s key = open_causes w s ((is_one_too_many (writes_in (active w s)) key, why.TooManyWrites) ∷ (is_full_for w.kept key, why.Full) ∷ [])
 
--- the first of them that stands, or none does but perhaps the last
+-- the first of them that applies, or none does but perhaps the last
 abbrev pub WriteCause : Store → ℕ → List ℕ → Option Refusal → Type 0
 WriteCause w s key None = MayGoOn w s × (is_one_too_many (writes_in (active w s)) key ≡ false)
 WriteCause w s key (Some r) = first_refusal (write_causes w s key) ≡ Some (told.Refused r)
 
--- the key is set to the content or removed by the transaction, where the request is granted
+-- the key is set to the content or removed by the transaction, if the request is granted
 abbrev pub WritesKey : Store → ℕ → List ℕ → Option (List ℕ) → Reply → Store → Type 0
 WritesKey old s key content reply new =
     Owes (first_refusal (write_causes old s key)) old reply new
@@ -109,14 +110,14 @@ abbrev pub adding_causes : Store → ℕ → List ℕ → ℤ → List (Bool × 
 adding_causes w s key delta =
     write_causes w s key ++ add_causes (outcome_in w s key Exclusive) (seen_in w.kept.rows (active w s) key) (written (writes_in (active w s)) key) delta
 
--- the transaction adds to the number that it sees of the key, where the request is granted
+-- the transaction adds to the number that it sees of the key, if the request is granted
 abbrev pub AddsTo : Store → ℕ → List ℕ → ℤ → Reply → Store → Type 0
 AddsTo old s key delta reply new =
     Owes (first_refusal (adding_causes old s key delta)) old reply new
     ((reply ≡ by_outcome (outcome_in old s key Exclusive) (told.Sum (sum_in (added delta (seen_in old.kept.rows (active old s) key)))))
     × (new ≡ after_asking old s key Exclusive (outcome_in old s key Exclusive) (if_granted (outcome_in old s key Exclusive) (with_session old.sessions s (after_writing (active old s) (write_of key (Add delta)))) old.sessions)))
 
--- the writes are logged and committed, and the transaction is over: none of its requests stands
+-- the writes are logged and committed, and the transaction is over: none of its requests is left
 abbrev pub Commits : Store → ℕ → Reply → Store → Type 0
 Commits old s reply new =
     Owes (first_refusal (open_causes old s ((is_log_full old, why.LogFull) ∷ []))) old reply new
@@ -132,7 +133,7 @@ Commits old s reply new =
 abbrev pub abort_causes : Store → ℕ → List (Bool × Refusal)
 abort_causes w s = (no_session (setting_of w) s, why.NoSession) ∷ (is_none (active w s), why.NoTransaction) ∷ []
 
--- The transaction is over, and none of its requests stands; whatever memory there is.
+-- The transaction is over, and none of its requests is left; whether or not allocations succeed.
 abbrev pub Aborts : Store → ℕ → Reply → Store → Type 0
 Aborts old s reply new =
     MatchOption (first_refusal (abort_causes old s))
@@ -153,7 +154,7 @@ abbrev pub StartsPoint : Store → Reply → Store → Type 0
 StartsPoint old reply new =
     Owes (first_refusal (start_causes old)) old reply new ((reply ≡ told.Phase phase.Prepare (old.cycle.point + 1)) × (new ≡ after_moving phase.Prepare (old.cycle.point + 1) old))
 
--- what is answered where the phase is not changed: it is another one, transactions of this class are open, or the log is full
+-- what is answered if the phase is not changed: it is another one, transactions of this class are open, or the log is full
 abbrev pub move_due : Phase → Class → Store → Option Reply
 move_due from class w =
     or_else (first_refusal ((not (is_in from w), why.WrongPhase) ∷ [])) (or_else (not_yet (count_of class w.sessions)) (first_refusal ((is_log_full w, why.LogFull) ∷ [])))
@@ -184,11 +185,11 @@ Changes change.OpenCapture old reply new = Moves phase.Resolve During phase.Capt
 Changes change.Done old reply new = ⊥
 Changes change.Rest old reply new = Moves phase.Complete After phase.Rest old reply new
 
--- what is answered to a Take where no key is taken
+-- what is answered to a Take if no key is taken
 abbrev pub take_due : Store → Option Reply
 take_due w = or_else (first_refusal ((not (is_in phase.Capture w), why.WrongPhase) ∷ [])) (if is_empty w.cycle.closed_set then Some told.NoneLeft else None)
 
--- the first of these keys is taken with what it has at the point, and stands at its place among those that were taken
+-- the first of these keys is taken with what it has at the point, and is at its place among those that were taken
 abbrev pub TakesFirstKey : List (List ℕ) → Store → Reply → Store → Type 0
 TakesFirstKey [] old reply new = ⊥
 TakesFirstKey (key ∷ keys) old reply new =
@@ -200,7 +201,7 @@ TakesFirstKey (key ∷ keys) old reply new =
 abbrev pub Takes : Store → Reply → Store → Type 0
 Takes old reply new = Owes (take_due old) old reply new (TakesFirstKey old.cycle.closed_set old reply new)
 
--- what is answered to a Done where no part is shelved
+-- what is answered to a Done if no part is shelved
 abbrev pub done_due : Store → Option Reply
 done_due w =
     or_else (first_refusal ((not (is_in phase.Capture w), why.WrongPhase) ∷ [])) (or_else (not_yet (length w.cycle.closed_set))

@@ -1,4 +1,4 @@
--- What a world is seen as.
+-- The view of a world.
 use Rattle.std.specs.Prelude.{ℕ, ◌-◌, ◌==◌, Bool, List, length, Option, None, if◌then◌else◌, slice_index_or}
 use Rattle.pc_types.specs.declared.Class.{Class}
 use Rattle.pc_types.specs.declared.Entry.{Entry}
@@ -16,8 +16,8 @@ pub record Active : Type 0 where
   pub has_died : Bool
   pub writes : List Write
 
--- Where the cycle of a checkpoint stands: its phase and point; the open set, the keys that commits wrote since the last
--- resolve token; the closed set, the keys of the point that are left to take; and what was taken of it, rising by key.
+-- The state of a checkpoint's cycle: its phase and point; the open set, the keys that commits wrote since the last resolve
+-- token; the closed set, the keys of the point that are left to take; and what was taken of it, ascending by key.
 pub record Cycle : Type 0 where
   pub phase : Phase
   pub point : ℕ

@@ -1,6 +1,6 @@
-//! The calls of sessions, and the checkpointer's take, each with an answer of its own. For every history that the world stands
-//! after, the reply that tells of a call's answer is legal, and the world stands after that history with the call's event and this
-//! reply behind it. A refused call changes nothing.
+//! The calls of sessions, and the checkpointer's take, each with an answer of its own. For every history that the world
+//! represents, the reply that represents a call's answer is legal, and the world then represents that history followed by the
+//! call's event and this reply. A refused call changes nothing.
 ghost use Rattle.std.specs.Prelude.{◌≡◌, OnErr};
 ghost use Rattle.pc_types.specs.declared.Event.TheVariants.{Begin, Get, Put, Del, Add, Commit, Abort, Take};
 ghost use Rattle.pc_model.specs.History.{History};
@@ -13,8 +13,8 @@ use pc_answers::{AddAnswer, GetAnswer, TakeAnswer};
 use pc_types::{Key, Lsn, Outcome, Refusal, SessionNo, TxnNo, Value, number_fits};
 
 impl World {
-    /// The session begins a transaction, and is told its number. Refused with the first of `NoSession`, `AlreadyBegun` and
-    /// `LogFull` that stands, the last where the store has begun as many as it may. It takes no memory.
+    /// The session begins a transaction; returns its number. Refused with the first of `NoSession`, `AlreadyBegun` and `LogFull`
+    /// that applies, the last if the store has begun as many as it may. It allocates no memory.
     pub fn begin(&mut self, session: SessionNo) -> Result<TxnNo, Refusal>
         ensures follows { (history : History) → Stands self.old history → Follows (setting_of self.old) history (Begin session) (begin_reply result) self.new }
         ensures setting { setting_of self.new ≡ setting_of self.old }
@@ -23,9 +23,9 @@ impl World {
         self.open_transaction(session)
     }
 
-    /// The session's transaction reads the key, where its lock is granted: what its own writes leave of it, or else what is
-    /// committed. Refused with the first of `NoSession`, `NoTransaction`, `StillWaiting`, `MustAbort` and `Full` that stands,
-    /// else only with `OutOfMemory`.
+    /// The session's transaction reads the key, if its lock is granted: what its own writes leave of it, or else what is
+    /// committed. Refused with the first of `NoSession`, `NoTransaction`, `StillWaiting`, `MustAbort` and `Full` that applies,
+    /// otherwise only with `OutOfMemory`.
     pub fn get(&mut self, session: SessionNo, key: &Key) -> Result<GetAnswer, Refusal>
         ensures follows { (history : History) → Stands self.old history → Follows (setting_of self.old) history (Get session key.now) (get_reply result) self.new }
         ensures setting { setting_of self.new ≡ setting_of self.old }
@@ -34,8 +34,8 @@ impl World {
         self.read_key(session, key)
     }
 
-    /// The session's transaction sets the key to the value, where its lock is granted. Refused with the first of `NoSession`,
-    /// `NoTransaction`, `StillWaiting`, `MustAbort`, `TooManyWrites` and `Full` that stands, else only with `OutOfMemory`.
+    /// The session's transaction sets the key to the value, if its lock is granted. Refused with the first of `NoSession`,
+    /// `NoTransaction`, `StillWaiting`, `MustAbort`, `TooManyWrites` and `Full` that applies, otherwise only with `OutOfMemory`.
     pub fn put(&mut self, session: SessionNo, key: &Key, value: &Value) -> Result<Outcome, Refusal>
         ensures follows { (history : History) → Stands self.old history → Follows (setting_of self.old) history (Put session key.now value.now) (write_reply result) self.new }
         ensures setting { setting_of self.new ≡ setting_of self.old }
@@ -46,7 +46,7 @@ impl World {
         self.write_key(session, key, Some(value))
     }
 
-    /// The session's transaction removes the key, where its lock is granted. It is refused as `put` is.
+    /// The session's transaction removes the key, if its lock is granted. It is refused as `put` is.
     pub fn del(&mut self, session: SessionNo, key: &Key) -> Result<Outcome, Refusal>
         ensures follows { (history : History) → Stands self.old history → Follows (setting_of self.old) history (Del session key.now) (write_reply result) self.new }
         ensures setting { setting_of self.new ≡ setting_of self.old }
@@ -56,10 +56,10 @@ impl World {
         self.write_key(session, key, None)
     }
 
-    /// The session's transaction adds to the number that the key has, or to 0 where it has no value, where its lock is granted,
-    /// and is told the sum. It is refused as `put` is, and before `OutOfMemory`, where the lock would be granted: with
-    /// `NotNumber` where the key has a value that has not eight bytes, and with `OutOfRange` where the sum, or that of all that
-    /// the transaction has added to the key, leaves 64 bits.
+    /// The session's transaction adds to the number that the key has (0 if it has no value), if its lock is granted, and returns
+    /// the sum. It is refused as `put` is, and before `OutOfMemory`, if the lock would be granted: with `NotNumber` if the key has
+    /// a value that isn't eight bytes long, and with `OutOfRange` if the sum, or that of all that the transaction has added to the
+    /// key, leaves 64 bits.
     pub fn add(&mut self, session: SessionNo, key: &Key, delta: i64) -> Result<AddAnswer, Refusal>
         ensures follows { (history : History) → Stands self.old history → Follows (setting_of self.old) history (Add session key.now delta) (add_reply result) self.new }
         ensures setting { setting_of self.new ≡ setting_of self.old }
@@ -70,8 +70,8 @@ impl World {
         self.add_to_key(session, key, delta)
     }
 
-    /// The session's transaction commits, and is told the number of its entry in the log. Refused with the first of `NoSession`,
-    /// `NoTransaction`, `StillWaiting`, `MustAbort` and `LogFull` that stands, else only with `OutOfMemory`.
+    /// The session's transaction commits; returns the number of its entry in the log. Refused with the first of `NoSession`,
+    /// `NoTransaction`, `StillWaiting`, `MustAbort` and `LogFull` that applies, otherwise only with `OutOfMemory`.
     pub fn commit(&mut self, session: SessionNo) -> Result<Lsn, Refusal>
         ensures follows { (history : History) → Stands self.old history → Follows (setting_of self.old) history (Commit session) (commit_reply result) self.new }
         ensures setting { setting_of self.new ≡ setting_of self.old }
@@ -80,7 +80,7 @@ impl World {
         self.commit_transaction(session)
     }
 
-    /// The session's transaction ends without effect. Refused with `NoSession` or `NoTransaction`, exactly where there is none.
+    /// The session's transaction ends without effect. Refused with `NoSession` or `NoTransaction`, if and only if there is none.
     pub fn abort(&mut self, session: SessionNo) -> Result<(), Refusal>
         ensures follows { (history : History) → Stands self.old history → Follows (setting_of self.old) history (Abort session) (abort_reply result) self.new }
         ensures setting { setting_of self.new ≡ setting_of self.old }
@@ -89,8 +89,8 @@ impl World {
         self.abort_transaction(session)
     }
 
-    /// A key of the closed set is taken, with what it has at the point; none where the set is empty. Refused with `WrongPhase`
-    /// exactly outside capture, else only with `OutOfMemory`.
+    /// Takes a key of the closed set, with its content at the point; no key if the set is empty. Refused with `WrongPhase` if and
+    /// only if the phase isn't capture, otherwise only with `OutOfMemory`.
     pub fn take(&mut self) -> Result<TakeAnswer, Refusal>
         ensures follows { (history : History) → Stands self.old history → Follows (setting_of self.old) history Take (take_reply result) self.new }
         ensures setting { setting_of self.new ≡ setting_of self.old }

@@ -40,7 +40,7 @@ impl Model for Lane {
 }
 
 impl Lane {
-    /// A lane without a transaction. It takes no memory.
+    /// A lane without a transaction. It allocates no memory.
     pub(crate) fn new(alloc: Global) -> Lane
         ensures { result.own ≡ None }
     {
@@ -58,7 +58,7 @@ impl Lane {
         self.transaction
     }
 
-    /// The open transaction, where there is one.
+    /// The open transaction, if there is one.
     pub(crate) fn opened(&self) -> Transaction
         requires { is_none self.now.own ≡ false }
         ensures { Some (with_writes (writes_in self.now.own) result) ≡ self.now.own }
@@ -69,7 +69,7 @@ impl Lane {
         }
     }
 
-    /// What the open transaction has written; nothing where there is none.
+    /// The open transaction's writes; nothing if there is none.
     pub(crate) fn writes(&self) -> &WriteSet
         ensures { result.now.items ≡ writes_in self.now.own }
     {

@@ -1,4 +1,4 @@
-//! The store's world: it answers events, one after the other, each by a legal reply.
+//! The store's world: it answers events, in order, each by a legal reply.
 #![tactic(auto)]
 
 mod calls;

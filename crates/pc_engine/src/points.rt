@@ -1,4 +1,4 @@
-//! What each event of the checkpointer does.
+//! The effect of each event of the checkpointer.
 ghost use Rattle.std.specs.Prelude.{◌≡◌, IfOk, option_copied};
 ghost use Rattle.pc_answers.specs.Replies.{take_reply};
 ghost use Rattle.pc_phase.specs.Agreement.{reply_of};
@@ -15,7 +15,7 @@ use pc_types::{FileNo, Key, MOST_FILES, Phase, Refusal, Reply, Value};
 use std::alloc::{AllocError, Global};
 
 impl World {
-    // The phase changes by this word of the checkpointer, and its token is logged, once nothing holds that back. Behind the seal
+    // The phase changes by this word of the checkpointer, and its token is logged, once nothing holds that back. After the seal
     // nothing was taken yet.
     pub(crate) fn advance(&mut self, change: Change) -> Reply
         requires { LeavesShelf change }
@@ -107,7 +107,7 @@ impl World {
     }
 }
 
-// How it is answered what holds a change back.
+// The reply that represents what holds a change back.
 fn reply_of(held: Held) -> Reply
     ensures { result ≡ reply_of held }
 {

@@ -1,4 +1,4 @@
-//! What is answered where whoever asks has no memory.
+//! The reply to a caller that has no memory.
 ghost use Rattle.std.specs.Prelude.{◌≡◌, List, ℕ, Option};
 ghost use Rattle.pc_model.specs.History.{History};
 ghost use Rattle.pc_types.specs.declared.Event.TheVariants.{Get, Commit};
@@ -13,9 +13,9 @@ use crate::world::{World, in_limits};
 use pc_types::{Event, Key, Refusal, Reply, SessionNo};
 
 impl World {
-    /// Refuses a read, a write, an add or a commit for which whoever asks has no memory, and changes nothing: the refusal that stands
-    /// whatever memory there is, else `OutOfMemory`. For every history that the world stands after, the reply is one that
-    /// `step` may give, and the world stands after that history with this step behind it.
+    /// Refuses a read, a write, an add or a commit whose caller has no memory, and changes nothing: the refusal that applies even
+    /// if allocations succeed, else `OutOfMemory`. For every history that the world represents, the reply is one that `step` may
+    /// give, and the world then represents that history followed by this step.
     pub fn refuse(&self, event: &Event) -> Reply
         requires { AsksOfOpen event.now }
         ensures follows { (history : History) → Stands self.now history → Follows (setting_of self.now) history event.now result self.now }
@@ -34,14 +34,14 @@ impl World {
         }
     }
 
-    /// Refuses a read for which whoever asks has no memory, as `refuse` does.
+    /// Refuses a read whose caller has no memory, as `refuse` does.
     pub fn refuse_get(&self, session: SessionNo, key: &Key) -> Refusal
         ensures { (history : History) → Stands self.now history → Follows (setting_of self.now) history (Get session key.now) (Refused result) self.now }
     {
         self.get_refusal(session, key)
     }
 
-    /// Refuses a commit for which whoever asks has no memory, as `refuse` does.
+    /// Refuses a commit whose caller has no memory, as `refuse` does.
     pub fn refuse_commit(&self, session: SessionNo) -> Refusal
         ensures { (history : History) → Stands self.now history → Follows (setting_of self.now) history (Commit session) (Refused result) self.now }
     {

@@ -35,7 +35,7 @@ use std::alloc::{AllocError, Global};
 use std::hash::RandomState;
 use std::marker::Model;
 
-/// How an add would go: its sum, where its request would be granted, and the slot of its key, if that has one.
+/// The outcome that an add would have: its sum, if its request would be granted, and the slot of its key, if that has one.
 #[derive(Clone, Copy)]
 pub(crate) struct Prospect {
     pub(crate) sum: Option<i64>,
@@ -66,7 +66,7 @@ impl Model for Sessions {
 }
 
 impl Sessions {
-    /// So many sessions without a transaction, over the records of these committed pairs.
+    /// `count` idle sessions, over the records of these committed pairs.
     pub(crate) fn new(
         alloc: Global,
         count: u8,
@@ -90,7 +90,7 @@ impl Sessions {
         })
     }
 
-    /// How many sessions there are.
+    /// The number of sessions.
     pub(crate) fn len(&self) -> usize
         ensures { result ≡ length self.now.sessions }
     {
@@ -112,7 +112,7 @@ impl Sessions {
         self.phases.point()
     }
 
-    /// How many transactions were begun.
+    /// The number of transactions begun.
     pub(crate) fn begun(&self) -> u64
         ensures count { result ≡ self.now.begun }
         ensures limit { result ≤ MOST_TRANSACTIONS }
@@ -127,7 +127,7 @@ impl Sessions {
         active(self.lanes.as_slice(), session)
     }
 
-    /// What the session's open transaction has written: of each key all its changes as one, in the order of first writes.
+    /// The writes of the session's open transaction: of each key all its changes as one, in the order of first writes.
     pub(crate) fn writes(&self, session: SessionNo) -> &[Write]
         ensures writes { result.now ≡ writes_in (own self.now session) }
         ensures few { length result.now ≤ MOST_WRITES }
@@ -147,7 +147,7 @@ impl Sessions {
         self.records.is_waiting(transaction)
     }
 
-    /// Whether a request of the session's open transaction waits; false where it has none open.
+    /// Whether a request of the session's open transaction waits; false if it has none open.
     pub(crate) fn has_waiting(&self, session: SessionNo) -> bool
         ensures { result ≡ waits_in self.now.kept.rows (own self.now session) }
     {
@@ -167,7 +167,7 @@ impl Sessions {
         }
     }
 
-    /// Whether the session's open transaction has written the key; false where it has none open.
+    /// Whether the session's open transaction has written the key; false if it has none open.
     pub(crate) fn has_written(&self, session: SessionNo, key: &Key) -> bool
         ensures { result ≡ is_some (written (writes_in (own self.now session)) key.now) }
     {
@@ -187,7 +187,7 @@ impl Sessions {
         }
     }
 
-    /// Why a request of the key is refused where memory ran out: that the key has no record, and can't get one, comes first.
+    /// Why a request of the key is refused if an allocation failed: that the key has no record, and can't get one, comes first.
     pub(crate) fn why_refused(&self, key: &Key) -> Refusal
         ensures { result ≡ why_refused self.now.kept key.now }
     {
@@ -209,9 +209,9 @@ impl Sessions {
         number
     }
 
-    /// The session's transaction requests to read the key, and reads it where the request is granted: what its own writes
-    /// leave of it, or else what is committed. Refuses with `Full` exactly where the key has no record and can't get one, and
-    /// else only with `OutOfMemory`; nothing changed then.
+    /// The session's transaction requests to read the key, and reads it if the request is granted: what its own writes leave of it,
+    /// or else what is committed. Returns `Full` if and only if the key has no record and can't get one; otherwise the only error is
+    /// `OutOfMemory`; nothing changed then.
     pub(crate) fn read(
         &mut self,
         alloc: Global,
@@ -239,9 +239,9 @@ impl Sessions {
         }
     }
 
-    /// How an add to the key would go, where no request of the session's transaction waits: its sum, if its request would be granted.
-    /// It is refused with `Full` exactly where the key has no record and can't get one, and else, only where the request would be
-    /// granted, with `NotNumber` or `OutOfRange`. It changes nothing and takes no memory.
+    /// The outcome that an add to the key would have, if no request of the session's transaction waits: its sum, if its request would
+    /// be granted. It is refused with `Full` if and only if the key has no record and can't get one, and otherwise, only if the
+    /// request would be granted, with `NotNumber` or `OutOfRange`. It changes nothing and takes no memory.
     pub(crate) fn foretell(
         &self,
         session: SessionNo,
@@ -278,7 +278,7 @@ impl Sessions {
         !has_record && self.records.is_full_for(key)
     }
 
-    // The sum of an add whose request would be answered so; none where it would not be granted.
+    // The sum of an add whose request would be answered so; `None` if it would not be granted.
     fn sum_if_granted(
         &self,
         outcome: Outcome,
@@ -329,9 +329,9 @@ impl Sessions {
         }
     }
 
-    /// The session's transaction requests the write, and makes it where the request is granted: then it applies to what the
-    /// transaction sees of the key, and the value is what it sees after it. The key is looked for near that slot first. Refuses
-    /// with `Full` exactly where the key has no record and can't get one, and else only with `OutOfMemory`; nothing changed then.
+    /// The session's transaction requests the write, and makes it if the request is granted: then it applies to what the transaction
+    /// sees of the key, and the value is what it sees after it. The key is looked for near that slot first. Returns `Full` if and
+    /// only if the key has no record and can't get one; otherwise the only error is `OutOfMemory`; nothing changed then.
     pub(crate) fn request(
         &mut self,
         alloc: Global,
@@ -365,8 +365,7 @@ impl Sessions {
         Ok(outcome)
     }
 
-    /// The session's transaction is committed, and over: its writes are committed where they stand, and its locks are
-    /// released.
+    /// The session's transaction is committed, and over: its writes are committed in place, and its locks are released.
     pub(crate) fn commit(&mut self, session: SessionNo)
         requires place { session - 1 < length self.old.sessions }
         requires opened { is_none (own self.old session) ≡ false }
@@ -380,7 +379,7 @@ impl Sessions {
         self.phases.leave(class);
     }
 
-    /// The session's transaction is undone, and over: what was committed stands where it has written, and its locks are
+    /// The session's transaction is undone, and over: the committed contents are restored where it has written, and its locks are
     /// released.
     pub(crate) fn abort(&mut self, session: SessionNo)
         requires place { session - 1 < length self.old.sessions }
@@ -395,7 +394,7 @@ impl Sessions {
         self.phases.leave(class);
     }
 
-    /// What holds the change of the phase back.
+    /// The obstacle to the change of the phase.
     pub(crate) fn held_back(&self, change: Change) -> Option<Held>
         ensures held { result ≡ held_back self.now.phases change (length self.now.closed_set) }
         ensures counted { AreCounted self.now.phases self.now.sessions }
@@ -418,7 +417,7 @@ impl Sessions {
         }
     }
 
-    /// The first key of the closed set, with what it has at the point; None where the set is empty.
+    /// The first key of the closed set, with what it has at the point; `None` if the set is empty.
     pub(crate) fn first_closed(&self) -> Option<(&Key, Option<&Value>)>
         ensures { option_map content_behind result ≡ first_pinned self.now.kept.rows self.now.closed_set }
     {
@@ -434,7 +433,7 @@ impl Sessions {
         self.records.take();
     }
 
-    /// The committed pairs, rising by key.
+    /// The committed pairs, ascending by key.
     pub(crate) fn committed(&self, alloc: Global) -> Result<Vec<(Key, Value)>, AllocError>
         ensures rise { IfOk result (λ pairs. KeysRise pairs.items) }
         ensures contents { IfOk result (λ pairs. (key : List ℕ) → get (database_of pairs.items) key ≡ stored (record_of self.now.kept.rows key)) }
@@ -443,7 +442,7 @@ impl Sessions {
     }
 }
 
-// So many sessions without a transaction.
+// `count` idle sessions.
 fn idle(alloc: Global, count: u8) -> Result<Vec<Lane>, AllocError>
     ensures { IfOk result (λ lanes. actives_of lanes.items ≡ replicate count None) }
 {
@@ -454,7 +453,7 @@ fn idle(alloc: Global, count: u8) -> Result<Vec<Lane>, AllocError>
     Ok(lanes)
 }
 
-// Where the session stands; sessions are numbered from 1.
+// The index of the session; sessions are numbered from 1.
 fn place(session: SessionNo) -> usize
     ensures { result ≡ session - 1 }
 {
@@ -471,7 +470,7 @@ fn active(lanes: &[Lane], session: SessionNo) -> Option<Transaction>
     }
 }
 
-// The number of the session's open transaction, and 0 where it has none.
+// The number of the session's open transaction, and 0 if it has none.
 fn number(lanes: &[Lane], session: SessionNo) -> TxnNo
     ensures { result ≡ number_in (active_in (actives_of lanes.now) session) }
 {
@@ -489,7 +488,7 @@ fn note_death(lanes: &mut Vec<Lane>, session: SessionNo)
     lanes[place(session)].note_death();
 }
 
-// Why a request of the key is refused where memory ran out: that the key has no record, and can't get one, comes first.
+// Why a request of the key is refused if an allocation failed: that the key has no record, and can't get one, comes first.
 fn why_refused(records: &Records, key: &Key) -> Refusal
     ensures { result ≡ why_refused (kept_of records.now) key.now }
 {

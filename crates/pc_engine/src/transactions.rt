@@ -1,4 +1,4 @@
-//! What each call of a session does.
+//! The effect of each call of a session.
 ghost use Rattle.std.specs.Prelude.{◌≡◌, ◌==◌, ◌||◌, nat_lt, option_copied};
 ghost use Rattle.pc_answers.specs.Replies.{begin_reply, get_reply, write_reply, add_reply, commit_reply, abort_reply};
 ghost use Rattle.pc_engine.specs.Steps.{OpenCause, WriteCause, Begins, Gets, WritesKey, AddsTo, Commits, Aborts};

@@ -37,7 +37,7 @@ use std::alloc::Global;
 use std::hash::RandomState;
 use std::marker::Model;
 
-/// A store in memory. It answers events, one after the other.
+/// A store in memory. It answers events, in order.
 #[derive(Drop)]
 pub struct World {
     pub(crate) alloc: Global,
@@ -76,11 +76,10 @@ impl Model for World {
 }
 
 impl World {
-    /// A store that starts from the base, with this many sessions and room for as many keys as the capacity: it stands
-    /// after no step. Refuses with `Full` exactly where the base's pairs are more than there is room for, and else only with
-    /// `OutOfMemory`. The base stands at point 0. The seed is that of the hashes of keys: two words given by chance
-    /// (`RandomState::new`), so that no client can pick keys that all share a chain. Which replies are legal doesn't depend on
-    /// it.
+    /// A store that starts from the base, with this many sessions and room for as many keys as the capacity: it represents the empty
+    /// history. Returns `Full` if and only if the base's pairs are more than there is room for; otherwise the only error is `OutOfMemory`.
+    /// The base is at point 0. The seed is that of the hashes of keys: a random 128-bit seed (`RandomState::new`), so that no client can
+    /// pick keys that all share a chain. Which replies are legal doesn't depend on it.
     pub fn new(
         alloc: Global,
         base: Base,
@@ -112,12 +111,11 @@ impl World {
         })
     }
 
-    /// Answers one event. For every history that the world stands after, the reply is legal, and what the world stands
-    /// after is then that history and, behind it, the event with this reply. Of that history each key's committed value is that of the log
-    /// replayed on the base, and committed transactions have read and added right. Each key that was written since the point
-    /// before was taken once, with what it had at the point. Files of the shelf, and joins of them, that cover the same
-    /// points are one file, and the base with one of the points 1 to n laid on it is what was committed before point n's
-    /// token. A refused event changes nothing.
+    /// Answers one event. For every history that the world represents, the reply is legal, and the world then represents that history
+    /// followed by the event with this reply. Of that history each key's committed value is that of the log replayed on the base, and
+    /// committed transactions have read and added correctly. Each key that was written since the point before was taken once, with what it
+    /// had at the point. Files of the shelf, and joins of them, that cover the same points are one file, and the base with one of the
+    /// points 1 to n applied to it is what was committed before point n's token. A refused event changes nothing.
     pub fn step(&mut self, event: &Event) -> Reply
         ensures follows { (history : History) → Stands self.old history → Follows (setting_of self.old) history event.now result self.new }
         ensures setting { setting_of self.new ≡ setting_of self.old }
@@ -142,7 +140,7 @@ impl World {
         }
     }
 
-    /// The base that the store started from; it stands at point 0.
+    /// The base that the store started from; it is at point 0.
     pub fn base(&self) -> &Base
         ensures { result.now ≡ self.now.base }
     {
@@ -161,16 +159,15 @@ impl World {
         &self.log
     }
 
-    /// Whether the session's open transaction has written the key; false where it has none open, and where no session has this
-    /// number, as 0.
+    /// Whether the session's open transaction has written the key; false if it has none open, and if no session has this number, as 0.
     pub fn has_written(&self, session: SessionNo, key: &Key) -> bool
         ensures { result ≡ is_some (written (writes_in (active_of self.now session)) key.now) }
     {
         session.0 != 0 && self.sessions.has_written(session, key)
     }
 
-    /// Whether a request of the session's open transaction waits for a lock; false where it has none open, and where no session
-    /// has this number, as 0. After every history it is what that says.
+    /// Whether a request of the session's open transaction waits for a lock; false if it has none open, and if no session has this number,
+    /// as 0. After every history it is what that says.
     pub fn is_waiting(&self, session: SessionNo) -> bool
         ensures row { result ≡ waits_in self.now.kept.rows (active_of self.now session) }
         ensures told { (history : History) → Stands self.now history → result ≡ waits_after (setting_of self.now) session history }
@@ -178,8 +175,7 @@ impl World {
         session.0 != 0 && self.sessions.has_waiting(session)
     }
 
-    /// Whether the session has a transaction open; false where no session has this number, as 0. After every history it is what
-    /// that says.
+    /// Whether the session has a transaction open; false if no session has this number, as 0. After every history it is what that says.
     pub fn has_open(&self, session: SessionNo) -> bool
         ensures row { result ≡ is_some (active_of self.now session) }
         ensures told { (history : History) → Stands self.now history → result ≡ opens_after (setting_of self.now) session history }
@@ -201,9 +197,8 @@ impl World {
         file_at(&self.shelf, number)
     }
 
-    /// One more owner of the shelf's file of this number. It takes a constant time and no memory, and copies nothing.
-    /// Refuses with `NoFile` exactly where there is none, and else only with `OutOfMemory`, where the file has as many owners
-    /// as it may have.
+    /// One more owner of the shelf's file of this number. It takes constant time and no memory, and copies nothing. Returns `NoFile` if
+    /// and only if there is none; otherwise the only error is `OutOfMemory`, if the file has as many owners as it may have.
     pub fn hand_out(&self, number: FileNo) -> Result<SharedPart, Refusal>
         ensures file { IfOk result (λ shared. file_at self.now.shelf number ≡ Some shared) }
         ensures none { (result ≡ Err Refusal.NoFile) ↔ (file_at self.now.shelf number ≡ None) }
@@ -222,8 +217,8 @@ impl World {
         self.shelf.as_slice()
     }
 
-    /// The committed contents, rising strictly by key: after every history those of the log replayed on the base. It fails
-    /// only where memory ran out.
+    /// The committed contents, ascending strictly by key: after every history those of the log replayed on the base. It fails only if an
+    /// allocation fails.
     pub fn committed(&self) -> Result<Vec<(Key, Value)>, Refusal>
         ensures rise { IfOk result (λ pairs. KeysRise pairs.items) }
         ensures contents { IfOk result (λ pairs. (key : List ℕ) → get (database_of pairs.items) key ≡ stored (record_of self.now.kept.rows key)) }
@@ -234,9 +229,9 @@ impl World {
         Ok(pairs)
     }
 
-    /// Whether the store is what its log says: its committed contents are the log replayed on the base, and each file of the
-    /// shelf whose points are those from 1 to some n, laid on the base, is the state of n. It is so after every history. The log
-    /// is read where it lies. It fails only where memory ran out.
+    /// Whether the store is what its log says: its committed contents are the log replayed on the base, and each file of the shelf whose
+    /// points are those from 1 to some n, applied to the base, is the state of n. It is so after every history. The log is read where it
+    /// lies. It fails only if an allocation fails.
     pub fn check(&self) -> Result<bool, Refusal>
         ensures sound { IfOk result (λ sound. IsTrue sound ↔ IsStoreSound self.now) }
         ensures always { (history : History) → Stands self.now history → IfOk result (λ sound. sound ≡ true) }
@@ -255,7 +250,7 @@ impl World {
     }
 }
 
-// What an event asks to write or to add is within the limits of keys, values and numbers: their types say so.
+// The keys, values and numbers of an event are within their limits: their types say so.
 pub(crate) fn in_limits(event: &Event)
     ensures { IsInLimits event.now }
 {
@@ -275,10 +270,9 @@ pub(crate) fn in_limits(event: &Event)
     }
 }
 
-/// Runs the events, in order, on a new store that starts from the base, and gives the store and the replies. The whole
-/// history is legal, the committed contents are those of the replayed log, and files and points keep what
-/// `step` says of them. Refuses with `Full` exactly where the base's pairs are more than there is room for, and else
-/// only with `OutOfMemory`. The seed is that of `World::new`.
+/// Runs the events, in order, on a new store that starts from the base, and returns the store and the replies. The whole history is legal,
+/// the committed contents are those of the replayed log, and files and points keep what `step` says of them. Returns `Full` if and only if
+/// the base's pairs are more than there is room for; otherwise the only error is `OutOfMemory`. The seed is that of `World::new`.
 pub fn run(
     alloc: Global,
     base: Base,

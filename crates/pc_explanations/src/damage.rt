@@ -1,4 +1,4 @@
-//! Where a file of a collapse or of a folder is damaged.
+//! The place of the damage in a file of a collapse or of a folder.
 use crate::explaining::{Lines, bytes_of};
 use crate::meanings::meaning_of;
 use itoa::Buffer;
@@ -12,7 +12,7 @@ use pc_restore::run_recover;
 use pc_texts::put_name;
 use pc_types::{Refusal, Tally};
 
-/// A search for the file whose fault was told by this word.
+/// A search for the file whose fault was reported by this word.
 #[derive(Clone, Copy)]
 pub struct Damage<'a> {
     pub rt: &'a HostRuntime,
@@ -21,8 +21,7 @@ pub struct Damage<'a> {
 }
 
 impl<'a> Damage<'a> {
-    /// Tells of the first of the parts with the fault, or of the first that can't be joined with those before it; whether there is
-    /// one.
+    /// Describes the first part with the fault, or the first that can't be joined with those before it; whether there is one.
     pub fn put_of_parts(&self, paths: &[&str], lines: &mut Lines) -> Result<bool, Refusal> {
         let mut joined: Option<Part> = None;
         for path in paths {
@@ -44,7 +43,7 @@ impl<'a> Damage<'a> {
         Ok(false)
     }
 
-    // The part of this path; none where its fault was told.
+    // The part of this path; `None` if its fault was reported.
     fn part_of(&self, path: &str, lines: &mut Lines) -> Result<Option<Part>, Refusal> {
         let bytes = self.bytes_of(path)?;
         match Part::decode(self.rt.alloc(), &bytes) {
@@ -64,7 +63,7 @@ impl<'a> Damage<'a> {
         }
     }
 
-    /// Tells of the base of the folder, where it has the fault, and what stands beside it, or else of the log; whether one has it.
+    /// Describes the base of the folder, if it has the fault, and the files next to it, or else the log; whether one has the fault.
     pub fn put_of_folder(&self, dir: &str, lines: &mut Lines) -> Result<bool, Refusal> {
         let alloc = self.rt.alloc();
         let path = path_in(alloc, dir, BASE)?;
@@ -89,8 +88,8 @@ impl<'a> Damage<'a> {
         Ok(has_fault)
     }
 
-    /// Tells how many pairs the folder is worth, from which a run starts, and for how many keys its store has room, where the run is
-    /// refused for that; whether it is.
+    /// Prints how many pairs are recovered from the folder, from which a run starts, and for how many keys its store has room, if
+    /// the run is refused for that; whether it is.
     pub fn put_of_start(
         &self,
         dir: &str,
@@ -108,7 +107,7 @@ impl<'a> Damage<'a> {
         Ok(true)
     }
 
-    // The number of the pairs that the folder is worth, in digits, where the fault may be that they are too many.
+    // The number of the pairs recovered from the folder, in digits, if the fault may be that they are too many.
     fn pairs_of(&self, dir: &str) -> Result<Option<Vec<u8>>, Refusal> {
         if self.word != b"Full".as_slice() {
             return Ok(None);
@@ -131,7 +130,7 @@ impl<'a> Damage<'a> {
         Ok(None)
     }
 
-    // What stands beside a base that is damaged.
+    // The files next to a damaged base.
     fn put_beside(&self, dir: &str, lines: &mut Lines) -> Result<(), Refusal> {
         let folder = ReadFolder {
             rt: self.rt,
@@ -149,7 +148,7 @@ impl<'a> Damage<'a> {
         Ok(())
     }
 
-    /// Tells of the fault of a text, and where in it.
+    /// Describes the fault of a text, and its place.
     pub fn put_text_fault(
         &self,
         kind: TextKind,
@@ -163,7 +162,7 @@ impl<'a> Damage<'a> {
         }
     }
 
-    // The line of a fault of the file, and, where it is known, with which byte it is seen.
+    // The line of a fault of the file, and, if it is known, with which byte it is seen.
     fn put_fault(
         &self,
         path: &str,

@@ -1,4 +1,4 @@
-//! What a fault is about, told behind its line: which file, what was done with it, where, and what the system said.
+//! The explanation of a fault, printed after its line: which file, the operation, the place, and the system's error.
 use crate::damage::Damage;
 use crate::meanings::meaning_of;
 use pc_disk::{BASE, Cause, Causes, Doing, INPUT, OUTPUT};
@@ -15,15 +15,15 @@ pub enum About<'a> {
     Script(&'a str),
     /// Part files, by their paths.
     Parts(&'a [&'a str]),
-    /// A folder of which it is told what it is worth.
+    /// A folder whose recovered state is printed.
     Folder(&'a str),
     /// A run that starts from nothing.
     Run,
-    /// A run that starts from this folder, over a store that has room for so many keys.
+    /// A run that starts from this folder, over a store with room for this many keys.
     Start(&'a str, u32),
 }
 
-/// What is known where faults are explained.
+/// The information for explaining faults.
 #[derive(Drop)]
 pub struct Explainer<'a> {
     pub rt: &'a HostRuntime,
@@ -33,22 +33,22 @@ pub struct Explainer<'a> {
     pub is_on: bool,
 }
 
-/// Whether faults are explained: where that is asked for, and where standard error is a terminal.
+/// Whether faults are explained: if that is asked for, and if standard error is a terminal.
 pub fn is_explained(rt: &HostRuntime, is_asked: bool) -> bool {
     is_asked || rt.stderr().is_terminal()
 }
 
-/// A writer to standard error that explains each line that tells of a fault, right behind it.
+/// A writer to standard error that explains each line that reports a fault, right after it.
 #[derive(Drop)]
 pub struct Explained<'a, W> {
     inner: W,
     explainer: &'a Explainer<'a>,
-    // What was written of a line.
+    // The written part of a line.
     line: Vec<u8>,
 }
 
 impl<'a, W> Explained<'a, W> {
-    /// What is written goes on to the writer.
+    /// All writes go on to the writer.
     pub fn new(explainer: &'a Explainer<'a>, inner: W) -> Explained<'a, W> {
         let line = Vec::new(explainer.rt.alloc());
         Explained {
@@ -86,7 +86,7 @@ impl<'a, W: Write> Write for Explained<'a, W> {
 pub type Lines = Tally<Vec<u8>>;
 
 impl<'a> Explainer<'a> {
-    /// The lines that explain this one: none where it tells of no fault, or memory ran out.
+    /// The lines that explain this one: none if it reports no fault, or an allocation failed.
     fn explanation(&self, line: &[u8]) -> Vec<u8> {
         let mut lines = Tally::new(Vec::new(self.rt.alloc()));
         if let Some((name, word)) = fault_in(line) {
@@ -95,7 +95,7 @@ impl<'a> Explainer<'a> {
         lines.into_inner()
     }
 
-    // Explains the fault of this word, which was told by this name.
+    // Explains the fault of this word, which was reported by this name.
     fn explain(&self, name: &[u8], word: &[u8], lines: &mut Lines) -> Result<(), Refusal> {
         if let Some(cause) = self.cause_of(name, word) {
             return put_cause(cause, lines);
@@ -121,8 +121,8 @@ impl<'a> Explainer<'a> {
         }
     }
 
-    // What the system said of it: of a file of this name, or else, where the word tells of the system's failures, the first that there
-    // was.
+    // The system's error about it: of a file of this name, or else, if the word reports failures of the system, the first that
+    // there was.
     fn cause_of(&self, name: &[u8], word: &[u8]) -> Option<&'a Cause> {
         if !is_of_system(word) {
             return None;
@@ -135,7 +135,7 @@ impl<'a> Explainer<'a> {
     }
 }
 
-/// What standard output's failure was, where it failed: nothing is told of that but where faults are explained.
+/// Standard output's failure, if it failed: it is reported only if faults are explained.
 pub fn explain_output<E: Write>(explainer: &Explainer<'_>, errors: &mut E) {
     if !explainer.is_on {
         return;
@@ -148,7 +148,7 @@ pub fn explain_output<E: Write>(explainer: &Explainer<'_>, errors: &mut E) {
     }
 }
 
-// The name and the word of a line that tells of a fault.
+// The name and the word of a line that reports a fault.
 fn fault_in(line: &[u8]) -> Option<(&[u8], &[u8])> {
     let rest = line.strip_prefix(b"pcalc: ")?;
     let mut colon = None;
@@ -161,12 +161,12 @@ fn fault_in(line: &[u8]) -> Option<(&[u8], &[u8])> {
     Some((rest.get(..at)?, rest.get(at..)?.get(2..)?))
 }
 
-// Whether a name that was told is of a folder: its own, or that of a file in it.
+// Whether a reported name is of a folder: its own, or that of a file in it.
 fn is_of_folder(name: &[u8], dir: &str) -> bool {
     name == dir.as_bytes() || name == BASE.as_bytes()
 }
 
-// Whether the word tells of a failure of the system's.
+// Whether the word reports a failure of the system.
 fn is_of_system(word: &[u8]) -> bool {
     word == b"Device".as_slice()
         || word == b"NoFile".as_slice()
@@ -187,7 +187,7 @@ pub fn put_cause(cause: &Cause, lines: &mut Lines) -> Result<(), Refusal> {
     lines.put(b"\n")
 }
 
-/// All bytes of a plain file, where it can be read. Where it can't, that is noted.
+/// All bytes of a plain file, if it can be read. If it can't, that is noted.
 pub fn bytes_of(rt: &HostRuntime, causes: &Causes, path: &str) -> Option<Vec<u8>> {
     let mut bytes = Vec::new(rt.alloc());
     let read = match File::open(rt, path) {

@@ -1,4 +1,4 @@
-//! What a recovered folder lacks, told line by line.
+//! The defects of a recovered folder, one line for each.
 use crate::damage::Damage;
 use crate::explaining::bytes_of;
 use crate::meanings::meaning_of;
@@ -20,7 +20,7 @@ pub struct Lacking<'a> {
 }
 
 impl<'a> Lacking<'a> {
-    /// Writes a line for each thing that it lacks: none where it is whole.
+    /// Writes a line for each thing that it lacks: none if it is whole.
     pub fn put<E: Write>(&self, errors: &mut Tally<E>) -> Result<(), Refusal> {
         let mut lines = Tally::new(Vec::new(self.dir.rt.alloc()));
         self.put_log(&mut lines)?;
@@ -56,7 +56,7 @@ impl<'a> Lacking<'a> {
         Ok(())
     }
 
-    // The log's path, and these words behind it.
+    // The log's path, and these words after it.
     fn put_of_log(&self, words: &[u8], lines: &mut Tally<Vec<u8>>) -> Result<(), Refusal> {
         let path = path_in(self.dir.rt.alloc(), self.dir.path, LOG)?;
         lines.put(b"  ")?;

@@ -1,4 +1,4 @@
-//! What is told behind the line of a fault: the file, what was done with it, the place in it, and what the system said.
+//! The explanation after the line of a fault: the file, the operation, the place in it, and the system's error.
 #![tactic(auto)]
 
 mod damage;

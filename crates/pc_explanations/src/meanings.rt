@@ -1,6 +1,7 @@
-//! What the words mean by which a fault is told.
+//! The meanings of the words that report faults.
 
-/// What the word means, as the end of a sentence about a file or a call; none of a word that tells of the system alone.
+/// The meaning of the word, as the end of a sentence about a file or a call; `None` for a word that reports only a
+/// failure of the system.
 pub fn meaning_of(word: &[u8]) -> Option<&'static [u8]> {
     for (name, meaning) in MEANINGS {
         if word == name {

@@ -1,4 +1,4 @@
--- Where the fault of a text is seen.
+-- The place of the fault of a text.
 use Rattle.std.specs.Prelude.{◌≡◌, ◌≤◌, ℕ, suc, Bool, true, false, List, length, take, Option, Some, None, Result, Ok, Err}
 use Rattle.pc_types.specs.declared.refusal.Refusal.{Refusal}
 use Rattle.pc_types.specs.declared.refusal.Refusal.TheVariants.{Short}
@@ -28,7 +28,7 @@ pub record IsSeenWith (kind : TextKind) (bytes : List ℕ) (count : ℕ) : Type 
   pub seen : is_short (fault_at kind (take count bytes)) ≡ false
   pub before : (fewer : ℕ) → suc fewer ≡ count → is_short (fault_at kind (take fewer bytes)) ≡ true
 
--- The bytes have this fault. Where they are too few it is seen behind all of them, else with the last of so many.
+-- The bytes have this fault. If they are too few it is seen after all of them, else with the last byte of the given number.
 pub record IsFaultOf (kind : TextKind) (bytes : List ℕ) (count : ℕ) (why : Refusal) : Type 0 where
   pub whole : fault_at kind bytes ≡ Some why
   pub short : is_short (fault_at kind bytes) ≡ true → count ≡ length bytes

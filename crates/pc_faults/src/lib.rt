@@ -1,4 +1,4 @@
-//! Where the fault of a file's text is seen: with which of its bytes.
+//! The place of the fault of a file's text: the byte with which it is seen.
 #![tactic(auto)]
 
 mod texts;

@@ -6,7 +6,7 @@ use pc_part::{Base, Part};
 use pc_types::Refusal;
 use std::alloc::{AllocError, Global};
 
-/// Which file's text some bytes are to be.
+/// The kind of file that some bytes are expected to be.
 #[derive(Clone, Copy, Debug, PartialEq, Eq)]
 pub enum TextKind {
     Part,
@@ -16,15 +16,15 @@ pub enum TextKind {
 /// The fault of a text.
 #[derive(Clone, Copy, Debug)]
 pub struct TextFault {
-    /// What the bytes are refused with.
+    /// The refusal of the bytes.
     pub why: Refusal,
-    /// With the last of so many bytes the fault is seen: fewer are only too few. It is the number of all bytes where they are too
-    /// few, and where a text has ended before the last of them it is that of the text's bytes.
+    /// The number of bytes with whose last one the fault is seen: fewer are only too few. It is the number of all bytes if they are
+    /// too few, and if a text has ended before the last of them it is that of the text's bytes.
     pub bytes: usize,
 }
 
-/// The fault that the bytes are refused with, read as a text of this kind, and where it is seen; none where they are such a text. It
-/// reads the text once for each time that the number of its bytes can be halved. It is an error only where memory ran out.
+/// The fault that the bytes are refused with, read as a text of this kind, and where it is seen; `None` if they are such a text. It
+/// reads the text once for each time that the number of its bytes can be halved. It is an error only if an allocation failed.
 pub fn locate(alloc: Global, kind: TextKind, bytes: &[u8]) -> Result<Option<TextFault>, AllocError>
     ensures { IfOk result (λ found. MatchOption found (fault_at kind bytes.now ≡ None) (λ fault. IsFaultOf kind bytes.now fault.bytes fault.why)) }
 {
@@ -39,7 +39,7 @@ pub fn locate(alloc: Global, kind: TextKind, bytes: &[u8]) -> Result<Option<Text
     Ok(Some(TextFault { why, bytes }))
 }
 
-// What the bytes are refused with, if they are.
+// The refusal of the bytes, if they are refused.
 #[tactic(auto, unfolding(crate::specs::Faults::fault_at))]
 fn fault_of(alloc: Global, kind: &TextKind, bytes: &[u8]) -> Result<Option<Refusal>, AllocError>
     ensures { IfOk result (λ found. found ≡ fault_at kind.now bytes.now) }

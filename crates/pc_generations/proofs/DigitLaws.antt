@@ -9,7 +9,7 @@ digits_make : (n a b c d e f p q r s t u v : ℕ) → 10 * a + p ≡ n → 10 * 
     → (1000000 * (48 + v - 48) + 100000 * (48 + u - 48) + 10000 * (48 + t - 48)) + (1000 * (48 + s - 48) + 100 * (48 + r - 48) + 10 * (48 + q - 48) + (48 + p - 48)) ≡ n
 digits_make n a b c d e f p q r s t u v h1 h2 h3 h4 h5 h6 h7 = omega (arith, h1, h2, h3, h4, h5, h6, h7)
 
--- the last digit, where what is before it is known
+-- the last digit, if what is before it is known
 digit_at : (m n : ℕ) → m / 10 ≡ n → 10 * n + m % 10 ≡ m
 digit_at m n e = omega (arith, e)
 

@@ -4,7 +4,7 @@ use Rattle.std.specs.Prelude.{Result, Ok, Err, OnOk}
 use Rattle.std.specs.List.{AllWithin, Contains}
 use Rattle.pc_generations.specs.Folders.{AreGone, NothingComes}
 
--- what follows from what holds where a call succeeds holds there too
+-- what follows from what holds if a call succeeds holds there too
 on_ok : {A E : Type 0} (P Q : Type 0) → (P → Q) → (result : Result A E) → OnOk result P → OnOk result Q
 on_ok P Q follows (Ok value) holds = follows holds
 on_ok P Q follows (Err why) holds = tt

@@ -1,7 +1,7 @@
--- How a number is read from the name of a folder.
+-- Reading a number from the name of a folder.
 use Rattle.std.specs.Prelude.{ℕ, ◌+◌, ◌*◌, ◌-◌, List, slice_index_or}
 
--- the digit with this index, 0 where there is none
+-- the digit with this index, 0 if there is none
 abbrev pub digit_in : List ℕ → ℕ → ℕ
 digit_in name at = slice_index_or name at 48 - 48
 

@@ -1,9 +1,9 @@
--- What stands in the folders of generations, which of these counts, and how the next one begins. `stands n name (Some text)` says that
--- the folder of generation n has this text under the name, and `stands n name None` that it has nothing there.
+-- The contents of the folders of generations, which generation counts, and how the next one begins. `stands n name (Some text)` says
+-- that the folder of generation n has this text under the name, and `stands n name None` that it has nothing there.
 use Rattle.std.specs.Prelude.{◌≢◌, ◌+◌, ◌<◌, ◌≤◌, ℕ, List, Option, Some, None}
 use Rattle.pc_generations.specs.Names.{base_name, log_name}
 
--- a generation counts where its base stands
+-- a generation counts if its base is there
 abbrev pub HasBase : (ℕ → List ℕ → Option (List ℕ) → Type 0) → ℕ → Type 0
 HasBase stands number = (text : List ℕ) × stands number base_name (Some text)
 
@@ -16,12 +16,12 @@ abbrev pub IsLatest : (ℕ → List ℕ → Option (List ℕ) → Type 0) → Op
 IsLatest stands (Some number) = HasBase stands number × IsGreatest stands number
 IsLatest stands None = (number : ℕ) → stands number base_name None
 
--- the number of the generation behind the one that counts
+-- the number of the generation after the one that counts
 abbrev pub next_of : Option ℕ → ℕ
 next_of (Some number) = number + 1
 next_of None = 1
 
--- all that stood in the folder of this generation stands there still
+-- everything in the folder of this generation is still there
 abbrev pub StaysAt : (ℕ → List ℕ → Option (List ℕ) → Type 0) → (ℕ → List ℕ → Option (List ℕ) → Type 0) → ℕ → Type 0
 StaysAt old new number = (name : List ℕ) (content : Option (List ℕ)) → old number name content → new number name content
 
@@ -29,7 +29,7 @@ StaysAt old new number = (name : List ℕ) (content : Option (List ℕ)) → old
 abbrev pub StayBut : (ℕ → List ℕ → Option (List ℕ) → Type 0) → (ℕ → List ℕ → Option (List ℕ) → Type 0) → ℕ → Type 0
 StayBut old new number = (other : ℕ) → other ≢ number → StaysAt old new other
 
--- nothing has come to the folder of this generation under a name where nothing stood
+-- nothing has come to the folder of this generation under a name that had no file
 abbrev pub NothingComes : (ℕ → List ℕ → Option (List ℕ) → Type 0) → (ℕ → List ℕ → Option (List ℕ) → Type 0) → ℕ → Type 0
 NothingComes old new number = (name : List ℕ) → old number name None → new number name None
 

@@ -1,4 +1,4 @@
--- How the greatest generation that has a base is found.
+-- Finding the greatest generation that has a base.
 use Rattle.std.specs.Prelude.{◌⊎◌, ◌≤◌, ⊤, ℕ, List, Option, Some, None}
 use Rattle.pc_generations.specs.Names.{base_name}
 use Rattle.pc_generations.specs.Folders.{HasBase}

@@ -10,8 +10,8 @@ use crate::names::{BASE_NAME, LOG_NAME, MOST_GENERATIONS};
 use pc_types::Refusal;
 use std::alloc::Global;
 
-/// The number of the generation that counts: the greatest one that has a base. None where none has one. Refuses only as the calls
-/// refuse that list the generations and look for their bases.
+/// The number of the generation that counts: the greatest one that has a base. `None` if none has one. Its only errors are those of the
+/// calls that list the generations and look for their bases.
 pub fn latest_generation<G: Generations>(alloc: Global, folders: &G) -> Result<Option<u32>, Refusal>
     ensures { IfOk result (IsLatest (G.stands folders.now)) }
 {
@@ -44,12 +44,12 @@ fn later_of<G: Generations>(
     }
 }
 
-/// The generation behind the one that counts, if one does, begins with this base and this log, which are the texts of whole files; its
+/// The generation after the one that counts, if one does, begins with this base and this log, which are the texts of whole files; its
 /// number. From then on it counts. All other generations are as they were, whether it begins or not.
 ///
-/// Where it refuses, and so wherever a process is killed in it, either the new generation counts, and has both texts whole; or the one
-/// that counted still does, and of it and of all before it nothing is gone. Refuses with `Full` behind generation 9,999,999, where
-/// nothing has changed, and else as the calls refuse that make the new one.
+/// If it refuses, or the process is killed at any moment in it, either the new generation counts, and has both texts whole; or the one
+/// that counted still does, and of it and of all before it nothing is gone. Returns `Full` after generation 9,999,999, and then nothing
+/// has changed; otherwise it fails as the calls do that make the new one.
 pub fn begin_generation<G: Generations>(
     folders: &mut G,
     latest: Option<u32>,
@@ -73,7 +73,7 @@ pub fn begin_generation<G: Generations>(
     }
 }
 
-// The number behind the one that counts, where there is one.
+// The number after the one that counts, if there is one.
 fn next_number(latest: Option<u32>) -> Option<u32>
     ensures next { IfSome result (λ number. (number ≡ next_of latest) × (number ≤ MOST_GENERATIONS)) }
     ensures none { result ≡ None → MOST_GENERATIONS < next_of latest }
@@ -115,7 +115,7 @@ fn begin_log<G: Generations>(folders: &mut G, number: u32, log: &[u8]) -> Result
 }
 
 /// Removes the generations whose numbers are lower by more than `keep` than that of this one, which has a base. All others are as they
-/// were, and nothing comes to any. Each is tried; where one can't be removed, or they can't be listed, it refuses as the first call did
+/// were, and nothing comes to any. Each is tried; if one can't be removed, or they can't be listed, it refuses as the first call did
 /// that was refused.
 pub fn remove_older<G: Generations>(
     alloc: Global,
@@ -137,7 +137,7 @@ pub fn remove_older<G: Generations>(
     removal
 }
 
-// The first generation is removed where its number is lower by more than `keep` than the second one.
+// The first generation is removed if its number is lower by more than `keep` than the second one.
 fn remove_if_older<G: Generations>(
     folders: &mut G,
     older: u32,

@@ -1,10 +1,10 @@
-//! The folders in which generations stand.
+//! The folders of generations.
 use pc_types::Refusal;
 use std::alloc::Global;
 
-/// The folders of generations, by their numbers. Contracts see what stands in each folder under each name; of folders of which that
-/// isn't known each text counts as standing there, and so does nothing. What a call has done where it refuses, a process that is killed
-/// in it may have done too.
+/// The folders of generations, by their numbers. Contracts see the text in each folder under each name; if that isn't known of a
+/// folder, each text counts as being there, and so does none. A process that is killed in a call may have done whatever the call has
+/// done if it refuses.
 pub trait Generations {
     ghost use Rattle.std.specs.Prelude.{◌⊎◌, ℕ, List, Option, Some, None, IfOk, OnOk, OnErr, MatchBool};
     ghost use Rattle.std.specs.List.{Contains};
@@ -22,20 +22,19 @@ pub trait Generations {
     fn has_base(&self, number: u32) -> Result<bool, Refusal>
         ensures { IfOk result (λ has. MatchBool has (HasBase (stands self.now) number) (stands self.now number base_name None)) };
 
-    /// The generation has a folder without files. The others stay. Where it refuses, some of the files may be gone.
+    /// The generation has a folder without files. The others stay. If it refuses, some of the files may be gone.
     fn make(&mut self, number: u32) -> Result<(), Refusal>
         ensures others { StayBut (stands self.old) (stands self.new) number }
         ensures blank { OnOk result ((name : List ℕ) → stands self.new number name None) }
         ensures less { NothingComes (stands self.old) (stands self.new) number };
 
-    /// The generation has this text under the name. All else stays. Where it refuses, what stood there stands there, or the whole
-    /// text does.
+    /// The generation has this text under the name. All else stays. If it refuses, the old text is there, or the whole text does.
     fn write(&mut self, number: u32, name: &[u8], text: &[u8]) -> Result<(), Refusal>
         ensures others { StaysBeside (stands self.old) (stands self.new) number name.now }
         ensures whole { OnOk result (stands self.new number name.now (Some text.now)) }
         ensures whole_or_as_before { OnErr result ((content : Option (List ℕ)) → stands self.old number name.now content → stands self.new number name.now content ⊎ stands self.new number name.now (Some text.now)) };
 
-    /// The generation has no folder. The others stay. Where it refuses, some of the files may be gone.
+    /// The generation has no folder. The others stay. If it refuses, some of the files may be gone.
     fn remove(&mut self, number: u32) -> Result<(), Refusal>
         ensures others { StayBut (stands self.old) (stands self.new) number }
         ensures blank { OnOk result ((name : List ℕ) → stands self.new number name None) }

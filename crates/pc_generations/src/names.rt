@@ -34,7 +34,7 @@ pub fn generation_name(number: u32) -> [u8; 11]
     name
 }
 
-// The digit with this index in the name; 0 where there is none.
+// The digit with this index in the name; 0 if there is none.
 fn digit_at(name: &[u8], at: usize) -> u32
     ensures is { result ≡ digit_in name.now at }
     ensures small { result < 256 }
@@ -45,7 +45,7 @@ fn digit_at(name: &[u8], at: usize) -> u32
     }
 }
 
-// The number of the seven digits behind `gen-`, where they are digits.
+// The number of the seven digits after `gen-`, if they are digits.
 fn digits_of(name: &[u8]) -> u32
     ensures { result ≡ number_of name.now }
 {
@@ -67,7 +67,8 @@ fn is_named(name: &[u8], number: u32) -> bool
     name == wanted.as_slice()
 }
 
-/// The number, 0 to 9,999,999, of the generation whose folder has this name; none where it is the name of no generation's folder.
+/// The number, 0 to 9,999,999, of the generation whose folder has this name; `None` if it is the name of no generation's
+/// folder.
 pub fn number_in(name: &[u8]) -> Option<u32>
     ensures named { IfSome result (λ number. (number ≤ MOST_GENERATIONS) × (name.now ≡ folder_name number)) }
     ensures other { result ≡ None → (number : ℕ) → number ≤ MOST_GENERATIONS → name.now ≢ folder_name number }

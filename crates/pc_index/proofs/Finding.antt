@@ -34,7 +34,7 @@ module _ {T : Type 0} (key_of : T → List ℕ) where
   is_key_of key k None e = absurd cc
   is_key_of key k (Some x) e = let f : key_of x ≡ k = cc in ap (λ (z : List ℕ). same_text z key) f
 
-  -- a slot of which the key is told has a record
+  -- a slot that has a key has a record
   pub item_there : (o : Option T) (k : List ℕ) → option_map key_of o ≡ Some k → (x : T) × (o ≡ Some x) × (key_of x ≡ k)
   item_there None k e = absurd cc
   item_there (Some x) k e = (x, refl, cc)
@@ -52,13 +52,13 @@ module _ {T : Type 0} (key_of : T → List ℕ) where
       let p : ℕ = place_of table key in
       linked slots has next l (chain_at table p) (i.ids p) k (i.chains p (subst (λ (q : ℕ). q < length table.chains) e w))
 
-  -- where none of the chain has the key, no record has it
+  -- if none of the chain has the key, no record has it
   pub slot_missing : (slots : Slots T) (table : IndexView) (key : List ℕ) (i : IsIndex key_of slots table) → false ≡ list_any (λ id. is_key key (at slots.items id)) (i.ids (place_of table key)) → IsSlotOf key_of slots.items key None
   slot_missing slots table key i n = λ id.
       let absent : IsAbsent key_of slots.items key = λ y e. i.all y key e (avoids_where_none (λ z. is_key key (at slots.items z)) (i.ids (place_of table key)) y (sym n) (is_key_at key (at slots.items y) e)) in
       ((λ s. absurd (none-some id s)), (λ h. absurd (absent id h)))
 
-  -- no record has the key where its slot is none, and no other where it is one
+  -- no record has the key if its slot is none, and no other if it is one
   pub none_absent : (items : List (Option T)) (key : List ℕ) (found : Option ℕ) → IsSlotOf key_of items key found → found ≡ None → IsAbsent key_of items key
   none_absent items key found s e id h = none-some id (sym e ∙ (s id).1 h)
 

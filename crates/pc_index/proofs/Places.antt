@@ -37,7 +37,7 @@ chain_read inside table n p chain e f w r = (
   get_or_read inside.chains n chain (subst (λ (t : IndexView). n < length t.chains) (sym e) w) r (record { first = None }) ∙ (ap (λ (t : IndexView). chain_at t n) e ∙ ap (chain_at table) f),
 )
 
--- what holds of the chain and the list of each place, where it holds of the new ones of one place and of the old ones of all others
+-- what holds of the chain and the list of each place, if it holds of the new ones of one place and of the old ones of all others
 pub each_place : (P : Stack ℕ → List ℕ → Type 0) (table : IndexView) (ids : ℕ → List ℕ) (p : ℕ) (chain : Stack ℕ) (list : List ℕ) → p < length table.chains → P chain list →
     ((b : ℕ) → b < length table.chains → b ≢ p → P (chain_at table b) (ids b)) → (b : ℕ) → b < length table.chains → P (chain_at (with_chain table p chain) b) (changed ids p list b)
 each_place P table ids p chain list v h o b w = elim (cases_eq b p) [

@@ -14,7 +14,7 @@ use Rattle.pc_index.proofs.Places.{changed, with_chain, place_same, each_place, 
 use Rattle.pc_index.proofs.IndexLaws.{slot_kept}
 use Rattle.pc_index.proofs.Finding.{chain_short}
 
--- where an id isn't avoided it stands
+-- an id that isn't avoided is there
 pub stands : (id : ℕ) (xs : List ℕ) → (Avoids id xs → ⊥) → (before rest : List ℕ) × (xs ≡ before ++ id ∷ rest)
 stands id [] f = absurd (f tt)
 stands id (x ∷ xs) f = elim (cases_eq x id) [
@@ -27,7 +27,7 @@ avoids_with y id [] rest n a = ((λ e. n (sym e)), a)
 avoids_with y id (x ∷ xs) rest n a = (a.0, avoids_with y id xs rest n a.1)
 
 module _ {T : Type 0} (key_of : T → List ℕ) where
-  -- the chain of the slot's key, and where in it the slot stands
+  -- the chain of the slot's key, and the place of the slot in it
   pub record Standing (old : Slots T) (table : IndexView) (i : IsIndex key_of old table) (id : ℕ) (item : T) (chain : Stack ℕ) : Type 0 where
     pub taken : at old.items id ≡ Some item
     pub place_in : place_of table (key_of item) < length table.chains

@@ -1,4 +1,4 @@
--- How chains of slots keep which slot each key has.
+-- Chains of slots that record the slot of each key.
 use Rattle.std.specs.Prelude.{◌≡◌, ℕ, ◌-◌, ◌<◌, List, length, Some, None, bit_and, slice_index_or}
 use Rattle.std.specs.declared.random_state.RandomState.{RandomState}
 use Rattle.pc_chain.specs.declared.stack.Stack.{Stack}

@@ -7,7 +7,7 @@ module _ {T : Type 0} (key_of : T → List ℕ) where
   abbrev pub key_at : List (Option T) → ℕ → Option (List ℕ)
   key_at items id = option_map key_of (at items id)
 
-  -- the slot of the record that has the key, or none where no record has it
+  -- the slot of the record that has the key, or none if no record has it
   abbrev pub IsSlotOf : List (Option T) → List ℕ → Option ℕ → Type 0
   IsSlotOf items key found = (id : ℕ) → (found ≡ Some id) ↔ (key_at items id ≡ Some key)
 

@@ -12,14 +12,14 @@ use std::alloc::{AllocError, Global};
 use std::hash::RandomState;
 use std::marker::Model;
 
-/// Tells from a key which slot has its record. The index has a chain for each place that a hash can give, and these go through
-/// the links of the slots. Whoever keeps the slots (`KeyedSlots`) is handed in at each call. That an index is one of these slots
-/// is said by `IsIndex`: each record is found by its key, and no two records have the same one. A record may be changed in
-/// its slot as long as its key stays, but slots are taken and freed by the index alone.
+/// Finds the slot of a key's record. The index has a chain for each place that a hash can give, and these go through the links of
+/// the slots. Whoever keeps the slots (`KeyedSlots`) is handed in at each call. `IsIndex` says that an index is one of these
+/// slots: each record is found by its key, and no two records have the same one. A record may be changed in its slot as long as
+/// its key stays, but slots are taken and freed by the index alone.
 ///
 /// A find goes along one chain, from the record that was made last. There are as many chains as the least power of two at or
-/// above the number of slots, and the hash is SipHash under a seed of two secret words, so whoever picks the keys can't tell
-/// which share a chain.
+/// above the number of slots, and the hash is SipHash under a seed of two secret words, so a client that picks the keys can't
+/// tell which share a chain.
 #[derive(Drop)]
 pub struct Index {
     chains: Vec<Stack<SlotId>>,
@@ -38,9 +38,8 @@ impl Model for Index {
 }
 
 impl Index {
-    /// The index of slots of which none has a record. All its memory is taken here, and it fails only where memory ran out.
-    /// The seed is the store's own: two words that the operating system gives by chance (`RandomState::new`), and that no
-    /// answer shows.
+    /// The index of slots of which none has a record. All its memory is taken here, and it fails only if an allocation fails. The
+    /// seed is the store's own: a random 128-bit number of the operating system (`RandomState::new`), which no answer shows.
     pub fn new<K, S: KeyedSlots<K>>(
         alloc: Global,
         slots: &S,
@@ -63,7 +62,7 @@ impl Index {
         hash_of(&self.seed, key) as usize & self.chains.len() - 1
     }
 
-    /// The slot of the record that has the key; None where no record has it.
+    /// The slot of the record that has the key; `None` if no record has it.
     pub fn find<K, S: KeyedSlots<K>>(&self, slots: &S, key: &Key) -> Option<SlotId>
         requires { IsIndex S.key_of (S.slots_of slots.now) self.now }
         ensures { IsSlotOf S.key_of (S.slots_of slots.now).items key.now result }
@@ -81,9 +80,9 @@ impl Index {
         None
     }
 
-    /// The slot of the record that has the key; where none has it, a blank one is made in a free slot. Each other key keeps its
-    /// slot. Refuses with `Full` exactly where no record has the key and no slot is free, and else only with `OutOfMemory`, where
-    /// no record has it and the blank one can't be made; slots and index are then as they were.
+    /// The slot of the record that has the key; if none has it, a blank one is made in a free slot. Each other key keeps its
+    /// slot. Returns `Full` if and only if no record has the key and no slot is free; otherwise the only error is `OutOfMemory`,
+    /// if no record has it and the blank one can't be made; slots and index are then as they were.
     pub fn find_or_make<K, S: KeyedSlots<K>>(
         &mut self,
         slots: &mut S,
@@ -107,8 +106,8 @@ impl Index {
     }
 
     /// The slot of the blank record of a key that no record has, which goes into a free slot; each other key keeps its slot.
-    /// Refuses with `Full` exactly where no slot is free, and else only with `OutOfMemory`, where the blank record can't be made;
-    /// slots and index are then as they were.
+    /// Returns `Full` if and only if no slot is free; otherwise the only error is `OutOfMemory`, if the blank record can't be
+    /// made; slots and index are then as they were.
     pub fn make<K, S: KeyedSlots<K>>(
         &mut self,
         slots: &mut S,
@@ -130,8 +129,8 @@ impl Index {
         Ok(id)
     }
 
-    /// Takes the record out of the slot, which has one, and gives it. The slot is free from then on, and no record has the
-    /// key; each other key keeps its slot and its record. It takes no memory.
+    /// Takes the record out of the slot, which has one, and returns it. The slot is free from then on, and no record has the key;
+    /// each other key keeps its slot and its record. It allocates no memory.
     pub fn remove<K, S: KeyedSlots<K>>(&mut self, slots: &mut S, id: SlotId) -> S::Item
         requires index { IsIndex S.key_of (S.slots_of slots.old) self.old }
         requires taken { IsTaken (S.slots_of slots.old).items id }

@@ -14,7 +14,7 @@ many_words (a ∷ b ∷ c ∷ []) low = absurd (omega arith)
 many_words (a ∷ b ∷ c ∷ d ∷ []) low = absurd (omega arith)
 many_words (a ∷ b ∷ c ∷ d ∷ e ∷ words) low = refl
 
--- a line is told by its first five words
+-- a line is determined by its first five words
 first_tell : (words : List (List ℕ)) → spelled_by (take MOST_WORDS words) ≡ spelled_by words
 first_tell [] = refl
 first_tell (a ∷ []) = refl

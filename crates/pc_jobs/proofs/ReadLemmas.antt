@@ -17,11 +17,11 @@ pick : (b : Bool) (n : ℕ) (later : Option ℕ) → (if b then Some n else late
 pick true n later e = absurd cc
 pick false n later e = (refl, e)
 
--- a line that isn't bad, nor any behind it
+-- a line that isn't bad, nor any after it
 good : (b : List Phrase) (line : Phrase) (r : List Phrase) → first_bad b (line ∷ r) ≡ None → (is_bad b line r ≡ false) × (first_bad (b ++ line ∷ []) r ≡ None)
 good b line r h = pick (is_bad b line r) (length b + 1) (first_bad (b ++ line ∷ []) r) h
 
--- whether a transaction is open behind one line more
+-- whether a transaction is open after one line more
 open_more : (b : List Phrase) (line : Phrase) → is_open (b ++ line ∷ []) ≡ is_open_behind (is_open b) line
 open_more b line = fold-append is_open_behind false b (line ∷ [])
 
@@ -61,12 +61,12 @@ unopened false h e = cc
 regroup : (m w c : List Phrase) → m ++ phrase.End ∷ (w ++ c) ≡ ((m ++ phrase.End ∷ []) ++ w) ++ c
 regroup m w c = simp append_assoc
 
--- the lines of what some lines give: the work of the client before them, behind the end of an open transaction, and then the clients
+-- the lines of what some lines give: the work of the client before them, after the end of an open transaction, and then the clients
 abbrev pub left_lines : Bool → List Phrase → List Phrase
 left_lines true r = map phrase.Does (ops_in r) ++ phrase.End ∷ (flat_map work_lines (works_in r) ++ clients_lines (clients_in r))
 left_lines false r = flat_map work_lines (works_in r) ++ clients_lines (clients_in r)
 
--- behind a client's line
+-- after a client's line
 work : (b r : List Phrase) (x : Bool) → list_any is_client b ≡ true → is_open b ≡ x → (x ≡ true → closes r ≡ true) → first_bad b r ≡ None → filter says r ≡ left_lines x r
 work b [] true cl o cs h = let e : false ≡ true = cs refl in absurd cc
 work b [] false cl o cs h = refl
@@ -90,7 +90,7 @@ work b (phrase.End ∷ r) true cl o cs h = ap (λ (z : List Phrase). phrase.End 
 work b (phrase.End ∷ r) false cl o cs h = absurd (unopened (is_open b) o (good b phrase.End r h).0)
 work b (phrase.Malformed ∷ r) x cl o cs h = let e : true ≡ false = (good b phrase.Malformed r h).0 in absurd cc
 
--- no line behind a client's gives the points
+-- no line after a client's gives the points
 no_points : (b r : List Phrase) → list_any is_client b ≡ true → first_bad b r ≡ None → points_in r ≡ 0
 no_points b [] cl h = refl
 no_points b (phrase.Silent ∷ r) cl h = no_points (b ++ phrase.Silent ∷ []) r (stays is_client b phrase.Silent cl) (good b phrase.Silent r h).1
@@ -106,7 +106,7 @@ no_points b (phrase.Points n ∷ r) cl h = absurd (taken (list_any is_points b) 
 unled : (b r : List Phrase) (line : Phrase) → list_any is_client b ≡ false → (not (list_any is_client b) || not (closes r)) ≡ false → ⊥
 unled b r line cl e = let k = begun (list_any is_client b) (closes r) e in both_ways (list_any is_client b) cl k.0
 
--- behind the line of the points
+-- after the line of the points
 pointed : (b r : List Phrase) → list_any is_client b ≡ false → list_any is_points b ≡ true → is_open b ≡ false → first_bad b r ≡ None → filter says r ≡ clients_lines (clients_in r)
 pointed b [] cl p o h = refl
 pointed b (phrase.Silent ∷ r) cl p o h = pointed (b ++ phrase.Silent ∷ []) r (lacks is_client b phrase.Silent cl refl) (stays is_points b phrase.Silent p) (open_more b phrase.Silent ∙ o) (good b phrase.Silent r h).1
@@ -172,7 +172,7 @@ runs : (o : Option ℕ) (v w : Workload) → outcome o v ≡ reading.Runs w → 
 runs (Some n) v w e = absurd cc
 runs None v w e = (refl, cc)
 
--- lines that are worth a workload write it
+-- lines that mean a workload write it
 pub read_written : (lines : List Phrase) (w : Workload) → worth lines ≡ reading.Runs w → IsWorkloadWritten lines w
 read_written lines w e =
     let k = runs (first_bad [] lines) (workload_of lines) w e in

@@ -27,7 +27,7 @@ seen_more lines line =
     let r = fold-append is_open_behind false lines (line ∷ []) in
     cc
 
--- the next line is told as bad, or the search goes on
+-- the next line is reported as bad, or the search goes on
 pub next_bad : (lines : List Phrase) (i : ℕ) (line : Phrase) → i < length lines → line ≡ get_or lines i line
     → first_bad (take i lines) (drop i lines) ≡ (if is_bad (take i lines) line (drop (i + 1) lines) then Some (i + 1) else first_bad (take (i + 1) lines) (drop (i + 1) lines))
 next_bad lines i line lt is =
@@ -58,7 +58,7 @@ closes_later phrase.End lines e = absurd cc
 closes_later (phrase.Fill fill) lines e = absurd cc
 closes_later phrase.Malformed lines e = absurd cc
 
--- the lines behind those that are left were gathered
+-- the lines after those that are left were gathered
 pub record Gathers (all left : List Phrase) (gathered : Gathered) : Type 0 where
   pub behind : List Phrase
   pub cut : left ++ behind ≡ all

@@ -1,4 +1,4 @@
--- What is kept of the lines behind a line, the last first.
+-- The summary of the lines after a line, the last first.
 use Rattle.std.specs.Prelude.{Bool, true, false, List, Option, Some, None, reverse}
 use Rattle.pc_jobs.specs.declared.phrases.Phrase.{Phrase}
 use Rattle.pc_jobs.specs.declared.phrases.Phrase.TheVariants as phrase
@@ -9,7 +9,7 @@ use Rattle.pc_jobs.specs.Workloads.{points_in, clients_in, works_in, ops_in}
 abbrev pub gathered_of : List Phrase → Gathered
 gathered_of lines = record { points = points_in lines; clients = reverse (clients_in lines); works = reverse (works_in lines); ops = reverse (ops_in lines) }
 
--- what a line behind a `txn` tells of the transaction's end
+-- what a line after a `txn` means for the transaction's end
 abbrev pub closing : Phrase → Option Bool
 closing phrase.Silent = None
 closing (phrase.Does op) = None

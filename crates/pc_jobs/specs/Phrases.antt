@@ -1,4 +1,4 @@
--- What a line of a workload spells by itself.
+-- The meaning of a line of a workload by itself.
 use Rattle.std.specs.Prelude.{ℕ, ◌&&◌, nat_le, Bool, ℤ, List, [], ◌∷◌, Option, Some, None, if◌then◌else◌, codes}
 use Rattle.std.specs.Str.{bytes_eq}
 use Rattle.pc_types.specs.declared.limits.TheConstants.{MOST_SESSIONS}
@@ -36,7 +36,7 @@ within least most None = None
 abbrev pub number_within : ℕ → ℕ → List ℕ → Option ℕ
 number_within least most word = within least most (number_of word)
 
--- how many points are to be taken
+-- the number of points to take
 abbrev pub points_line : Option ℕ → Phrase
 points_line (Some points) = phrase.Points points
 points_line None = phrase.Malformed

@@ -1,4 +1,4 @@
--- The keys of a fill: a prefix with six digits behind it.
+-- The keys of a fill: a prefix with six digits after it.
 use Rattle.std.specs.Prelude.{ℕ, ◌+◌, ◌/◌, ◌%◌, ◌≤◌, nat_le, Bool, List, [], ◌∷◌, length}
 use Rattle.pc_types.specs.declared.limits.TheConstants.{SPACE_BYTES, MOST_KEY_BYTES}
 

@@ -1,4 +1,4 @@
--- What is kept of the lines before a line.
+-- The summary of the lines before a line.
 use Rattle.std.specs.Prelude.{List, ◌||◌}
 use Rattle.std.specs.List.{list_any}
 use Rattle.pc_jobs.specs.declared.phrases.Phrase.{Phrase}

@@ -1,5 +1,5 @@
--- What a workload's text is worth: the work that it gives, or the number of its first bad line. Which lines are bad is said of
--- each by itself, from the lines before it and those behind it; what the lines give is said of lines none of which is bad.
+-- The meaning of a workload's text: the work that it gives, or the number of its first bad line. Which lines are bad is said
+-- of each by itself, from the lines before it and those after it; what the lines give is said of lines none of which is bad.
 use Rattle.std.specs.Prelude.{◌+◌, ◌==◌, ◌||◌, not, ℕ, Bool, true, false, List, [], ◌∷◌, ◌++◌, Option, Some, None, if◌then◌else◌, length, map, fold}
 use Rattle.std.specs.List.{list_any}
 use Rattle.pc_lines.specs.Lines.{lines_in}
@@ -29,18 +29,18 @@ abbrev pub is_client_of : ℕ → Phrase → Bool
 is_client_of session (phrase.Client s) = s == session
 is_client_of session line = false
 
--- whether a transaction is open behind a line, where one was open before it or not
+-- whether a transaction is open after a line, if one was open before it or not
 abbrev pub is_open_behind : Bool → Phrase → Bool
 is_open_behind before phrase.Begin = true
 is_open_behind before (phrase.Does op) = before
 is_open_behind before phrase.Silent = before
 is_open_behind before line = false
 
--- whether a transaction is open behind these lines
+-- whether a transaction is open after these lines
 abbrev pub is_open : List Phrase → Bool
 is_open lines = fold is_open_behind false lines
 
--- whether the lines behind a `txn` end its transaction, or come to a line that is bad by itself
+-- whether the lines after a `txn` end its transaction, or come to a line that is bad by itself
 abbrev pub closes : List Phrase → Bool
 closes [] = false
 closes (phrase.Silent ∷ lines) = closes lines
@@ -49,7 +49,7 @@ closes (phrase.End ∷ lines) = true
 closes (phrase.Malformed ∷ lines) = true
 closes (line ∷ lines) = false
 
--- whether a line is bad, by what stands before it and behind it
+-- whether a line is bad, by the lines before it and after it
 abbrev pub is_bad : List Phrase → Phrase → List Phrase → Bool
 is_bad before phrase.Silent behind = false
 is_bad before (phrase.Points points) behind = list_any is_points before || list_any is_client before
@@ -72,7 +72,7 @@ ops_in (phrase.Silent ∷ lines) = ops_in lines
 ops_in (phrase.Does op ∷ lines) = op ∷ ops_in lines
 ops_in (line ∷ lines) = []
 
--- the work of the client whose line stands before these lines
+-- the work of the client whose line comes before these lines
 abbrev pub works_in : List Phrase → List ClientTask
 works_in [] = []
 works_in (phrase.Begin ∷ lines) = work.Once (record { ops = ops_in lines }) ∷ works_in lines
@@ -86,22 +86,22 @@ clients_in [] = []
 clients_in (phrase.Client session ∷ lines) = record { session = session; works = works_in lines } ∷ clients_in lines
 clients_in (line ∷ lines) = clients_in lines
 
--- how many points are to be taken: none where no line says it
+-- the number of points to take: none if no line says it
 abbrev pub points_in : List Phrase → ℕ
 points_in [] = 0
 points_in (phrase.Points points ∷ lines) = points
 points_in (line ∷ lines) = points_in lines
 
--- what the lines give, where none is bad
+-- what the lines give, if none is bad
 abbrev pub workload_of : List Phrase → Workload
 workload_of lines = record { points = points_in lines; clients = clients_in lines }
 
--- a bad line, if there is one, and else the workload
+-- a bad line, if there is one, and otherwise the workload
 abbrev pub outcome : Option ℕ → Workload → WorkloadReading
 outcome (Some line) workload = reading.BadLine line
 outcome None workload = reading.Runs workload
 
--- what some lines are worth
+-- the meaning of some lines
 abbrev pub worth : List Phrase → WorkloadReading
 worth lines = outcome (first_bad [] lines) (workload_of lines)
 
@@ -109,6 +109,6 @@ worth lines = outcome (first_bad [] lines) (workload_of lines)
 abbrev pub phrases_in : List ℕ → List Phrase
 phrases_in text = map spelled (lines_in text)
 
--- what a text is worth
+-- the meaning of a text
 abbrev pub reading_of : List ℕ → WorkloadReading
 reading_of text = worth (phrases_in text)

@@ -1,4 +1,4 @@
--- How a workload is written, line by line. This is said of a workload, with no word of how its lines are read.
+-- The text of a workload, line by line, independent of how lines are read.
 use Rattle.std.specs.Prelude.{◌≡◌, ◌⊎◌, Bool, true, false, List, [], ◌∷◌, ◌++◌, map, filter, nat_eq}
 use Rattle.std.specs.List.{flat_map, IsDistinct}
 use Rattle.pc_jobs.specs.declared.works.ClientTask.{ClientTask}
@@ -27,7 +27,7 @@ abbrev pub clients_lines : List Client → List Phrase
 clients_lines clients = flat_map client_lines clients
 
 -- the lines write the workload: no session is named twice, and the lines that say something are the number of points and then
--- the clients; the first of them may be left out where there are no points
+-- the clients; the first of them may be left out if there are no points
 abbrev pub IsWorkloadWritten : List Phrase → Workload → Type 0
 IsWorkloadWritten lines workload =
     IsDistinct nat_eq (map (λ (client : Client). client.session) workload.clients)

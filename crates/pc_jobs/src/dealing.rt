@@ -9,7 +9,7 @@ use std::alloc::{AllocError, Global};
 /// The greatest number of workers to which the clients of a run are dealt.
 pub const MOST_WORKERS: u8 = 64;
 
-// So many workers without clients.
+// The given number of workers without clients.
 fn idle_workers(alloc: Global, count: u8) -> Result<Vec<Items<Client>>, AllocError>
     ensures { IfOk result (λ workers. workers.items ≡ replicate count []) }
 {
@@ -20,7 +20,7 @@ fn idle_workers(alloc: Global, count: u8) -> Result<Vec<Items<Client>>, AllocErr
     Ok(workers)
 }
 
-// The worker gets the client, behind those that it has.
+// The worker gets the client, after those that it has.
 fn give(workers: &mut Vec<Items<Client>>, worker: usize, client: Client) -> Result<(), AllocError>
     requires { worker < length workers.old.items }
     ensures { OnOk result (workers.new.items ≡ slice_set workers.old.items worker (slice_index_or workers.old.items worker [] ++ client ∷ [])) }
@@ -28,8 +28,8 @@ fn give(workers: &mut Vec<Items<Client>>, worker: usize, client: Client) -> Resu
     workers[worker].push(client)
 }
 
-/// Deals the clients to so many workers, in turn: the first client to the first worker, and the next one to the next, until all
-/// workers have had their turn and it is the first one's again. It fails only where memory ran out.
+/// Deals the clients to the given number of workers, in turn: the first client to the first worker, and the next one to the
+/// next, until all workers have had their turn and it is the first one's again. It fails only if an allocation fails.
 pub fn deal(
     alloc: Global,
     workers: u8,

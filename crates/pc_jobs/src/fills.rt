@@ -37,9 +37,9 @@ impl FillJob {
         Ok(FillJob { job: Job { ops } })
     }
 
-    /// Makes it the fill's transaction of this number: one put, of the fill's value under its prefix with the number behind it, of
-    /// which the last six decimal digits are written, zeros first. Refuses only with `OutOfMemory`, and only where the key has
-    /// more than 16 bytes of its own, or the value more than 16; then it stays as it was.
+    /// Makes it the fill's transaction of this number: one put, of the fill's value under its prefix with the number after it, of
+    /// which the last six decimal digits are written, zeros first. Refuses only with `OutOfMemory`, and only if the key has more
+    /// than 16 bytes of its own, or the value more than 16; then it stays as it was.
     pub fn set(&mut self, alloc: Global, fill: &Fill, number: u32) -> Result<(), Refusal>
         ensures job { OnOk result (self.new ≡ job_of fill.now number) }
         ensures same { OnErr result (self.new ≡ self.old) }

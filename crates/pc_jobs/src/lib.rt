@@ -1,4 +1,4 @@
-//! What clients are to do, and how the text of a workload spells it.
+//! The jobs of clients, and their text in a workload.
 #![tactic(auto)]
 
 mod dealing;

@@ -1,4 +1,4 @@
-//! What a line of a workload spells by itself.
+//! The meaning of a line of a workload by itself.
 ghost use Rattle.std.specs.Prelude.{◌≡◌, ◌≤◌, IfOk, IfErr, map};
 ghost use Rattle.pc_lines.specs.Words.{signed_number_of};
 ghost use Rattle.pc_jobs.specs.Phrases.{key_of, value_of, prefix_of, number_within, points_line, client_line, get_line, del_line, put_line, add_line, fill_line, one_word, two_words, three_words, four_words, spelled_by, spelled};
@@ -11,14 +11,14 @@ use pc_lines::{
 use pc_types::{Key, MOST_SESSIONS, Refusal, SessionNo, Value};
 use std::alloc::Global;
 
-/// What a line of a workload spells by itself, wherever it stands.
+/// The meaning of a line of a workload by itself, wherever it is.
 #[derive(Drop)]
 pub enum Phrase {
     /// No words, or a `#` first: it says nothing.
     Silent,
-    /// So many points are to be taken, 0 to 1,000.
+    /// The number of points to take, 0 to 1,000.
     Points(u32),
-    /// What follows is the work of this session, 1 to 64.
+    /// The next lines are the work of this session, 1 to 64.
     Client(SessionNo),
     /// A transaction begins.
     Begin,
@@ -32,13 +32,13 @@ pub enum Phrase {
     Malformed,
 }
 
-/// A workload asks for at most so many points.
+/// The most points that a workload asks for.
 pub const MOST_RUN_POINTS: u32 = 1_000;
 
-/// A fill has at least one transaction, and at most so many.
+/// The most transactions of a fill, which has at least one.
 pub const MOST_FILL: u32 = 1_000_000;
 
-/// What the line, without its end, spells. Refuses only with `OutOfMemory`.
+/// The meaning of the line, without its end. Refuses only with `OutOfMemory`.
 pub(crate) fn spelled(alloc: Global, text: &[u8]) -> Result<Phrase, Refusal>
     ensures phrase { IfOk result (λ phrase. phrase ≡ spelled text.now) }
     ensures refusals { IfErr result (λ e. e ≡ Refusal.OutOfMemory) }
@@ -49,7 +49,7 @@ pub(crate) fn spelled(alloc: Global, text: &[u8]) -> Result<Phrase, Refusal>
     spelled_by(alloc, &first_words(text))
 }
 
-// What the words of a line spell.
+// The meaning of the words of a line.
 fn spelled_by(alloc: Global, words: &[&[u8]]) -> Result<Phrase, Refusal>
     ensures phrase { IfOk result (λ phrase. phrase ≡ spelled_by (map (λ w. w.now) words.now)) }
     ensures refusals { IfErr result (λ e. e ≡ Refusal.OutOfMemory) }
@@ -202,7 +202,7 @@ fn fill_line(alloc: Global, prefix: &[u8], count: &[u8], value: &[u8]) -> Result
     }
 }
 
-// The number that a word writes, where it is within the limits.
+// The number that a word writes, if it is within the limits.
 fn number_within(least: u32, most: u32, word: &[u8]) -> Option<u32>
     ensures { result ≡ number_within least most word.now }
 {

@@ -1,4 +1,4 @@
-//! What the keys of a fill begin with.
+//! The prefix of the keys of a fill.
 ghost use Rattle.std.specs.Prelude.{◌≡◌, ◌<◌, ◌+◌, ◌++◌, length, IfOk, IfErr, if◌then◌else◌, Some, None};
 ghost use Rattle.pc_types.specs.declared.limits.TheConstants.{SPACE_BYTES};
 ghost use Rattle.pc_types.specs.Keys.{key_of};
@@ -9,11 +9,11 @@ use pc_types::{Key, MOST_KEY_BYTES, Refusal};
 use std::alloc::Global;
 use std::marker::Model;
 
-// How many digits stand behind a prefix.
+// How many digits come after a prefix.
 const DIGITS: usize = 6;
 
-/// What the keys of a fill begin with: a space, and 0 to 249 bytes, so that a key has room for six digits behind them. Contracts
-/// see the space's two bytes, the higher one first, and the others behind them.
+/// The prefix of the keys of a fill: a space, and 0 to 249 bytes, so that a key has room for six digits after them. Contracts
+/// see the space's two bytes, the higher one first, and the others after them.
 #[derive(Drop)]
 pub struct Prefix {
     space: u16,
@@ -33,7 +33,7 @@ impl Model for Prefix {
 }
 
 impl Prefix {
-    /// The prefix of this space and these bytes, or nothing where there are more than 249.
+    /// The prefix of this space and these bytes, or nothing if there are more than 249.
     pub fn new(space: u16, own: Vec<u8>) -> Option<Prefix>
         ensures { result ≡ (if is_prefix (key_of space own.items) then Some (key_of space own.items) else None) }
     {
@@ -44,8 +44,8 @@ impl Prefix {
         }
     }
 
-    /// The key of this prefix with the last six decimal digits of the number behind it. Refuses only with `OutOfMemory`, and only
-    /// where the key has more than 16 bytes of its own: a shorter one takes no memory.
+    /// The key of this prefix with the last six decimal digits of the number after it. Refuses only with `OutOfMemory`, and only
+    /// if the key has more than 16 bytes of its own: a shorter one takes no memory.
     pub fn key(&self, alloc: Global, number: u32) -> Result<Key, Refusal>
         ensures key { IfOk result (λ key. key ≡ self.now ++ six_digits number) }
         ensures refusals { IfErr result (λ e. (e ≡ Refusal.OutOfMemory) × (SPACE_BYTES + 16 < length (self.now ++ six_digits number))) }

@@ -14,12 +14,12 @@ use bstr::ByteSlice;
 use pc_types::{Items, Refusal, SessionNo};
 use std::alloc::{AllocError, Global};
 
-/// What the text of a workload is worth.
+/// The meaning of the text of a workload.
 #[derive(Drop)]
 pub enum WorkloadReading {
-    /// No line is bad: this is to be run.
+    /// No line is bad: the workload to run.
     Runs(Workload),
-    /// The number of the first bad line, from 1. Nothing is to be run.
+    /// The number of the first bad line, from 1. There is nothing to run.
     BadLine(usize),
 }
 
@@ -36,7 +36,7 @@ pub fn read_workload(alloc: Global, text: &[u8]) -> Result<WorkloadReading, Refu
     }
 }
 
-// What the lines of the text spell.
+// The meaning of the lines of the text.
 fn phrases_in(alloc: Global, text: &[u8]) -> Result<Vec<Phrase>, Refusal>
     ensures phrases { IfOk result (λ v. v.items ≡ phrases_in text.now) }
     ensures refusals { IfErr result (λ e. e ≡ Refusal.OutOfMemory) }
@@ -49,7 +49,7 @@ fn phrases_in(alloc: Global, text: &[u8]) -> Result<Vec<Phrase>, Refusal>
     Ok(phrases)
 }
 
-// What was seen in the lines before one.
+// The summary of the lines before one.
 #[derive(Clone, Copy)]
 struct Seen {
     // The number of points was given.
@@ -106,7 +106,7 @@ fn first_bad(lines: &[Phrase]) -> Option<usize>
     None
 }
 
-// Whether a line is bad, by what stands before it and behind it.
+// Whether a line is bad, by the lines before it and after it.
 fn is_bad(seen: Seen, before: &[Phrase], line: &Phrase, behind: &[Phrase]) -> bool
     requires { seen ≡ seen_in before.now }
     ensures { result ≡ is_bad before.now line.now behind.now }
@@ -137,7 +137,7 @@ fn is_client_of(session: SessionNo, line: &Phrase) -> bool
     }
 }
 
-// Whether a transaction is ended by the lines behind its begin, or comes to a line that is bad by itself.
+// Whether a transaction is ended by the lines after its begin, or comes to a line that is bad by itself.
 fn closes(lines: &[Phrase]) -> bool
     ensures { result ≡ closes lines.now }
 {
@@ -149,7 +149,7 @@ fn closes(lines: &[Phrase]) -> bool
     false
 }
 
-// What is told by a line: nothing within a transaction.
+// The item of a line: none within a transaction.
 fn closing(line: &Phrase) -> Option<bool>
     ensures { result ≡ closing line.now }
 {
@@ -160,7 +160,7 @@ fn closing(line: &Phrase) -> Option<bool>
     }
 }
 
-// What was gathered of the lines behind one, the last first.
+// The summary of the lines after one, the last first.
 #[derive(Drop)]
 struct Gathered {
     points: u32,
@@ -196,7 +196,7 @@ fn workload_of(alloc: Global, mut lines: Vec<Phrase>) -> Result<Workload, AllocE
     })
 }
 
-// What is gathered once the line before is added.
+// The summary once the line before is added.
 fn with_line(alloc: Global, line: Phrase, behind: Gathered) -> Result<Gathered, AllocError>
     ensures { (lines : List Phrase) → behind ≡ gathered_of lines → IfOk result (λ gathered. gathered ≡ gathered_of (line ∷ lines)) }
 {

@@ -1,4 +1,4 @@
-//! What the clients of a workload are to do.
+//! The jobs of a workload's clients.
 use crate::prefixes::Prefix;
 use pc_types::{Items, Key, SessionNo, Value};
 
@@ -11,17 +11,17 @@ pub enum Op {
     Put(Key, Value),
     /// Removes the key.
     Del(Key),
-    /// Adds this to the number that the key has, or to 0 where it has no value.
+    /// Adds this to the number that the key has, or to 0 if it has no value.
     Add(Key, i64),
 }
 
-/// What one transaction does, in order.
+/// The operations of one transaction, in order.
 #[derive(Drop)]
 pub struct Job {
     pub ops: Items<Op>,
 }
 
-/// Many transactions, each of which sets one key to the same value. The keys are the prefix with the numbers from 0 behind it,
+/// Many transactions, each of which sets one key to the same value. The keys are the prefix with the numbers from 0 after it,
 /// in six digits.
 #[derive(Drop)]
 pub struct Fill {
@@ -40,7 +40,7 @@ pub enum ClientTask {
     Fill(Fill),
 }
 
-/// What one client is to do, in order, and as which session.
+/// The jobs of one client, in order, and its session.
 #[derive(Drop)]
 pub struct Client {
     /// In a workload that was read, 1 to 64, and that of no other client.
@@ -48,7 +48,7 @@ pub struct Client {
     pub works: Items<ClientTask>,
 }
 
-/// What all clients are to do, and how many points of consistency are to be taken meanwhile.
+/// The jobs of all clients, and the number of points of consistency to take meanwhile.
 #[derive(Drop)]
 pub struct Workload {
     /// In a workload that was read, 0 to 1,000.

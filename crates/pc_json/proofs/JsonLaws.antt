@@ -1,4 +1,4 @@
--- What is written of a pair is read back.
+-- A pair that is written is read back.
 use Rattle.std.proofs.Common.{◌≡◌, ℕ, suc, ◌<◌, ◌≤◌, ◌==◌, nat_lt, Bool, true, false, List, [], ◌∷◌, ◌++◌, length, BTreeMap, String, Global, string_bytes, Option, Some, None, refl, sym, ap, ◌∙◌, append-nil, arith, rules, codes, decimal}
 use Rattle.std.specs.Prelude.{if◌then◌else◌, option_and_then}
 use Rattle.std.specs.Result.{result_ok}

@@ -78,7 +78,7 @@ member_kept later name held members first others =
     comma true = refl
     comma false = refl
 
--- the members behind the key's, where there is a space
+-- the members after the key's, if there is a space
 behind_key : (space : ℕ) (name bytes : List ℕ) → space < 65536 → list_all is_kept (members_text true (member (codes "space") (number (unsigned space)) (member name (string bytes) no_members))) ≡ true
 behind_key space name bytes small =
     member_kept true (codes "space") (number (unsigned space)) (member name (string bytes) no_members) (number_kept space small) (member_kept true name (string bytes) no_members (quoted_kept bytes) refl)

@@ -1,4 +1,4 @@
--- A pair as an object of JSON, and the pair that a line of JSON tells.
+-- A pair as an object of JSON, and the pair of a line of JSON.
 use Rattle.std.specs.Prelude.{ℕ, ◌==◌, nat_lt, List, Option, Some, None, option_and_then, option_map, unwrap_or, codes, if◌then◌else◌}
 use Rattle.std.specs.Result.{result_ok}
 use Rattle.std.specs.Str.{is_utf8}
@@ -21,7 +21,7 @@ read_pair pair = (pair.space, pair.own.items, pair.value.items)
 
 -- ---- how a pair is written
 
--- the members with these bytes: as a text under the first name where they are UTF-8, otherwise in base64 under the second one
+-- the members with these bytes: as a text under the first name if they are UTF-8, otherwise in base64 under the second one
 abbrev pub with_bytes : List ℕ → List ℕ → List ℕ → Members → Members
 with_bytes name name64 bytes members = if is_utf8 bytes then put name (string bytes) members else put name64 (string (encode_of standard bytes)) members
 
@@ -39,7 +39,7 @@ json_text space own value = compact_text (json_of space own value)
 
 -- ---- how a line is read
 
--- the bytes of a member that is a text, or of the one that has them in base64; none where both are there, or neither
+-- the bytes of a member that is a text, or of the one that has them in base64; none if both are there, or neither
 abbrev pub bytes_in : Option (List ℕ) → Option (List ℕ) → Option (List ℕ)
 bytes_in (Some bytes) None = Some bytes
 bytes_in None (Some text) = result_ok (decode_of standard text)
@@ -49,21 +49,21 @@ bytes_in plain encoded = None
 abbrev pub space_number : ℕ → Option ℕ
 space_number n = if nat_lt n 65536 then Some n else None
 
--- the number of a space; 0 where there is no member of it
+-- the number of a space; 0 if there is no member of it
 abbrev pub space_member : Option Data → Option ℕ
 space_member None = Some 0
 space_member (Some found) = option_and_then space_number (option_and_then as_u64 (as_number found))
 
--- how many members there may be: a key, a value and, where there is one, a space
+-- the greatest number of members: a key, a value and, if there is one, a space
 abbrev pub most : Option Data → ℕ
 most None = 2
 most (Some found) = 3
 
--- how many members an object has; 0 for any other value
+-- the number of an object's members; 0 for any other value
 abbrev pub member_count : Data → ℕ
 member_count found = unwrap_or (option_map members_len (as_object found)) 0
 
--- all three, where all are there
+-- all three, if all are there
 abbrev pub whole_pair : Option ℕ → Option (List ℕ) → Option (List ℕ) → Option Pair
 whole_pair (Some space) (Some own) (Some value) = Some (space, own, value)
 whole_pair space own value = None

@@ -9,8 +9,7 @@ use base64::engine::general_purpose::STANDARD;
 use serde_json::{Category, Value};
 use std::alloc::{AllocError, Global};
 
-/// The pair that a line tells: the number of the key's space, its own bytes, and the value's. They may be too few or too many for a
-/// key or a value.
+/// The pair of a line: the number of the key's space, its own bytes, and the value's. They may be too few or too many for a key or a value.
 #[derive(Drop)]
 pub struct JsonPair {
     pub space: u16,
@@ -18,8 +17,8 @@ pub struct JsonPair {
     pub value: Vec<u8>,
 }
 
-/// The pair of a line, without the line's end. `None` where the line is no JSON in UTF-8, nor an object that has just a key, a value
-/// and, where it has one, a space from 0 to 65,535.
+/// The pair of a line, without the line's end. `None` if the line isn't JSON in UTF-8, or not an object that has just a key, a
+/// value and, optionally, a space from 0 to 65,535. Its only error is a failed allocation.
 pub fn read_json(alloc: Global, line: &[u8]) -> Result<Option<JsonPair>, AllocError>
     ensures { IfOk result (λ found. option_map read_pair found ≡ json_pair line.now) }
 {
@@ -50,7 +49,7 @@ fn object_pair(alloc: Global, found: &Value) -> Result<Option<JsonPair>, AllocEr
     }
 }
 
-// How many members an object has.
+// The number of an object's members.
 fn member_count(found: &Value) -> usize
     ensures { result ≡ member_count (view found.now) }
 {
@@ -60,7 +59,7 @@ fn member_count(found: &Value) -> usize
     }
 }
 
-// How many it may have.
+// The greatest number of members that it may have.
 fn most(found: &Value) -> usize
     ensures { result ≡ most (get (codes "space") (view found.now)) }
 {

@@ -9,7 +9,7 @@ use serde_json::{Map, Value, put};
 use std::alloc::{AllocError, Global};
 
 /// The line of a pair, with its end: of the key's space and own bytes, and the value's bytes. It is UTF-8, has no line feed but its
-/// last byte, and `read_json` gives the pair back.
+/// last byte, and `read_json` returns the pair of it.
 pub fn json_line(alloc: Global, space: u16, own: &[u8], value: &[u8]) -> Result<String, AllocError>
     ensures text { IfOk result (λ line. string_bytes line ≡ json_text space own.now value.now ++ 10 ∷ []) }
 {
@@ -39,7 +39,7 @@ fn put_space(alloc: Global, members: &mut Map<String, Value>, space: u16) -> Res
     put(members, alloc, "space", Value::from(space))
 }
 
-// Adds bytes under the first name, as a text, where they are UTF-8, and else under the second one, in base64.
+// Adds bytes under the first name, as a text, if they are UTF-8, and otherwise under the second one, in base64.
 fn put_bytes(
     alloc: Global,
     members: &mut Map<String, Value>,

@@ -223,7 +223,7 @@ never_else entries text place fault lawful lt is read =
 
 -- ---- room for one entry more
 
--- there is room for an entry of so many bytes
+-- there is room for an entry of that many bytes
 pub record HasRoomBehind (size used places n : ℕ) : Type 0 where
   pub few : used < 32768
   pub place : 0 < places
@@ -246,7 +246,7 @@ fresh_room size places n fits place = grind (arith, nat_tests, fits, place)
 
 -- ---- an entry was put into the bytes of a vector
 
--- what was written into all of a vector's bytes stands there
+-- what was written into all of a vector's bytes is there
 written_back : (len : ℕ) (new old : List ℕ) → length new ≡ length old → len ≡ length old → take len (new ++ drop (length new) old) ≡ new
 written_back len new old same all =
     let none : drop (length new) old ≡ [] = nil_from_length (drop (length new) old) (omega (arith, length-drop (length new) old, same)) in

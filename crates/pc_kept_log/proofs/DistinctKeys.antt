@@ -17,7 +17,7 @@ among_written (w ∷ ws) key = ap (λ b. b || is_among (keys_of ws) key) ((eq_by
     by true later = refl
     by false later = later
 
--- where a key isn't among the keys, it is none of them
+-- if a key isn't among the keys, it is none of them
 all_other : (key : List ℕ) (keys : List (List ℕ)) → is_among keys key ≡ false → AllByRecursion (λ (k : List ℕ). same_bytes key k ≡ false) keys
 all_other key [] none = tt
 all_other key (k ∷ keys) none = by (same_bytes key k) refl (all_other key keys) none

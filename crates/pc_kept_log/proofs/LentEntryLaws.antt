@@ -1,4 +1,4 @@
--- The entries of a log are lent one after the other, and what is read of a token's text.
+-- Borrowed entries of a log, in order, and what is read of a token's text.
 use Rattle.std.proofs.Common.{◌≡◌, ℕ, suc, ◌+◌, ◌-◌, ◌≤◌, ◌<◌, List, [], ◌∷◌, ◌++◌, length, get_or, Some, None, Ok, refl, sym, ap, subst, ◌∙◌, arith}
 use Rattle.std.specs.Prelude.{All, slice_get, slice_range}
 use Rattle.std.specs.List.{flat_map}

@@ -1,4 +1,4 @@
--- The writes of an entry's text are read one after the other.
+-- The writes of an entry's text are read in order.
 use Rattle.std.proofs.Common.{◌≡◌, ℕ, zero, suc, ◌+◌, ◌-◌, ◌*◌, ◌<◌, ◌≤◌, List, [], ◌∷◌, ◌++◌, length, take, drop, get_or, Some, Result, Ok, Err, refl, sym, ap, subst, ◌∙◌, append_assoc, arith}
 use Rattle.std.specs.Prelude.{All, slice_get, slice_range}
 use Rattle.std.specs.List.{flat_map, AllByRecursion}
@@ -39,7 +39,7 @@ unfolding writes_in
 none_more zero bytes fault read = refl
 none_more (suc n) bytes fault read = ap (λ (r : Result (Write × List ℕ) Refusal). and_more r (writes_in n)) read
 
--- where so many can be read, none of them fails
+-- if that many can be read, none of them fails
 pub never_fails : (count : ℕ) (bytes : List ℕ) → (count ≡ 0 → ⊥) → (fault : Refusal) → plain_write_at bytes ≡ Err fault → length (writes_in count bytes) ≡ count → ⊥
 never_fails count bytes some fault read counted = some (sym counted ∙ ap length (none_more count bytes fault read))
 
@@ -62,15 +62,15 @@ all_again (w ∷ ws) rest limits =
 
 -- ---- the text of an entry
 
--- how many writes there are, where the entry is a commit
+-- how many writes there are, if the entry is a commit
 abbrev count_there : List ℕ → ℕ
 count_there text = get_or text 6 0 * 256 + get_or text 7 0
 
--- the bytes behind the first eight
+-- the bytes after the first eight
 behind_head : (text : List ℕ) → take (length text - 8) (drop 8 text) ≡ drop 8 text
 behind_head text = ap (λ (n : ℕ). take n (drop 8 text)) (sym (length-drop 8 text)) ∙ take_all (drop 8 text)
 
--- what the text of an entry lends
+-- the writes viewed in the text of an entry
 record Lends (entry : Entry) (text : List ℕ) : Type 0 where
   long : 8 ≤ length text
   writes : get_or text 4 0 ≡ 1 → (writes_in (count_there text) (drop 8 text) ≡ writes_of_entry (Some entry)) × (length (writes_of_entry (Some entry)) ≡ count_there text)

@@ -1,4 +1,4 @@
--- The pieces of a log, and where an entry stands in them.
+-- The pieces of a log, and where an entry is in them.
 use Rattle.std.proofs.Common.{◌≡◌, ℕ, zero, suc, ◌+◌, ◌-◌, ◌≤◌, ◌<◌, Bool, true, false, leb, List, [], ◌∷◌, ◌++◌, length, take, drop, get_or, drop-cons, Some, Result, Ok, Err, refl, sym, ap, subst, ◌∙◌, append_assoc, length-append, arith}
 use Rattle.std.specs.Prelude.{IfOk, slice_get, slice_range}
 use Rattle.std.specs.List.Sorted.{IsNonDecreasingBy, IsPartitionPoint}
@@ -21,7 +21,7 @@ module _ (pieces : List Piece) (counted : AreCounted pieces) where
       ap entries_in_pieces (take_parts i j pieces order (omega (arith, order, inside))) ∙ flat_map-append (λ (p : Piece). p.entries) (take i pieces) (slice_range pieces i j) in
       omega (arith, counted i d (omega (arith, order, inside)), counted j d inside, ap length parts, length-append (entries_in_pieces (take i pieces)) (entries_in_pieces (slice_range pieces i j)))
 
-  -- one piece, and those before and behind it
+  -- one piece, and those before and after it
   around : (i : ℕ) (d : Piece) → i < length pieces → entries_in_pieces pieces ≡ entries_in_pieces (take i pieces) ++ ((get_or pieces i d).entries ++ entries_in_pieces (drop (suc i) pieces))
   around i d inside =
       ap entries_in_pieces (sym (take-append-drop i pieces)) ∙ flat_map-append (λ (p : Piece). p.entries) (take i pieces) (drop i pieces)
@@ -159,7 +159,7 @@ single (y ∷ xs) (suc place) n x e one =
     let size : suc place + n - suc place ≡ place + n - place = omega arith in
     ap (λ (k : ℕ). take k (drop place xs)) size ∙ single xs place n x e one
 
--- the next ones, behind those that were gathered
+-- the next ones, after those that were gathered
 pub ranges_join : {X : Type 0} (xs : List X) (from a b : ℕ) → slice_range xs from (from + a) ++ slice_range xs (from + a) (from + a + b) ≡ slice_range xs from (from + (a + b))
 ranges_join xs from a b =
     let first : from + a - from ≡ a = omega arith in

@@ -1,9 +1,9 @@
--- Bytes that are put one behind the other.
+-- Bytes that are put in order.
 use Rattle.std.proofs.Common.{ℕ, List, [], ◌++◌, length, take, refl, sym, ap, ◌∙◌, append_assoc, arith}
 use Rattle.std.proofs.lemmas.List.{append-nil, length-append}
 use Rattle.pc_kept_log.specs.Placing.{ArePut, HasSpace}
 
--- two texts, one behind the other
+-- two texts, in order
 pub put_then : (a b c : List ℕ) (at m e : ℕ) (x y : List ℕ) → ArePut a b at x m → ArePut b c m y e → ArePut a c at (x ++ y) e
 put_then a b c at m e x y p q = record {
   ends = omega (arith, p.ends, q.ends, length-append x y);

@@ -1,4 +1,4 @@
--- What a lent write does to its key.
+-- The effect of a borrowed write on its key.
 use Rattle.std.specs.Prelude.{⊤}
 use Rattle.pc_types.specs.declared.Change.{Change}
 use Rattle.pc_types.specs.declared.Change.TheVariants.{Set, Remove, Add}
@@ -7,7 +7,7 @@ use Rattle.pc_types.specs.Limits.{IsKey, IsValue}
 use Rattle.pc_kept_log.specs.declared.lent_writes.LentChange.{LentChange}
 use Rattle.pc_kept_log.specs.declared.lent_writes.LentChange.TheVariants as lent
 
--- the change that is lent
+-- the borrowed change
 abbrev pub lent_change : LentChange → Change
 lent_change (lent.Set value) = Set value.now
 lent_change lent.Remove = Remove

@@ -1,4 +1,4 @@
--- The writes of an entry, read of its text in format 02 one after the other, each by itself.
+-- The writes of an entry, read of its text in format 02 in order, each by itself.
 use Rattle.std.specs.Prelude.{ℕ, zero, suc, List, [], ◌∷◌, Result, Ok, Err}
 use Rattle.pc_types.specs.declared.refusal.Refusal.{Refusal}
 use Rattle.pc_types.specs.declared.refusal.Refusal.TheVariants.{BadLength}
@@ -14,12 +14,12 @@ plain_write_at bytes = do
   change ← change_at key.1
   Ok (record { key = key.0; change = change.0 }, change.1)
 
--- the write that was read, and those behind it
+-- the write that was read, and those after it
 abbrev pub and_more : Result (Write × List ℕ) Refusal → (List ℕ → List Write) → List Write
 and_more (Ok write) more = write.0 ∷ more write.1
 and_more (Err fault) more = []
 
--- so many writes at most, as far as they can be read
+-- at most that many writes, as far as they can be read
 unfoldable pub writes_in : ℕ → List ℕ → List Write
 writes_in zero bytes = []
 writes_in (suc count) bytes = and_more (plain_write_at bytes) (writes_in count)

@@ -13,17 +13,17 @@ use Rattle.pc_kept_log.specs.Chunks.{entries_in_pieces}
 abbrev pub entries_of : Log → List Entry
 entries_of log = entries_in_pieces log.full.items ++ log.open.entries
 
--- there is memory for one more entry, of so many bytes
+-- there is memory for one more entry, of that many bytes
 abbrev pub HasRoomForEntry : Log → ℕ → Type 0
 HasRoomForEntry log size = size ≤ log.open.room
 
--- a log can have the entry, beside how many writes it has: a commit is of a session from 1 to 64, and no two of its writes have one
--- key; a token is of a point from 1 on
+-- a log can have the entry, apart from the number of its writes: a commit is of a session from 1 to 64, and no two of its writes
+-- have one key; a token is of a point from 1 on
 abbrev pub IsFitEntry : Entry → Type 0
 IsFitEntry (Commit session writes) = (1 ≤ session) × (session ≤ MOST_SESSIONS) × AreDistinct writes
 IsFitEntry (Token phase point) = 1 ≤ point
 
--- the writes of a commit's entry; none of a token's, and where there is no entry
+-- the writes of a commit's entry; none of a token's, and if there is no entry
 abbrev pub writes_of_entry : Option Entry → List Write
 writes_of_entry (Some (Commit session writes)) = writes
 writes_of_entry other = []

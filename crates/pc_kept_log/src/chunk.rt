@@ -1,4 +1,4 @@
-//! A piece of a log: the texts of whole entries, one behind the other.
+//! A piece of a log: the texts of whole entries, in order.
 ghost use Rattle.std.specs.Prelude.{◌≡◌, ◌<◌, ◌≤◌, [], ◌∷◌, ◌++◌, length, IfOk, Some, All, slice_get, slice_range};
 ghost use Rattle.std.specs.List.{flat_map};
 ghost use Rattle.pc_types.specs.declared.Entry.TheVariants.{Commit, Token};
@@ -12,16 +12,16 @@ use pc_types::{Entry, Phase, Point, Refusal, SessionNo, Write};
 use std::alloc::{AllocError, Global};
 use std::marker::Model;
 
-/// The texts of a piece's entries take at most so many bytes, where there is more than one.
+/// The most bytes of the texts of a piece's entries, if there is more than one.
 pub(crate) const CHUNK_BYTES: usize = 32_768;
 
-// A piece has at most so many entries.
+// The most entries of a piece.
 const CHUNK_ENTRIES: usize = 1_024;
 
-/// A piece of a log: the texts of whole entries, one behind the other, and where each begins.
+/// A piece of a log: the texts of whole entries, in order, and where each begins.
 #[derive(Drop)]
 pub(crate) struct Chunk {
-    // How many entries stand in the pieces before.
+    // The number of entries in the pieces before.
     before: usize,
     bytes: Vec<u8>,
     // How many of the bytes are used.
@@ -46,7 +46,7 @@ impl Model for Chunk {
 }
 
 impl Chunk {
-    /// A piece without entries or room, before all others. It takes no memory.
+    /// A piece without entries or room, before all others. It allocates no memory.
     pub(crate) fn new(alloc: Global) -> Chunk
         ensures first { result.first ≡ 0 }
         ensures none { result.entries ≡ [] }
@@ -59,7 +59,7 @@ impl Chunk {
         }
     }
 
-    /// A piece without entries, behind so many others, with room for an entry of so many bytes.
+    /// A piece without entries, after `before` others, with room for an entry of `size` bytes.
     pub(crate) fn with_room(alloc: Global, before: usize, size: u32) -> Result<Chunk, AllocError>
         ensures first { IfOk result (λ chunk. chunk.first ≡ before) }
         ensures none { IfOk result (λ chunk. chunk.entries ≡ []) }
@@ -76,14 +76,14 @@ impl Chunk {
         })
     }
 
-    /// How many entries stand in the pieces before.
+    /// The number of entries in the pieces before.
     pub(crate) fn first(&self) -> usize
         ensures { result ≡ self.now.first }
     {
         self.before
     }
 
-    /// How many entries it has.
+    /// The number of entries that it has.
     pub(crate) fn len(&self) -> usize
         ensures { result ≡ length self.now.entries }
     {
@@ -101,7 +101,7 @@ impl Chunk {
         }
     }
 
-    /// Adds the entry of a commit, for which there is room. It takes no memory.
+    /// Adds the entry of a commit, for which there is room. It allocates no memory.
     pub(crate) fn append_commit(&mut self, session: SessionNo, writes: &[Write])
         requires session { (1 ≤ session) × (session ≤ MOST_SESSIONS) }
         requires few { length writes.now ≤ MOST_WRITES }
@@ -115,7 +115,7 @@ impl Chunk {
         self.starts.push_reserved(start as u16);
     }
 
-    /// Adds the entry of a token, for which there is room. It takes no memory.
+    /// Adds the entry of a token, for which there is room. It allocates no memory.
     pub(crate) fn append_token(&mut self, phase: Phase, point: Point)
         requires begun { 1 ≤ point }
         requires room { length (entry_text (Token phase point)) ≤ self.old.room }
@@ -139,7 +139,7 @@ impl Chunk {
         part_of(self.bytes.as_slice(), begin, end)
     }
 
-    /// The entry at this place, which counts from 0. It fails only where memory ran out.
+    /// The entry at this place, which counts from 0. It fails only if an allocation fails.
     pub(crate) fn entry(&self, alloc: Global, place: usize) -> Result<Entry, AllocError>
         requires { place < length self.now.entries }
         ensures { IfOk result (λ entry. slice_get self.now.entries place ≡ Some entry) }
@@ -164,7 +164,7 @@ fn part_of(bytes: &[u8], from: usize, to: usize) -> &[u8]
     &bytes[from..to]
 }
 
-// Where the text of the entry at the place begins, and behind the last one where all of them end.
+// The place where the text of the entry begins; after the last one, the end of all of them.
 fn start_of(starts: &[u16], end: usize, place: usize) -> usize
     ensures inside { place < length starts.now → slice_get starts.now place ≡ Some result }
     ensures behind { length starts.now ≤ place → result ≡ end }

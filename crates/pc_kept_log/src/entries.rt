@@ -15,7 +15,7 @@ use std::alloc::{AllocError, Global};
 use std::mem;
 
 impl Log {
-    /// A log without entries. It takes no memory.
+    /// A log without entries. It allocates no memory.
     pub fn new(alloc: Global) -> Log
         ensures { entries_of result ≡ [] }
     {
@@ -26,7 +26,7 @@ impl Log {
         }
     }
 
-    /// How many entries there are, at most 16,777,216.
+    /// The number of entries, at most 16,777,216.
     pub fn len(&self) -> usize
         ensures { result ≡ length (entries_of self.now) }
     {
@@ -41,8 +41,8 @@ impl Log {
         self.len() == MOST_LOG_ENTRIES
     }
 
-    /// Makes room for one more entry, of so many bytes. It refuses with `OutOfMemory` alone, and never where there is room; the
-    /// entries stay. Whether the log is full is not looked at.
+    /// Makes room for one more entry, of the given number of bytes. It refuses with `OutOfMemory` alone, and never if there is room;
+    /// the entries stay. Whether the log is full is not looked at.
     pub fn reserve(&mut self, size: u32) -> Result<(), Refusal>
         ensures entries { entries_of self.new ≡ entries_of self.old }
         ensures room { OnOk result (HasRoomForEntry self.new size) }
@@ -56,7 +56,7 @@ impl Log {
         Ok(())
     }
 
-    // The last piece is closed, and behind it stands one with room for an entry of so many bytes.
+    // Closes the last piece, and appends one with room for an entry of the given number of bytes.
     fn add_piece(&mut self, size: u32) -> Result<(), AllocError>
         ensures entries { entries_of self.new ≡ entries_of self.old }
         ensures room { OnOk result (HasRoomForEntry self.new size) }
@@ -67,8 +67,8 @@ impl Log {
         Ok(())
     }
 
-    /// Adds the entry of a commit at the end, where room was made for it: of a session from 1 to 64, with at most 256 writes, no two
-    /// of which have one key. Answers its number: the first entry has number 1. It takes no memory.
+    /// Adds the entry of a commit at the end, if room was made for it: of a session from 1 to 64, with at most 256 writes, no two of
+    /// which have one key. Answers its number: the first entry has number 1. It allocates no memory.
     pub fn append_commit(&mut self, session: SessionNo, writes: &[Write]) -> Lsn
         requires session { (1 ≤ session) × (session ≤ MOST_SESSIONS) }
         requires few { length writes.now ≤ MOST_WRITES }
@@ -82,7 +82,7 @@ impl Log {
         self.last()
     }
 
-    /// Adds a token at the end, where room was made for it. Answers its number: the first entry has number 1. It takes no memory.
+    /// Adds a token at the end, if room was made for it. Answers its number: the first entry has number 1. It allocates no memory.
     pub fn append_token(&mut self, phase: Phase, point: Point) -> Lsn
         requires begun { 1 ≤ point }
         requires room { HasRoomForEntry self.old (length (entry_text (Token phase point))) }

@@ -1,4 +1,4 @@
-//! What a log has is lent and read back.
+//! Views of a log's entries, and their values read back.
 ghost use Rattle.std.specs.Prelude.{◌≡◌, ◌<◌, ◌≤◌, ◌+◌, length, IfOk, Some, slice_get, slice_range};
 ghost use Rattle.std.specs.List.{flat_map};
 ghost use Rattle.pc_types.specs.declared.Entry.{Entry};
@@ -11,17 +11,17 @@ use crate::log::Log;
 use pc_types::Entry;
 use std::alloc::{AllocError, Global};
 
-/// The texts of some entries of a log, one behind the other.
+/// The texts of some entries of a log, in order.
 #[derive(Clone, Copy)]
 pub struct LentTexts<'a> {
     /// The texts.
     pub bytes: &'a [u8],
-    /// How many entries they are of.
+    /// The number of entries that they are of.
     pub count: usize,
 }
 
 impl Log {
-    /// The entry at this place, which counts from 0, read of its text. It fails only where memory ran out.
+    /// The entry at this place, which counts from 0, read of its text. It fails only if an allocation fails.
     pub fn entry(&self, alloc: Global, place: usize) -> Result<Entry, AllocError>
         requires { place < length (entries_of self.now) }
         ensures { IfOk result (λ entry. slice_get (entries_of self.now) place ≡ Some entry) }
@@ -30,7 +30,7 @@ impl Log {
         piece.entry(alloc, place - piece.first())
     }
 
-    /// All entries, the oldest first, read of their texts. It fails only where memory ran out.
+    /// All entries, the oldest first, read of their texts. It fails only if an allocation fails.
     pub fn entries(&self, alloc: Global) -> Result<Vec<Entry>, AllocError>
         ensures { IfOk result (λ entries. entries.items ≡ entries_of self.now) }
     {
@@ -42,8 +42,8 @@ impl Log {
         Ok(entries)
     }
 
-    /// The texts of the entries from this place on, which counts from 0: of so many at most, as far as they lie behind one another
-    /// in memory, and of one at least where there is one and any are asked for.
+    /// The texts of the entries from this place on, which counts from 0: of at most the given number, as far as they are adjacent
+    /// in memory, and of one at least if there is one and any are asked for.
     pub fn texts(&self, from: usize, most: usize) -> LentTexts<'_>
         ensures texts { result.bytes.now ≡ flat_map entry_text (slice_range (entries_of self.now) from (from + result.count)) }
         ensures most { result.count ≤ most }
@@ -65,7 +65,7 @@ impl Log {
         }
     }
 
-    /// How many bytes the text of the entry at this place takes.
+    /// The number of bytes that the text of the entry at this place takes.
     pub fn size(&self, place: usize) -> usize
         requires { place < length (entries_of self.now) }
         ensures { (entry : Entry) → slice_get (entries_of self.now) place ≡ Some entry → result ≡ length (entry_text entry) }
@@ -73,7 +73,7 @@ impl Log {
         self.texts(place, 1).bytes.len()
     }
 
-    /// The texts of so many entries from this place on once more, one behind the other. It fails only where memory ran out.
+    /// A copy of the texts of the given number of entries from this place on, in order. It fails only if an allocation fails.
     pub fn copied_texts(
         &self,
         alloc: Global,
@@ -93,7 +93,7 @@ impl Log {
         Ok(bytes)
     }
 
-    // The piece in which the entry at the place stands.
+    // The piece of the entry at the place.
     pub(crate) fn piece_of(&self, place: usize) -> &Chunk
         requires { place < length (entries_of self.now) }
         ensures { HasPlace (entries_of self.now) result.now place }

@@ -1,4 +1,4 @@
-//! The entries of a log are lent one after the other, without memory.
+//! Views of the entries of a log, in order, without memory.
 ghost use Rattle.std.specs.Prelude.{◌≡◌, ◌<◌, ◌≤◌, length, Some, slice_range};
 ghost use Rattle.std.specs.Iterator.{YieldsFirst, item_count};
 ghost use Rattle.pc_kept_log.specs.Logs.{entries_of, writes_of_entry, token_of};
@@ -11,11 +11,11 @@ use pc_log::{TOKEN, phases};
 use pc_types::{Phase, Point};
 use std::marker::Model;
 
-/// An entry of a log, lent. A contract sees the entry.
+/// A borrowed entry of a log. A contract sees the entry.
 #[derive(Drop)]
 pub struct LentEntry<'a> {
     piece: &'a Chunk,
-    // Where it stands in the piece.
+    // Its place in the piece.
     place: usize,
 }
 
@@ -32,7 +32,7 @@ impl<'a> Model for LentEntry<'a> {
 }
 
 impl<'a> LentEntry<'a> {
-    /// Its writes, lent: those of a commit, and none where it is a token. It takes no memory.
+    /// A view of its writes: those of a commit, and none if it is a token. It allocates no memory.
     pub fn writes(&self) -> LentWrites<'a>
         ensures { result ≡ writes_of_entry (Some self.now) }
     {
@@ -40,7 +40,7 @@ impl<'a> LentEntry<'a> {
         piece.writes(self.place)
     }
 
-    /// The phase and the point of a token; None where it is a commit.
+    /// The phase and the point of a token; `None` if it is a commit.
     pub fn token(&self) -> Option<(Phase, Point)>
         ensures { result ≡ token_of self.now }
     {
@@ -50,7 +50,7 @@ impl<'a> LentEntry<'a> {
 }
 
 impl Chunk {
-    // The phase and the point of the token at this place, which counts from 0; None where a commit is there.
+    // The phase and the point of the token at this place, which counts from 0; `None` if a commit is there.
     fn token(&self, place: usize) -> Option<(Phase, Point)>
         requires { place < length self.now.entries }
         ensures { result ≡ token_of (entry_at self.now.entries place) }
@@ -67,13 +67,13 @@ impl Chunk {
     }
 }
 
-/// Entries of a log, lent one after the other. A contract sees those to come.
+/// Borrowed entries of a log, in order. A contract sees those to come.
 #[derive(Drop)]
 pub struct LentEntries<'a> {
     log: &'a Log,
-    // The piece in which the last one stood.
+    // The piece of the last one.
     piece: &'a Chunk,
-    // The place of the next one, and that behind the last one.
+    // The place of the next one, and that after the last one.
     at: usize,
     to: usize,
 }
@@ -92,8 +92,8 @@ impl<'a> Model for LentEntries<'a> {
 }
 
 impl Log {
-    /// The entries from one place up to another one, which count from 0, lent one after the other from their texts. It takes no
-    /// memory.
+    /// Views of the entries from one place up to another one, which count from 0, in order, read from their texts. It
+    /// allocates no memory.
     pub fn lent(&self, from: usize, to: usize) -> LentEntries<'_>
         requires { to ≤ length (entries_of self.now) }
         ensures { result ≡ slice_range (entries_of self.now) from to }
@@ -106,7 +106,7 @@ impl Log {
         }
     }
 
-    // The piece in which the entry at the place stands: this one, where it stands in it.
+    // The piece of the entry at the place: this one, if the entry is in it.
     fn piece_beside<'a>(&'a self, piece: &'a Chunk, place: usize) -> &'a Chunk
         requires inside { place < length (entries_of self.now) }
         requires piece { IsPiece (entries_of self.now) piece.now }

@@ -1,4 +1,4 @@
-//! The writes of an entry are lent from its text, without memory.
+//! Views of the writes of an entry, from its text, without memory.
 ghost use Rattle.std.specs.Prelude.{◌≡◌, ◌<◌, [], length, slice_get, IfOk};
 ghost use Rattle.std.specs.Iterator.{YieldsFirst, item_count};
 ghost use Rattle.pc_types.specs.Fields.{Reads, key_at, value_at};
@@ -20,16 +20,16 @@ use pc_types::{
 use std::alloc::{AllocError, Global};
 use std::marker::Model;
 
-/// A write of a log's entry, lent. A contract sees the write.
+/// A borrowed write of a log's entry. A contract sees the write.
 #[derive(Drop)]
 pub struct LentWrite<'a> {
-    /// The bytes of its key, as `Key::as_bytes` has them: the space's two, and its own behind them.
+    /// The bytes of its key, as `Key::as_bytes` has them: the space's two, and its own after them.
     pub key: &'a [u8],
-    /// What it does to the key.
+    /// Its effect on the key.
     pub change: LentChange<'a>,
 }
 
-/// What a lent write does to its key. A contract sees the change by `lent_change`.
+/// The effect of a borrowed write on its key. A contract sees the change by `lent_change`.
 #[derive(Drop)]
 pub enum LentChange<'a> {
     /// The key has this value then.
@@ -52,8 +52,8 @@ impl<'a> Model for LentWrite<'a> {
 }
 
 impl<'a> LentWrite<'a> {
-    /// The same write, with a key and a value of its own. It takes memory only for a key with more than 16 bytes of its own and for
-    /// a value of more than 16 bytes, and fails only where that ran out.
+    /// The same write, with a key and a value of its own. It allocates memory only for a key with more than 16 bytes of its own and
+    /// for a value of more than 16 bytes, and fails only if that allocation fails.
     pub fn to_write(&self, alloc: Global) -> Result<Write, AllocError>
         ensures { IfOk result (λ write. write ≡ self.now) }
     {
@@ -78,12 +78,12 @@ fn to_change(alloc: Global, change: &LentChange<'_>) -> Result<Change, AllocErro
     }
 }
 
-/// The writes of an entry, lent one after the other. A contract sees those to come.
+/// Borrowed writes of an entry, in order. A contract sees those to come.
 #[derive(Drop)]
 pub struct LentWrites<'a> {
-    // The texts of the writes to come, one behind the other, and what stands behind them.
+    // The texts of the writes to come, in order, and the bytes after them.
     bytes: &'a [u8],
-    // How many are to come.
+    // The number of items to come.
     count: usize,
 }
 
@@ -96,12 +96,11 @@ impl<'a> Model for LentWrites<'a> {
 
     ghost view = { λ w. writes_in w.count w.bytes.now };
 
-    // So many can be read.
+    // The number of writes that can be read.
     ghost invariant = { λ w. length (writes_in w.count w.bytes.now) ≡ w.count };
 }
 
 impl<'a> LentWrites<'a> {
-    // None.
     fn none() -> LentWrites<'a>
         ensures { result ≡ [] }
     {
@@ -111,7 +110,7 @@ impl<'a> LentWrites<'a> {
         }
     }
 
-    /// How many are to come.
+    /// The number of items to come.
     pub fn len(&self) -> usize
         ensures { result ≡ length self.now }
     {
@@ -138,8 +137,8 @@ impl Chunk {
 }
 
 impl Log {
-    /// The writes of the entry at this place, which counts from 0, lent from its text: those of a commit, and none where it is a
-    /// token or where there is no such entry. It takes no memory.
+    /// Views of the writes of the entry at this place, which counts from 0, from its text: those of a commit, and none if it is a
+    /// token or if there is no such entry. It allocates no memory.
     pub fn writes(&self, place: usize) -> LentWrites<'_>
         ensures { result ≡ writes_of_entry (slice_get (entries_of self.now) place) }
     {
@@ -177,7 +176,7 @@ impl<'a> Iterator for LentWrites<'a> {
     }
 }
 
-// Lends the write with which the bytes begin, and the bytes behind it.
+// Returns a view of the write with which the bytes begin, and the bytes after it.
 #[tactic(auto, unfolding(crate::specs::LentWrites::plain_write_at))]
 fn lend_write(bytes: &[u8]) -> Result<(LentWrite<'_>, &[u8]), Refusal>
     ensures { Reads (λ x. (x.0, x.1.now)) result (plain_write_at bytes.now) }
@@ -197,7 +196,7 @@ fn lend_key(bytes: &[u8]) -> Result<(&[u8], &[u8]), Refusal>
     read_key_text(Format::Second, rest, count, Refusal::BadLength)
 }
 
-// What a write does to its key: a kind of 0 and nothing, of 1 and a value, or of 2 and a number in two's complement.
+// The effect of a write on its key: a kind of 0 and nothing, of 1 and a value, or of 2 and a number in two's complement.
 #[tactic(auto, unfolding(pc_log::specs::Reading::change_at))]
 fn lend_change(bytes: &[u8]) -> Result<(LentChange<'_>, &[u8]), Refusal>
     ensures read { Reads (λ x. (lent_change x.0, x.1.now)) result (change_at bytes.now) }

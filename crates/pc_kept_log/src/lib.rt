@@ -1,4 +1,4 @@
-//! The log that a store keeps, as its text: entries are added at its end, and are lent and read again where they stand.
+//! The log that a store keeps, as its text: entries are added at its end, and are viewed and read again in place.
 #![tactic(auto)]
 
 mod chunk;

@@ -6,8 +6,8 @@ ghost use Rattle.pc_kept_log.specs.Chunks.{AreCounted, entries_in_pieces};
 use crate::chunk::Chunk;
 use std::alloc::Global;
 
-/// A log: its entries, the oldest first. It has at most 16,777,216. What is kept of them are their texts in format 02, one behind
-/// the other in pieces, and where each begins.
+/// A log: its entries, the oldest first. It has at most 16,777,216. What is kept of them are their texts in format 02, in order
+/// in pieces, and where each begins.
 #[derive(Drop)]
 pub struct Log {
     pub(crate) alloc: Global,

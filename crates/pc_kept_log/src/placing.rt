@@ -1,4 +1,4 @@
-//! The text of an entry is put into a room of memory, behind the bytes that stand there.
+//! Writes the text of an entry into a buffer, after the bytes that it has.
 ghost use Rattle.std.specs.Prelude.{◌≤◌, length, Some, All};
 ghost use Rattle.std.specs.List.{flat_map};
 ghost use Rattle.pc_types.specs.declared.Change.TheVariants.{Add};
@@ -11,7 +11,7 @@ ghost use Rattle.pc_kept_log.specs.Placing.{ArePut, HasSpace};
 use pc_log::{ABSENCE, ADD, COMMIT, TOKEN, VALUE, number_bytes, phases, writes_size};
 use pc_types::{Change, MOST_POINTS, MOST_WRITES, Phase, Point, SPACE_BYTES, SessionNo, Write};
 
-// The text of a commit is put at this place. Answers where it ends.
+// The text of a commit is put at this place. Returns the place after it.
 pub(crate) fn put_commit(room: &mut [u8], at: usize, session: SessionNo, writes: &[Write]) -> usize
     requires few { length writes.now ≤ MOST_WRITES }
     requires space { HasSpace room.old at (length (entry_text (Commit session writes.now))) }
@@ -22,7 +22,7 @@ pub(crate) fn put_commit(room: &mut [u8], at: usize, session: SessionNo, writes:
     put_writes(room, at, writes)
 }
 
-// The text of a token is put at this place. Answers where it ends.
+// The text of a token is put at this place. Returns the place after it.
 pub(crate) fn put_token(room: &mut [u8], at: usize, phase: Phase, point: Point) -> usize
     requires { HasSpace room.old at (length (entry_text (Token phase point))) }
     ensures put { ArePut room.old room.new at (entry_text (Token phase point)) result }
@@ -92,7 +92,7 @@ fn put_number(room: &mut [u8], at: usize, number: i64) -> usize
     put(room, at, &number_bytes(number))
 }
 
-// The bytes are put at this place. Answers where they end.
+// The bytes are put at this place. Returns the place after them.
 fn put(room: &mut [u8], at: usize, bytes: &[u8]) -> usize
     requires { HasSpace room.old at (length bytes.now) }
     ensures { ArePut room.old room.new at bytes.now result }

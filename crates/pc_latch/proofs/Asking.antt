@@ -1,4 +1,4 @@
--- What a session was answered.
+-- The answers to a session.
 use Rattle.std.proofs.Common.{◌≡◌, ℕ, subst}
 use Rattle.pc_types.specs.declared.Event.{Event}
 use Rattle.pc_types.specs.declared.Reply.{Reply}
@@ -12,7 +12,7 @@ use Rattle.pc_tie.specs.declared.sight.Sitting.{Sitting}
 use Rattle.pc_tie.specs.Seats.{MovesOn}
 use Rattle.pc_latch.specs.Asked.{IsAsked}
 
--- an event that is asked under the number of the session
+-- a call with the session's number
 pub asked : (st : Setting) (old new : Store) (hist : History) (n : ℕ) (before after : Sitting) (E : ℕ → Event) (reply : Reply) (step : Step) → step ≡ step_of (E n) reply → n ≡ before.number → Stands old hist → setting_of old ≡ st → Follows (setting_of old) hist (E n) reply new →
     HasCallsOf hist before.number before.seen → after.number ≡ before.number → MovesOn st before.seen step after.seen → IsAsked st before (E before.number) reply after
 asked st old new hist n before after E reply step said own stands is follows knew same moves = record {

@@ -1,4 +1,4 @@
--- Batches of entries, one entry after the other.
+-- Batches of entries, entry by entry.
 use Rattle.std.proofs.Common.{◌≡◌, ℕ, zero, suc, ◌+◌, ◌-◌, ◌<◌, ◌≤◌, List, [], ◌∷◌, ◌++◌, length, get_or, take, drop, refl, ap, sym, ◌∙◌, append_assoc, append-nil, arith}
 use Rattle.std.specs.Prelude.{Some, slice_get}
 use Rattle.std.proofs.lemmas.List.{take_more, drop_more, drop_all, length-take-le, length-drop, get_or-drop}
@@ -8,12 +8,12 @@ use Rattle.pc_model.specs.History.{History, log_of}
 use Rattle.pc_log.specs.Texts.{entry_text}
 use Rattle.pc_latch.specs.Batches.{batch}
 
--- where there is room, a batch has the first entry
+-- if there is room, a batch has the first entry
 batch_first : (room : ℕ) (entry : Entry) (entries : List Entry) → 0 < room → batch room (entry ∷ entries) ≡ entry ∷ batch (room - length (entry_text entry)) entries
 batch_first zero entry entries h = let no : ⊥ = omega (arith, h) in absurd no
 batch_first (suc room) entry entries h = refl
 
--- where there is no room, or no entry, it has none
+-- if there is no room, or no entry, it has none
 pub batch_no_room : (room : ℕ) (entries : List Entry) → room ≡ 0 → batch room entries ≡ []
 batch_no_room zero entries h = refl
 batch_no_room (suc room) entries h = let no : ⊥ = omega (arith, h) in absurd no
@@ -44,23 +44,23 @@ module _ (room : ℕ) (entries : List Entry) where
   batch_ends left i all so =
       sym (append-nil (take i entries)) ∙ (ap (λ (l : List Entry). take i entries ++ l) (sym (ap (batch left) (drop_all i entries all) ∙ batch_none left)) ∙ so)
 
--- a batch is one by itself
+-- the batch of a batch is the batch
 pub batch_again : (room : ℕ) (entries : List Entry) → batch room (batch room entries) ≡ batch room entries
 batch_again zero entries = refl
 batch_again (suc room) [] = refl
 batch_again (suc room) (entry ∷ entries) = ap (λ (l : List Entry). entry ∷ l) (batch_again (suc room - length (entry_text entry)) entries)
 
--- the batch behind what was given is said of the log of the history
+-- the batch after the given entries is one of the log of the history
 pub batch_behind : (room count : ℕ) (log next : List Entry) (hist now : History) (given : List Entry) → next ≡ batch room (drop count log) → log ≡ log_of hist → hist ≡ now
     → length given ≡ count → next ≡ batch room (drop (length given) (log_of now))
 batch_behind room count log next hist now given is log_is same counted =
     is ∙ ap (λ (l : List Entry). batch room (drop count l)) (log_is ∙ ap log_of same) ∙ ap (λ (n : ℕ). batch room (drop n (log_of now))) (sym counted)
 
--- some of the first ones are so many of them
+-- a list of the first ones is the first n of them
 pub taken_are : {X : Type 0} (n : ℕ) (xs ys : List X) → ys ≡ take n xs → n ≤ length xs → ys ≡ take (length ys) xs
 taken_are n xs ys is le = is ∙ ap (λ (k : ℕ). take k xs) (sym (ap length is ∙ length-take-le n xs le))
 
--- what was counted is the batch of the entries behind the first ones
+-- the counted entries are the batch after the first ones
 module _ (first count : ℕ) (log next : List Entry) (is : take count (drop first log) ≡ next) (within : first + count ≤ length log) where
   there : count ≤ length (drop first log)
   there = omega (arith, within, length-drop first log)
@@ -71,12 +71,12 @@ module _ (first count : ℕ) (log next : List Entry) (is : take count (drop firs
   pub next_first : next ≡ take (length next) (drop first log)
   next_first = taken_are count (drop first log) next (sym is) there
 
--- an entry that stands there
+-- an entry at a place in the list
 pub one_there : {X : Type 0} (xs : List X) (i : ℕ) → i < length xs → (x : X) × (slice_get xs i ≡ Some x)
 one_there [] i lt = let no : ⊥ = omega (arith, lt) in absurd no
 one_there (x ∷ xs) zero lt = (x, refl)
 one_there (x ∷ xs) (suc i) lt = one_there xs i (omega (arith, lt))
 
--- the same behind the first ones
+-- the same after the first ones
 pub behind_first : {X : Type 0} (n i place : ℕ) (xs : List X) (x : X) → slice_get xs place ≡ Some x → place ≡ n + i → get_or (drop n xs) i x ≡ x
 behind_first n i place xs x at is = get_or-drop n xs i x ∙ ap (λ (k : ℕ). get_or xs k x) (sym is) ∙ get_or_from_slice_get xs place x x at

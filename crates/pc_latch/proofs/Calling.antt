@@ -1,4 +1,4 @@
--- What the checkpointer has seen after a call.
+-- The history that the checkpointer has seen after a call.
 use Rattle.std.proofs.Common.{◌≡◌, ◌∷◌, ◌++◌, Bool, true, false, cond, [], sym, subst}
 use Rattle.pc_types.specs.declared.Step.{Step}
 use Rattle.pc_types.specs.declared.Event.{Event}

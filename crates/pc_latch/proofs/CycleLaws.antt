@@ -1,4 +1,4 @@
--- The phase, the point, the shelf and the phases that were entered are told by the checkpointer's calls alone.
+-- The phase, the point, the shelf and the phases that were entered depend on the checkpointer's calls alone.
 use Rattle.std.proofs.Common.{◌≡◌, ◌==◌, ◌&&◌, ℕ, Bool, true, false, cond, List, [], ◌∷◌, ◌++◌, refl, ap, sym, ◌∙◌, subst}
 use Rattle.std.specs.Prelude.{⊤, Option, Some, None}
 use Rattle.std.proofs.lemmas.List.{append-nil}
@@ -89,7 +89,7 @@ shelved_aside run (Shelves point) h files is = absurd is
 shelved_aside run (Joins a b) h files is = absurd is
 shelved_aside run other h files is = refl
 
--- what goes from step to step by what it was before, and is left by such effects, is told by the checkpointer's calls
+-- a function of the history that such effects leave unchanged depends on the checkpointer's calls alone
 of_own : {A : Type 0} (f : History → A) → ((c : Step) (h k : History) → f h ≡ f k → f (c ∷ h) ≡ f (c ∷ k)) → ((c : Step) (h : History) → IsAside (effect c) → f (c ∷ h) ≡ f h) → (h : History) → f (calls_of 0 h) ≡ f h
 of_own f on aside [] = refl
 of_own f on aside (c ∷ h) = by_case (is_call_of 0 c) refl (of_own f on aside h)
@@ -114,7 +114,7 @@ module _ (history seen : History) (has : HasCallsOf history 0 seen) where
       (of_own phases_entered (λ c h k e. ap (λ l. l ++ entered_by (effect c)) e) (λ c h is. ap (λ l. phases_entered h ++ l) (entered_aside (effect c) is) ∙ append-nil (phases_entered h)))
       history seen has
 
--- the shelf goes on by itself and by what was taken
+-- the shelf depends on itself and on the keys that were taken
 shelf_on : (run : ℕ) (e : Effect) (h k : History) (files : List File) → taken h ≡ taken k → shelved_by run e h files ≡ shelved_by run e k files
 shelf_on run (Shelves point) h k files is = ap (λ ts. record { run = run; points = set.insert set.empty point; triples = triples_taken point ts } ∷ []) is
 shelf_on run (Joins a b) h k files is = refl
@@ -123,7 +123,7 @@ shelf_on run other h k files is = refl
 abbrev Takings : Type 0
 Takings = List (List ℕ × Option (List ℕ))
 
--- the shelf, and what was taken
+-- the shelf, and the keys that were taken
 abbrev shelved : ℕ → History → List File × Takings
 shelved run h = (shelf run h, taken h)
 
@@ -143,7 +143,7 @@ pub shelf_known : (run : ℕ) (history seen : History) → HasCallsOf history 0 
 shelf_known run history seen has =
     ap (λ (y : List File × Takings). y.0) (known (shelved run) (of_own (shelved run) (shelved_on run) (shelved_aside_too run)) history seen has)
 
--- what the checkpointer's call came right behind
+-- the step just before the checkpointer's call
 pub right_before : (st : Setting) (before after : History) (step : Step) → session_of step.event ≡ 0 → Extends st before step after → (middle : History) × (after ≡ step ∷ middle) × HasCallsOf middle 0 before
 right_before st before after step own x =
     let between = x.1.0 in

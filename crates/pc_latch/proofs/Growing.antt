@@ -24,7 +24,7 @@ grown_set old new i h g lt more = (length-set new i h ∙ g.0, at)
         (λ (e : k ≢ i). subst (λ (c : History). IsBeginning (get_or old k d) c) (sym (get_or-set_other new i k h d e)) (g.1 k d within))
         (cases_eq k i)
 
--- what the file is worth stays
+-- the file is still that of its points
 pub worth_grown : (st : Setting) (old new : List History) (file : File) → HaveGrown old new → IsFileWorth st old file → IsFileWorth st new file
 worth_grown st old new file g worth h legal begins =
     worth h legal (λ k d lt. beginning_trans (get_or old k d) (get_or new k d) h (g.1 k d lt) (begins k d (let e = g.0 in omega (arith, e, lt))))
@@ -34,7 +34,7 @@ same_at [] k d e lt = absurd (omega arith)
 same_at (x ∷ xs) zero d e lt = refl
 same_at (x ∷ xs) (suc k) d e lt = same_at xs k d e (omega arith)
 
--- of one more it is told what had been seen
+-- of one more, the history that had been seen is known
 pub told_more : (old new : List History) (k : ℕ) (hist : History) → HaveGrown old new → k < length old → ((d : History) → IsBeginning (get_or new k d) hist)
     → ((j : ℕ) (d : History) → j < k → IsBeginning (get_or old j d) hist) → (j : ℕ) (d : History) → j < k + 1 → IsBeginning (get_or old j d) hist
 told_more old new k hist g within now before j d lt =

@@ -1,4 +1,4 @@
--- That a read is of an own write is told by what the session has seen.
+-- The session's history determines whether a read is of an own write.
 use Rattle.std.proofs.Common.{◌≡◌, ℕ, Bool, true, false, true≢false, Some, None, refl, ap, sym, ◌∙◌, cond, arith}
 use Rattle.std.proofs.lemmas.Bool.Decides.{nat_tests}
 use Rattle.pc_model.specs.History.{History, is_open}
@@ -21,7 +21,7 @@ writes_when : (is : Bool) (t : Active) → is ≡ true → writes_in (cond is (S
 writes_when true t e = refl
 writes_when false t e = absurd (true≢false (sym e))
 
--- what a session's open transaction has written is what its own calls say
+-- the session's own calls determine what its open transaction has written
 module _ (w : Store) (hist seen : History) (s : ℕ) (stands : Stands w hist) (known : no_session (setting_of w) s ≡ false) (has : HasCallsOf hist s seen) (opened : is_open s seen ≡ true) where
   same : own_of s hist ≡ own_of s seen
   same = sym (own_own s hist) ∙ (ap (own_of s) has.1 ∙ own_own s seen)

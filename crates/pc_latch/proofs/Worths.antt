@@ -1,4 +1,4 @@
--- What tickets are worth: one that was just handed out, and the join of two.
+-- The files of tickets: of one that was just handed out, and of the join of two.
 use Rattle.std.proofs.Common.{◌≡◌, ◌≢◌, ◌⊎◌, inl, inr, ◌<◌, get_or, ⊎_elim, ℕ, ◌+◌, Bool, true, false, List, [], ◌∷◌, ◌++◌, ◌-◌, eqb, cond, length, length-append, All, ap, sym, ◌∙◌, subst, arith}
 use Rattle.std.specs.Prelude.{Some, None, Contains, slice_get, Result, Ok, Err, IfErr}
 use Rattle.std.proofs.lemmas.Bool.{cases_eq}
@@ -35,7 +35,7 @@ pub worth_joined : (st : Setting) (xs ys zs : List History) (a b file : File) �
 worth_joined st xs ys zs a b file is of k m = subst (λ (y : List History × File). IsFileWorth st y.0 y.1) (λ i. (sym is i, sym of i))
     (λ h legal begins. joined_of_points st.run st.base (log_of h) a b (k h legal (all_left (λ (d : History). IsBeginning d h) xs ys begins)) (m h legal (all_right (λ (d : History). IsBeginning d h) xs ys begins)))
 
--- a witness of the history, and a file that is that of its points by it
+-- a witness of the history, and a file that is that of its points in it
 pub worth_new : (st : Setting) (h w : History) (ws : List History) (file : File) → ws ≡ w ∷ [] → w ≡ h → IsOfItsPoints st.run st.base (log_of h) file → IsFileWorth st ws file
 worth_new st h w ws file is sees of = worth_same st (w ∷ []) ws file is
     (λ g legal begins. files_stay st h g file legal (subst (λ (l : History). IsBeginning l g) sees (All-head (λ (d : History). IsBeginning d g) w [] begins)) of)
@@ -56,7 +56,7 @@ shelved_worth st w h n f is s at =
 pub shelved_points : (w : Store) (h : History) (n : ℕ) (f : File) → Stands w h → HasNoJoins h → file_at w.shelf n ≡ Some f → f.points ≡ set.insert set.empty n
 shelved_points w h n f s none at = files_numbered (setting_of w) h n f (legal_has_legal_effects (setting_of w) h s.legal) none (ap (λ l. file_at l n) (sym s.parts.cycle.shelved) ∙ at)
 
--- what the world's shelf has is what that of the history has, after which it stands
+-- the world's shelf has the files of the shelf of the history that it represents
 pub shelved_by_history : (st : Setting) (w : Store) (h seen : History) (n : ℕ) → setting_of w ≡ st → Stands w h → h ≡ seen → file_at (shelf st.run seen) n ≡ file_at w.shelf n
 shelved_by_history st w h seen n is s same =
     ap (λ (l : History). file_at (shelf st.run l) n) (sym same) ∙ (ap (λ (t : Setting). file_at (shelf t.run h) n) (sym is) ∙ ap (λ l. file_at l n) (sym s.parts.cycle.shelved))
@@ -76,7 +76,7 @@ not_missing st w h seen n f is s same at none = no_file (sym none ∙ some_hande
     no_file : None ≡ Some f → ⊥
     no_file e = cc
 
--- what is told of tickets by one history is told by another one with the same shelf
+-- a fact of tickets in one history holds in another one with the same shelf
 pub same_refusal : {T : Type 0} (st : Setting) (h seen : History) (n : ℕ) (r : Result T Refusal) → shelf st.run h ≡ shelf st.run seen → IfErr r (IsNoTicket st h n) → IfErr r (IsNoTicket st seen n)
 same_refusal st h seen n (Ok ticket) same told = tt
 same_refusal st h seen n (Err given) same told = by_why given told
@@ -86,7 +86,7 @@ same_refusal st h seen n (Err given) same told = by_why given told
     by_why why.OutOfMemory none = tt
     by_why other none = absurd none
 
--- of one more it is told what it is worth
+-- one more keeps the fact
 pub worth_more : (P : File → Type 0) (files : List File) (k : ℕ) → ((d : File) → P (get_or files k d)) → ((j : ℕ) (d : File) → j < k → P (get_or files j d)) → (j : ℕ) (d : File) → j < k + 1 → P (get_or files j d)
 worth_more P files k now before j d lt =
     ⊎_elim (λ (e : j ≡ k). subst (λ (n : ℕ). P (get_or files n d)) (sym e) (now d)) (λ (e : j ≢ k). before j d (omega (arith, lt, e))) (cases_eq j k)

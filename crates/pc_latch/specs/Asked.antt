@@ -7,8 +7,9 @@ use Rattle.pc_model.specs.Calls.{step_of, IsAnswered}
 use Rattle.pc_tie.specs.declared.sight.Sitting.{Sitting}
 use Rattle.pc_tie.specs.Seats.{MovesOn}
 
--- The session asked the event, and was answered so. It keeps its number, and what it has seen moves on by that. The reply is one
--- that the store may give after some legal history with all that the session had seen, and no other call of it.
+-- The session made a call with the event, and got this reply. It keeps its number, and the history that it has seen is extended by
+-- the call. The reply is one that the store may give after some legal history with all that the session had seen, and no other call
+-- of it.
 pub record IsAsked (st : Setting) (before : Sitting) (event : Event) (reply : Reply) (after : Sitting) : Type 0 where
   pub number : after.number ≡ before.number
   pub moves : MovesOn st before.seen (step_of event reply) after.seen

@@ -20,19 +20,19 @@ next_event Resolve = asked.OpenCapture
 next_event Capture = asked.Done
 next_event Complete = asked.Rest
 
--- The checkpointer asked the event, and was answered so. What it has seen moves on by that. The reply is one that the store may
--- give after some legal history with all that the checkpointer had seen, and no other call of it. Each take that it has seen has
--- carried what its key had at the point.
+-- The checkpointer made a call with the event, and got this reply, which extends the history that it has seen. The reply is one
+-- that the store may give after some legal history with all that the checkpointer had seen, and no other call of it. Each take that
+-- it has seen has carried its key's value at the point.
 pub record IsCalled (st : Setting) (before : History) (event : Event) (reply : Reply) (after : History) : Type 0 where
   pub moves : MovesOn st before (step_of event reply) after
   pub answered : IsAnswered st 0 before event reply
   pub values : TakesPointValue st.base after
 
--- it asked the event that ends the phase
+-- it called with the event that ends the phase
 abbrev pub IsAdvance : Setting → History → Reply → History → Type 0
 IsAdvance st before reply after = IsCalled st before (next_event (phase_of before)) reply after
 
--- it asked for a key of the point
+-- it called for a key of the point
 abbrev pub IsTakeCalled : Setting → History → Reply → History → Type 0
 IsTakeCalled st before reply after = IsCalled st before asked.Take reply after
 

@@ -1,4 +1,4 @@
-//! The calls of sessions, each with an answer of its own. What the session has seen moves on by the call, where that counts.
+//! The calls of sessions; each call has its own type of answer. A call that isn't refused extends the history that the session has seen.
 ghost use Rattle.std.specs.Prelude.{◌≡◌, ◌∷◌, true, is_some, IfOk};
 ghost use Rattle.pc_types.specs.declared.Event.TheVariants.{Begin, Get, Put, Del, Add, Commit, Abort};
 ghost use Rattle.pc_model.specs.Database.{written};
@@ -16,7 +16,7 @@ use pc_engine::World;
 use pc_tie::{NotedStep, SessionSeat, StoreName, Tie};
 use pc_types::{Key, Lsn, Outcome, Refusal, SessionNo, TxnNo, Value};
 
-// Reads the key in the world; where whoever asks has no room for the answer, the world refuses.
+// Reads the key in the world. If the caller has no room for the answer, the world refuses.
 fn read(
     world: &mut World,
     session: SessionNo,
@@ -34,7 +34,7 @@ fn read(
     }
 }
 
-// Commits in the world; where whoever asks has no room for the receipt, the world refuses.
+// Commits in the world. If the caller has no room for the receipt, the world refuses.
 fn commit(world: &mut World, session: SessionNo, has_room: bool) -> Result<Lsn, Refusal>
     ensures follows { (history : History) → Stands world.old history → Follows (setting_of world.old) history (Commit session) (commit_reply result) world.new }
     ensures setting { setting_of world.new ≡ setting_of world.old }
@@ -62,8 +62,8 @@ impl<N: StoreName> Latched<N> {
         answer
     }
 
-    /// The session reads the key. Where it has no room for the answer, the read is refused: with the cause that stands before, or
-    /// else with `OutOfMemory`. It tells too whether the session's own open transaction has written the key.
+    /// The session reads the key. If it has no room for the answer, the read is refused: with the cause that comes first, otherwise
+    /// with `OutOfMemory`. Also says whether the session's own open transaction has written the key.
     pub fn get(
         &mut self,
         tie: &Tie<N>,
@@ -125,7 +125,7 @@ impl<N: StoreName> Latched<N> {
         answer
     }
 
-    /// The session adds to the number that the key has.
+    /// The session adds to the key's number.
     pub fn add(
         &mut self,
         tie: &Tie<N>,
@@ -145,8 +145,8 @@ impl<N: StoreName> Latched<N> {
         answer
     }
 
-    /// The session commits. Where it has no room for the receipt, the commit is refused: with the cause that stands before, or
-    /// else with `OutOfMemory`.
+    /// The session commits. If it has no room for the receipt, the commit is refused: with the cause that comes first, otherwise
+    /// with `OutOfMemory`.
     pub fn commit(
         &mut self,
         tie: &Tie<N>,

@@ -1,4 +1,4 @@
-//! What lies under the latch: the world, and the keeper of its history.
+//! The state under the latch: the world, and the keeper of its history.
 ghost use Rattle.std.specs.Prelude.{◌≡◌, ◌≤◌, ◌↔◌, ◌∷◌, ◌++◌, [], true, Err, Some, None, IfOk, IfErr, OnErr, length, drop};
 ghost use mathlib.Core.List.{IsPrefix};
 ghost use Rattle.pc_types.specs.declared.Event.TheVariants.{Take};
@@ -25,7 +25,7 @@ use pc_types::{Event, FileNo, Phase, Refusal, Reply, SessionNo};
 use std::alloc::Global;
 use std::marker::Model;
 
-/// The world of a shared store, and the keeper of its history. Contracts see the history, after which the world stands.
+/// The world of a shared store, and the keeper of its history. Contracts see the history, which the world represents.
 #[derive(Drop)]
 pub struct Latched<N: StoreName> {
     pub(crate) world: World,
@@ -69,15 +69,14 @@ impl<N: StoreName> Latched<N> {
         Latched { world, keeper }
     }
 
-    /// Whether a request of the session's open transaction waits for a lock; false where it has none open, and where no session
-    /// has this number.
+    /// Whether a request of the session's open transaction waits for a lock; false if it has none open, and if no session has this number.
     pub fn is_waiting(&self, session: SessionNo) -> bool
         ensures { result ≡ waits_after N.name.setting session self.now }
     {
         self.world.is_waiting(session)
     }
 
-    // The checkpointer asks the event.
+    // The checkpointer calls with the event.
     fn call_own(
         &mut self,
         tie: &Tie<N>,
@@ -100,7 +99,7 @@ impl<N: StoreName> Latched<N> {
         reply
     }
 
-    /// The checkpointer asks for the event that ends the phase.
+    /// The checkpointer calls with the event that ends the phase.
     pub fn advance(&mut self, tie: &Tie<N>, checkpointer: &mut CheckpointerSeat<N>) -> Reply
         ensures history { self.new ≡ step_of (next_event (phase_of self.old)) result ∷ self.old }
         ensures called { IsAdvance N.name.setting checkpointer.old result checkpointer.new }
@@ -127,8 +126,8 @@ impl<N: StoreName> Latched<N> {
         answer
     }
 
-    /// The texts of the next entries of the log after those that the pass has handed out, as long as there is room for so many bytes of text,
-    /// which the last one may go beyond; the pass then has them too. Refuses with `OutOfMemory` alone, and the pass stays.
+    /// The texts of the next entries of the log after those that the pass has handed out, until they have `room` bytes, which the
+    /// last one may exceed; the pass then has them too. Its only error is `OutOfMemory`, and then the pass is unchanged.
     pub fn log_next(
         &mut self,
         alloc: Global,
@@ -152,8 +151,8 @@ impl<N: StoreName> Latched<N> {
         Ok(next)
     }
 
-    /// Whether the pass has handed out all entries that the log has: then it has each that the log had at the milestone. False too
-    /// where somebody else just compares the milestone.
+    /// Whether the pass has handed out all entries of the log: then it has each that the log had at the milestone. False too if
+    /// another thread is comparing the milestone.
     pub fn has_all(&mut self, tie: &Tie<N>, pass: &mut LogPass<N>, milestone: &Milestone<N>) -> bool
         ensures held { self.new ≡ self.old }
         ensures same { pass.new ≡ pass.old }
@@ -166,7 +165,7 @@ impl<N: StoreName> Latched<N> {
         self.keeper.compare_milestone(tie, milestone)
     }
 
-    /// How many entries the log has, at most 16,777,216.
+    /// The number of the log's entries, at most 16,777,216.
     pub fn log_len(&self) -> u32
         ensures len { result ≡ length (log_of self.now) }
         ensures legal { HasEntries N.name.setting result }
@@ -174,7 +173,7 @@ impl<N: StoreName> Latched<N> {
         self.world.log().len() as u32
     }
 
-    /// How many entries the log has, for the checkpointer, who has seen a beginning of the history: no fewer than it has seen.
+    /// The number of the log's entries, for the checkpointer, which has seen a beginning of the history: no fewer than it has seen.
     pub fn log_len_since(&mut self, tie: &Tie<N>, checkpointer: &mut CheckpointerSeat<N>) -> u32
         ensures same { (self.new ≡ self.old) × (checkpointer.new ≡ checkpointer.old) }
         ensures len { result ≡ length (log_of self.old) }
@@ -186,7 +185,7 @@ impl<N: StoreName> Latched<N> {
         self.log_len()
     }
 
-    /// The world, which stands after the history, and the keeper of the history.
+    /// The world, which represents the history, and the keeper of the history.
     pub fn into_parts(self) -> (World, Keeper<N>)
         ensures stands { Stands result.0 self × (setting_of result.0 ≡ N.name.setting) }
         ensures keeper { (result.1.history ≡ self) × (result.1.guests ≡ []) }
@@ -224,8 +223,8 @@ impl<N: StoreName> Latched<N> {
         })
     }
 
-    /// A ticket of the shelf's file of this number, for the checkpointer, who knows the shelf. Refuses with `NoFile` exactly
-    /// where there is none, and else only with `OutOfMemory`.
+    /// A ticket of the shelf's file of this number, for the checkpointer, which knows the shelf. Returns `NoFile` if and only if
+    /// there is none; otherwise its only error is `OutOfMemory`.
     pub fn take_part(
         &mut self,
         alloc: Global,
@@ -243,8 +242,8 @@ impl<N: StoreName> Latched<N> {
         self.ticket(alloc, tie, number)
     }
 
-    /// A ticket of the shelf's file of this number, for whoever has the witness, which then has seen the history. Refuses with
-    /// `NoFile` exactly where there is none, and else only with `OutOfMemory`.
+    /// A ticket of the shelf's file of this number, for the owner of the witness, which then has seen the history. Returns `NoFile`
+    /// if and only if there is none; otherwise its only error is `OutOfMemory`.
     pub fn take_shown(
         &mut self,
         alloc: Global,
@@ -265,7 +264,7 @@ impl<N: StoreName> Latched<N> {
         self.ticket(alloc, tie, number)
     }
 
-    // The witness sees the history as it is, of which it had seen a beginning.
+    // The witness now sees the current history, of which it had seen a beginning.
     fn renew(&mut self, tie: &Tie<N>, witness: &mut Witness<N>)
         ensures same { self.new ≡ self.old }
         ensures sees { witness.new ≡ self.old }
@@ -275,7 +274,7 @@ impl<N: StoreName> Latched<N> {
         self.keeper.renew(tie, witness);
     }
 
-    /// A milestone of the history as it is, which the witness then has seen.
+    /// A milestone of the current history, which the witness then has seen.
     pub fn milestone(&mut self, tie: &Tie<N>, witness: &mut Witness<N>) -> Milestone<N>
         ensures same { self.new ≡ self.old }
         ensures history { result ≡ witness.new }
@@ -287,7 +286,7 @@ impl<N: StoreName> Latched<N> {
         Milestone::new(self.witness(tie))
     }
 
-    /// A witness that has seen the history as it is.
+    /// A witness that has seen the current history.
     pub fn witness(&mut self, tie: &Tie<N>) -> Witness<N>
         ensures same { self.new ≡ self.old }
         ensures witness { result ≡ self.old }

@@ -1,4 +1,4 @@
-//! What lies under the latch of a store that threads share: one world and the keeper of its history; and what was handed out of
+//! The state under the latch of a store that threads share: one world and the keeper of its history; and the things handed out of
 //! it, tickets of parts and the logger's pass.
 #![tactic(auto)]
 

@@ -13,7 +13,7 @@ use pc_types::{MOST_LOG_ENTRIES, Refusal};
 use std::alloc::Global;
 use std::marker::Model;
 
-/// How far the log was handed out. Contracts see the entries that were: the first of the log, so many.
+/// How far the log was handed out. Contracts see the entries that were: a beginning of the log.
 #[derive(Drop)]
 pub struct LogPass<N: StoreName> {
     pub(crate) run: u64,
@@ -56,7 +56,7 @@ impl<N: StoreName> LogPass<N> {
         self.run
     }
 
-    /// How many entries were handed out, at most 16,777,216.
+    /// The number of entries that were handed out, at most 16,777,216.
     pub fn len(&self) -> usize
         ensures len { result ≡ length self.now }
         ensures legal { HasEntries N.name.setting result }
@@ -65,7 +65,7 @@ impl<N: StoreName> LogPass<N> {
         self.count
     }
 
-    // Its witness sees the keeper's history: what was handed out are the first entries of that one's log.
+    // Its witness sees the keeper's history; the entries that were handed out are the first ones of that history's log.
     pub(crate) fn renew(&mut self, tie: &Tie<N>, keeper: &mut Keeper<N>)
         requires alone { keeper.old.guests ≡ [] }
         requires legal { IsLegalHistory N.name.setting keeper.old.history }
@@ -76,7 +76,7 @@ impl<N: StoreName> LogPass<N> {
         keeper.renew(tie, &mut self.witness);
     }
 
-    /// Ends the pass: how many entries of the keeper's log were handed out, the first ones.
+    /// Ends the pass. Returns the number of entries of the keeper's log that were handed out, the first ones.
     pub fn close(self, tie: &Tie<N>, keeper: &mut Keeper<N>) -> usize
         requires { keeper.old.guests ≡ [] }
         ensures same { keeper.new ≡ keeper.old }
@@ -96,13 +96,13 @@ impl<N: StoreName> LogPass<N> {
 /// The texts of the next entries of a log.
 #[derive(Drop)]
 pub struct LogTexts {
-    /// The texts, one behind the other.
+    /// The texts, in order.
     pub text: Vec<u8>,
-    /// How many entries they are of.
+    /// The number of entries.
     pub count: usize,
 }
 
-// How many of the entries behind the first ones are handed out, where there is room for so many bytes of text.
+// The number of entries after the first ones that are handed out, with room for this many bytes of text.
 fn batch_len(log: &Log, first: usize, room: u32) -> usize
     requires { first ≤ length (entries_of log.now) }
     ensures within { first + result ≤ length (entries_of log.now) }
@@ -120,7 +120,7 @@ fn batch_len(log: &Log, first: usize, room: u32) -> usize
     count
 }
 
-// The next entries behind the first ones, as long as there is room for so many bytes of text.
+// The next entries after the first ones, until they have this many bytes of text.
 pub(crate) fn next_of(
     alloc: Global,
     log: &Log,

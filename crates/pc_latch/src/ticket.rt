@@ -14,8 +14,8 @@ use pc_types::Refusal;
 use std::alloc::Global;
 use std::marker::Model;
 
-/// A part of a store that was handed out, or a join of such. Contracts see its file, which is that of its points by every legal
-/// history that begins with what the ticket's witnesses have seen.
+/// A part of a store that was handed out, or a join of such parts. Contracts see its file, which is that of its points in every
+/// legal history that begins with each history that the ticket's witnesses have seen.
 #[derive(Drop)]
 pub struct PartTicket<N: StoreName> {
     pub(crate) alloc: Global,
@@ -46,14 +46,14 @@ fn join_shared(alloc: Global, a: &SharedPart, b: &SharedPart) -> Result<SharedPa
     SharedPart::new(alloc, part)
 }
 
-// Takes the second ones to the first, or says that memory ran out.
+// Appends the second ones to the first. False if an allocation failed.
 fn take_in<T>(first: &mut Vec<T>, second: &mut Vec<T>) -> bool
     ensures { MatchBool result (first.new.items ≡ first.old.items ++ second.old.items) ((first.new.items ≡ first.old.items) × (second.new.items ≡ second.old.items)) }
 {
     first.append(second).is_ok()
 }
 
-// The witnesses see the history as it is, of which they had seen beginnings.
+// The witnesses see the current history, of which they had seen beginnings.
 fn renew_all<N: StoreName>(tie: &Tie<N>, keeper: &mut Keeper<N>, witnesses: &mut Vec<Witness<N>>)
     requires { keeper.old.guests ≡ [] }
     ensures keeper { keeper.new ≡ keeper.old }
@@ -66,7 +66,7 @@ fn renew_all<N: StoreName>(tie: &Tie<N>, keeper: &mut Keeper<N>, witnesses: &mut
     }
 }
 
-/// The tickets' witnesses see the history as it is: by it each ticket's file is that of its points.
+/// The tickets' witnesses see the current history; in it each ticket's file is that of its points.
 pub fn renew_tickets<N: StoreName>(
     tie: &Tie<N>,
     keeper: &mut Keeper<N>,
@@ -84,14 +84,14 @@ pub fn renew_tickets<N: StoreName>(
 }
 
 impl<N: StoreName> PartTicket<N> {
-    /// Its part.
+    /// The part.
     pub fn part(&self) -> &Part
         ensures { result.now ≡ self.now }
     {
         self.part.part()
     }
 
-    /// Its part, taken out; others may own it too.
+    /// Takes out the part; others may own it too.
     pub fn into_part(self) -> SharedPart
         ensures { result ≡ self }
     {
@@ -103,7 +103,7 @@ impl<N: StoreName> PartTicket<N> {
         part
     }
 
-    // Its witnesses see the history as it is.
+    // Its witnesses see the current history.
     pub(crate) fn renew(&mut self, tie: &Tie<N>, keeper: &mut Keeper<N>)
         requires { keeper.old.guests ≡ [] }
         ensures same { self.new ≡ self.old }
@@ -113,8 +113,8 @@ impl<N: StoreName> PartTicket<N> {
         renew_all(tie, keeper, &mut self.witnesses);
     }
 
-    /// The join of both: a ticket of the points of both. No latch is asked. Refuses as the join of their parts does, or with
-    /// `OutOfMemory`; then both are handed back.
+    /// The join of both: a ticket of the points of both. It doesn't take the latch. Its errors are those of the join of their
+    /// parts, and `OutOfMemory`; then both are returned unchanged.
     pub fn join(
         self,
         other: PartTicket<N>,

@@ -1,4 +1,4 @@
--- The first word of a text, and what stands behind it.
+-- The first word of a text, and the rest after it.
 use Rattle.std.proofs.Common.{◌≡◌, ℕ, ◌+◌, ◌-◌, ◌<◌, ◌==◌, Bool, true, false, not, List, [], ◌∷◌, ◌++◌, length, take, drop, refl, sym, ap, subst, ◌∙◌, arith}
 use Rattle.std.specs.Prelude.{filter, nat_lt, cond, suc, Some, None}
 use Rattle.std.specs.List.{slice_split, position, position_or_len, before_first, after_first}
@@ -18,11 +18,11 @@ is_other b = not (b == 32)
 abbrev with_bytes : List (List ℕ) → List (List ℕ)
 with_bytes = filter (λ word. nat_lt 0 (length word))
 
--- where a byte passes, its place is told
+-- if a byte passes, its place is returned
 pub found_at : (p : ℕ → Bool) (text : List ℕ) (at : ℕ) → position p text ≡ Some at → at ≡ position_or_len p text
 found_at p text at e = grind (arith, common_steps)
 
--- where none does, the length is
+-- if none does, the length is
 pub found_none : (p : ℕ → Bool) (text : List ℕ) → position p text ≡ None → length text ≡ position_or_len p text
 found_none p text e =
     let within = prefix_len-le-length (λ b. not (p b)) text in
@@ -45,7 +45,7 @@ behind_spaces (b ∷ text) = by (b == 32) refl (behind_spaces text)
         ∙ sym (ap (λ x. words_of (drop (cond (not (not x)) (1 + position_or_len is_other text) 0) (b ∷ text))) e)
     by false e rest = sym (ap (λ x. words_of (drop (cond (not (not x)) (1 + position_or_len is_other text) 0) (b ∷ text))) e)
 
--- behind the spaces a word begins
+-- after the spaces a word begins
 pub word_begins : (text : List ℕ) → 0 < length (drop (position_or_len is_other text) text) → 0 < position_or_len is_space (drop (position_or_len is_other text) text)
 word_begins [] some = absurd (omega arith)
 word_begins (b ∷ text) some = by (b == 32) refl (word_begins text) some
@@ -66,7 +66,7 @@ kept word words some =
     let has : nat_lt 0 (length word) ≡ true = grind (arith, nat_tests) in
     ap (λ x. cond x (word ∷ with_bytes words) (with_bytes words)) has
 
--- a text that begins with a word, behind which a space stands
+-- a text that begins with a word, after which comes a space
 pub word_ends : (text : List ℕ) → 0 < position_or_len is_space text → position_or_len is_space text < length text
     → words_of text ≡ take (position_or_len is_space text) text ∷ words_of (drop (position_or_len is_space text + 1) text)
 word_ends text some within =
@@ -79,7 +79,7 @@ word_alone text some whole =
     ap with_bytes (slice_split_none is_space text (λ k d l. fails_before_first is_space text k d (omega (arith, whole))))
     ∙ kept text [] some
 
--- The rest of a text, as it is cut off behind a place.
+-- The rest of a text, as it is truncated after a place.
 abbrev pub behind : ℕ → List ℕ → List ℕ
 behind at text = take (length text - at) (drop at text)
 
@@ -90,7 +90,7 @@ begins_with_word : (text : List ℕ) (at : ℕ) → at ≡ position_or_len is_ot
 begins_with_word text at place some =
     subst (λ t. 0 < length t → 0 < position_or_len is_space t) (ap (λ n. drop n text) (sym place) ∙ sym (take_rest text at)) (word_begins text) some
 
--- nothing stands behind the spaces
+-- nothing comes after the spaces
 pub no_word : (text : List ℕ) (at : ℕ) → at ≡ position_or_len is_other text → length (behind at text) ≡ 0 → words_of text ≡ []
 no_word text at place none = same_words text at place ∙ ap words_of (empty (behind at text) none)
   where
@@ -98,7 +98,7 @@ no_word text at place none = same_words text at place ∙ ap words_of (empty (be
     empty [] e = refl
     empty (b ∷ t) e = absurd (omega (arith, e))
 
--- a word stands there, and no space behind it
+-- a word is there, and no space after it
 pub lone_word : (text : List ℕ) (at end : ℕ) → at ≡ position_or_len is_other text → end ≡ position_or_len is_space (behind at text)
     → 0 < length (behind at text) → end ≡ length (behind at text) → words_of text ≡ behind at text ∷ words_of (behind end (behind at text))
 lone_word text at end place place_end some whole =
@@ -108,7 +108,7 @@ lone_word text at end place place_end some whole =
     none : (t : List ℕ) (n : ℕ) → n ≡ length t → [] ≡ behind n t
     none t n e = let zero : length t - n ≡ 0 = omega (arith, e) in sym (ap (λ k. take k (drop n t)) zero)
 
--- a word stands there, and a space behind it
+-- a word is there, and a space after it
 pub word_before : (text : List ℕ) (at end : ℕ) → at ≡ position_or_len is_other text → end ≡ position_or_len is_space (behind at text)
     → 0 < length (behind at text) → end < length (behind at text) → words_of text ≡ take end (behind at text) ∷ words_of (behind (end + 1) (behind at text))
 word_before text at end place place_end some within =
@@ -121,6 +121,6 @@ whole : (xs ys : List (List ℕ)) → take (length xs) (xs ++ ys) ≡ xs
 whole [] ys = refl
 whole (x ∷ xs) ys = ap (λ t. x ∷ t) (whole xs ys)
 
--- the first words of a list of words are those that stand first
+-- the first words of a list of words are those at its front
 pub first_are : (n : ℕ) (words text rest : List (List ℕ)) → text ≡ words ++ rest → length words ≡ n → words ≡ take n text
 first_are n words text rest e size = sym (ap (take n) e ∙ subst (λ k. take k (words ++ rest) ≡ words) size (whole words rest))

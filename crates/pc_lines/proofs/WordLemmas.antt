@@ -16,7 +16,7 @@ digit_at [] i h lt = absurd (omega arith)
 digit_at (d ∷ ds) zero h lt = (grind (arith, nat_tests), grind (arith, nat_tests))
 digit_at (d ∷ ds) (suc i) h lt = digit_at ds i (grind (arith, nat_tests)) (omega arith)
 
--- what a digit is worth
+-- the value of a digit
 pub digit_worth : (d : ℕ) → 47 < d → d < 58 → digit_value d ≡ d - 48
 digit_worth d low high = grind (arith, nat_tests)
 
@@ -59,7 +59,7 @@ no_escape b x high low h =
     let other : (b == 92) ≡ false = grind (arith, nat_tests) in
     ap (λ y. if y && (x == 120) then hex_byte (hex_value high) (hex_value low) else None) other
 
--- a word of plain bytes stands for them
+-- a word of plain bytes represents them
 pub plain_word : (word : List ℕ) → list_all is_plain word ≡ true → unescaped word ≡ Some word
 plain_word [] h = refl
 plain_word (b ∷ []) h = plain_in_front b [] (both _ _ h).0 refl

@@ -15,11 +15,11 @@ use Rattle.pc_lines.specs.Words.{number_of, signed_number_of, text_of, key_text_
 abbrev pub lines_in : List ℕ → List (List ℕ)
 lines_in script = map without_terminator (lines_of script)
 
--- the words of a line: what stands between its spaces, without the empty pieces
+-- the words of a line: the texts between its spaces, without the empty ones
 abbrev pub words_of : List ℕ → List (List ℕ)
 words_of text = filter (λ word. nat_lt 0 (length word)) (slice_split (λ b. b == 32) text)
 
--- a key has 1 to 255 bytes of its own, behind its space's two
+-- a key has 1 to 255 bytes of its own, after its space's two
 abbrev pub is_key : List ℕ → Bool
 is_key key = nat_lt SPACE_BYTES (length key) && nat_le (length key) (SPACE_BYTES + MOST_KEY_BYTES)
 
@@ -73,7 +73,7 @@ numbered_line verb number =
     else (if bytes_eq verb (codes "state") then line.Shows (view.State number)
     else (if bytes_eq verb (codes "text") then line.Shows (view.Text number) else line.Malformed))))
 
--- the same where the number may be no number
+-- the same if the number may be no number
 abbrev pub numbered : List ℕ → Option ℕ → Line
 numbered verb (Some number) = numbered_line verb number
 numbered verb None = line.Malformed

@@ -14,7 +14,7 @@ is_digit b = nat_lt 47 b && nat_lt b 58
 abbrev pub is_numeral : List ℕ → Bool
 is_numeral word = nat_lt 0 (length word) && nat_lt (length word) 10 && list_all is_digit word
 
--- the number that a word writes; none where it isn't 1 to 9 decimal digits
+-- the number that a word writes; none if it isn't 1 to 9 decimal digits
 abbrev pub number_of : List ℕ → Option ℕ
 number_of word = if is_numeral word then Some (digits_value 10 word) else None
 
@@ -22,11 +22,11 @@ number_of word = if is_numeral word then Some (digits_value 10 word) else None
 abbrev pub is_long_numeral : List ℕ → Bool
 is_long_numeral word = nat_lt 0 (length word) && nat_lt (length word) 20 && list_all is_digit word
 
--- the number, where 64 bits hold it with its sign
+-- the number, if 64 bits hold it with its sign
 abbrev pub held : ℤ → Option ℤ
 held z = if fits z then Some z else None
 
--- the same of the number of this size, which is below 0 where there is a minus
+-- the same of the number of this size, which is below 0 if there is a minus
 abbrev pub signed_by : Bool → ℕ → Option ℤ
 signed_by minus size = held (if minus then neg_ℤ (pos size) else pos size)
 
@@ -34,13 +34,13 @@ signed_by minus size = held (if minus then neg_ℤ (pos size) else pos size)
 abbrev pub number_by : Bool → List ℕ → Option ℤ
 number_by minus digits = if is_long_numeral digits then signed_by minus (digits_value 10 digits) else None
 
--- the signed number that a word writes: 1 to 19 decimal digits, with a hyphen before them as its minus; none where it isn't
--- so, or 64 bits don't hold the number
+-- the signed number that a word writes: 1 to 19 decimal digits, with a hyphen before them as its minus; none if it isn't so, or 64
+-- bits don't hold the number
 abbrev pub signed_number_of : List ℕ → Option ℤ
 signed_number_of [] = None
 signed_number_of (b ∷ word) = if b == 45 then number_by true word else number_by false (b ∷ word)
 
--- a byte that stands for itself: 0x21 to 0x7E, but not the backslash
+-- a byte that represents itself: 0x21 to 0x7E, but not the backslash
 abbrev pub is_plain : ℕ → Bool
 is_plain b = nat_lt 32 b && nat_lt b 127 && not (b == 92)
 
@@ -53,7 +53,7 @@ abbrev pub hex_byte : Option ℕ → Option ℕ → Option ℕ
 hex_byte (Some high) (Some low) = Some (high * 16 + low)
 hex_byte high low = None
 
--- the byte that an escape stands for: a backslash, an x and two hexadecimal digits
+-- the byte that an escape represents: a backslash, an x and two hexadecimal digits
 abbrev pub escaped : ℕ → ℕ → ℕ → ℕ → Option ℕ
 escaped b x high low = if b == 92 && x == 120 then hex_byte (hex_value high) (hex_value low) else None
 
@@ -66,24 +66,24 @@ with_byte b (Some text) = Some (b ∷ text)
 abbrev pub with_plain : ℕ → Option (List ℕ) → Option (List ℕ)
 with_plain b text = if is_plain b then with_byte b text else None
 
--- the text with the escape's byte in front, or the other one where there is no escape
+-- the text with the escape's byte in front, or the other one if there is no escape
 abbrev pub with_escape : Option ℕ → Option (List ℕ) → Option (List ℕ) → Option (List ℕ)
 with_escape (Some b) text other = with_byte b text
 with_escape None text other = other
 
--- the bytes that a word of plain bytes and escapes stands for
+-- the bytes that a word of plain bytes and escapes represents
 abbrev pub unescaped : List ℕ → Option (List ℕ)
 unescaped [] = Some []
 unescaped (b ∷ x ∷ high ∷ low ∷ word) = with_escape (escaped b x high low) (unescaped word) (with_plain b (unescaped (x ∷ high ∷ low ∷ word)))
 unescaped (b ∷ word) = with_plain b (unescaped word)
 
--- the text of a key or value word: a hyphen alone stands for no bytes
+-- the text of a key or value word: a hyphen alone represents no bytes
 abbrev pub text_of : List ℕ → Option (List ℕ)
 text_of word = if bytes_eq word (45 ∷ []) then Some [] else unescaped word
 
--- Key words. `\sN:` before the word of a key's own bytes tells its space, N from 1 to 65535; without it the space is 0.
+-- Key words. `\sN:` before the word of a key's own bytes gives its space, N from 1 to 65535; without it the space is 0.
 
--- the space of this number; none where it is above 65,535
+-- the space of this number; none if it is above 65,535
 abbrev pub space_within : Option ℕ → Option ℕ
 space_within None = None
 space_within (Some number) = if nat_lt number 65536 then Some number else None
@@ -104,12 +104,12 @@ key_behind None word = None
 key_behind (Some space) [] = None
 key_behind (Some space) (b ∷ word) = key_in space (text_of (b ∷ word))
 
--- what a space's digits, a colon at this place, and the word behind it stand for
+-- the key of a space's digits, a colon at this place, and the word after it
 abbrev pub key_at_colon : List ℕ → Option ℕ → Option (List ℕ)
 key_at_colon text None = None
 key_at_colon text (Some at) = key_behind (space_in (take at text)) (drop (at + 1) text)
 
--- what a key word stands for: the bytes of its space, and behind them those of its own, which may be too few or too many for a key
+-- the key of a key word: the bytes of its space, and after them those of its own, which may be too few or too many for a key
 abbrev pub key_text_of : List ℕ → Option (List ℕ)
 key_text_of (b ∷ s ∷ text) = if b == 92 && s == 115 then key_at_colon text (position (λ c. c == 58) text) else key_in 0 (text_of (b ∷ s ∷ text))
 key_text_of word = key_in 0 (text_of word)

@@ -1,4 +1,4 @@
-//! The words of keys: the spelled bytes of a key's own, and before them its space, where it is another than 0.
+//! The words of keys: the spelled bytes of a key's own, and before them its space, if it is another than 0.
 ghost use Rattle.std.specs.Prelude.{◌≡◌, ◌<◌, ◌==◌, length, IfSome, IfOk, IfErr, true};
 ghost use Rattle.std.specs.List.{position};
 ghost use Rattle.pc_lines.specs.Lines.{is_key};
@@ -10,7 +10,7 @@ use std::alloc::{AllocError, Global};
 use std::borrow::CowSlice;
 use std::marker::Model;
 
-/// What a key word stands for: a space, and bytes of a key's own, which may be too few or too many for a key.
+/// The key of a key word: a space, and bytes of a key's own, which may be too few or too many for a key.
 #[derive(Drop)]
 pub struct KeyText<'a> {
     /// The space.
@@ -48,9 +48,9 @@ impl<'a> KeyText<'a> {
     }
 }
 
-/// What a key word stands for: `\sN:` before the rest of the word tells the space, where N is 1 to 65535 in decimal digits
-/// without zeros before it, and the space is 0 without it; the rest, which isn't empty behind `\sN:`, spells the key's own bytes as a value
-/// word does. `None` for any other word. It fails only where memory ran out.
+/// The key of a key word: `\sN:` before the rest of the word gives the space, where N is 1 to 65535 in decimal digits without leading
+/// zeros, and the space is 0 without it; the rest, which isn't empty after `\sN:`, spells the key's own bytes as a value word does. `None`
+/// for any other word. It fails only if an allocation fails.
 pub fn key_text_of(alloc: Global, word: &[u8]) -> Result<Option<KeyText<'_>>, AllocError>
     ensures { IfOk result (λ text. text ≡ key_text_of word.now) }
 {
@@ -60,7 +60,7 @@ pub fn key_text_of(alloc: Global, word: &[u8]) -> Result<Option<KeyText<'_>>, Al
     }
 }
 
-// What a space's digits, a colon, and the word behind it stand for.
+// The key of a space's digits, a colon, and the word after it.
 fn key_at_colon(alloc: Global, text: &[u8]) -> Result<Option<KeyText<'_>>, AllocError>
     ensures { IfOk result (λ key. key ≡ key_at_colon text.now (position (λ c. c == 58) text.now)) }
 {
@@ -70,7 +70,7 @@ fn key_at_colon(alloc: Global, text: &[u8]) -> Result<Option<KeyText<'_>>, Alloc
     }
 }
 
-// Where the first colon stands.
+// The place of the first colon.
 fn colon(text: &[u8]) -> Option<usize>
     ensures place { result ≡ position (λ c. c == 58) text.now }
     ensures bound { IfSome result (λ at. at < length text.now) }
@@ -78,7 +78,7 @@ fn colon(text: &[u8]) -> Option<usize>
     text.iter().position(|byte| *byte == b':')
 }
 
-// The key of a space, where there is one, and a word of own bytes, which isn't empty.
+// The key of a space, if there is one, and a word of own bytes, which isn't empty.
 fn key_behind(
     alloc: Global,
     space: Option<u16>,

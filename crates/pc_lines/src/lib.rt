@@ -1,4 +1,4 @@
-//! A script's line, and what it spells: an event, a pair of the base, or something to be shown.
+//! A script's line, and its meaning: an event, a pair of the base, or something to be shown.
 #![tactic(auto)]
 
 mod key_words;

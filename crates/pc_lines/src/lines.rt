@@ -10,7 +10,7 @@ use arrayvec::ArrayVec;
 use pc_types::{Event, FileNo, Key, MOST_VALUE_BYTES, Refusal, SessionNo, Value};
 use std::alloc::Global;
 
-/// What a line of a script spells.
+/// The meaning of a line of a script.
 #[derive(Drop)]
 pub enum Line {
     /// No words, or a `#` first: nothing is answered.
@@ -29,10 +29,10 @@ pub enum Line {
     Shows(View),
 }
 
-/// What a line asks to be shown.
+/// The view that a line asks for.
 #[derive(Clone, Copy, Debug, PartialEq, Eq)]
 pub enum View {
-    /// The base with a file laid on it.
+    /// The base with a file applied to it.
     State(FileNo),
     /// The bytes of a file.
     Text(FileNo),
@@ -40,10 +40,10 @@ pub enum View {
     Check,
 }
 
-/// A line is told by its first five words: no form has more than four.
+/// A line is determined by its first five words: no form has more than four.
 pub const MOST_WORDS: usize = 5;
 
-/// What the line, without its end, spells. Refuses only with `OutOfMemory`.
+/// The meaning of the line, without its end. Refuses only with `OutOfMemory`.
 pub fn read_line(alloc: Global, text: &[u8]) -> Result<Line, Refusal>
     ensures line { IfOk result (λ line. line ≡ spelled text.now) }
     ensures refusals { IfErr result (λ e. e ≡ Refusal.OutOfMemory) }
@@ -54,7 +54,7 @@ pub fn read_line(alloc: Global, text: &[u8]) -> Result<Line, Refusal>
     spelled_by(alloc, &first_words(text))
 }
 
-// What the words of a line spell.
+// The meaning of the words of a line.
 fn spelled_by(alloc: Global, words: &[&[u8]]) -> Result<Line, Refusal>
     ensures line { IfOk result (λ line. line ≡ spelled_by (map (λ w. w.now) words.now)) }
     ensures refusals { IfErr result (λ e. e ≡ Refusal.OutOfMemory) }
@@ -76,8 +76,8 @@ pub fn is_comment(text: &[u8]) -> bool
     !text.is_empty() && text[0] == b'#'
 }
 
-/// The first word of a text, which is the longest run of bytes other than space that begins first, and the text behind the space that ends
-/// it; `None` where the text has no word.
+/// The first word of a text, which is the longest run of bytes other than space that begins first, and the text after the space that ends
+/// it; `None` if the text has no word.
 pub fn next_word(text: &[u8]) -> Option<(&[u8], &[u8])>
     ensures { MatchOption result (words_of text.now ≡ []) (λ next. words_of text.now ≡ next.0.now ∷ words_of next.1.now) }
 {
@@ -92,7 +92,7 @@ pub fn next_word(text: &[u8]) -> Option<(&[u8], &[u8])>
     Some((&text[..end], &text[end + 1..]))
 }
 
-// How many spaces a text begins with.
+// The number of spaces that a text begins with.
 fn word_at(text: &[u8]) -> usize
     ensures place { result ≡ position_or_len (λ b. not (b == 32)) text.now }
     ensures bound { result ≤ length text.now }
@@ -103,7 +103,7 @@ fn word_at(text: &[u8]) -> usize
     }
 }
 
-// How many bytes stand before the first space of a text, or in all of it where it has none.
+// The number of bytes before the first space of a text, or of all of it if it has none.
 fn space_at(text: &[u8]) -> usize
     ensures place { result ≡ position_or_len (λ b. b == 32) text.now }
     ensures bound { result ≤ length text.now }
@@ -114,7 +114,7 @@ fn space_at(text: &[u8]) -> usize
     }
 }
 
-/// The first five words of a line, or all where it has fewer: no line that means anything has more than four. It takes no memory.
+/// The first five words of a line, or all if it has fewer: no line that means anything has more than four. It allocates no memory.
 pub fn first_words(text: &[u8]) -> ArrayVec<&[u8], MOST_WORDS>
     ensures { map (λ w. w.now) result.items ≡ take MOST_WORDS (words_of text.now) }
 {

@@ -20,8 +20,8 @@ pub fn number(word: &[u8]) -> Option<u32>
     }
 }
 
-/// The number of 64 bits with a sign that a word writes: 1 to 19 decimal digits, with a `-` before them where it is below 0;
-/// `None` for any other word.
+/// The number of 64 bits with a sign that a word writes: 1 to 19 decimal digits, with a `-` before them if it is below 0; `None` for
+/// any other word.
 pub fn signed_number(word: &[u8]) -> Option<i64>
     ensures { result ≡ signed_number_of word.now }
 {
@@ -31,7 +31,7 @@ pub fn signed_number(word: &[u8]) -> Option<i64>
     }
 }
 
-// The number that digits write, below 0 where there is a minus before them.
+// The number that digits write, below 0 if there is a minus before them.
 fn number_by(minus: bool, digits: &[u8]) -> Option<i64>
     ensures { result ≡ number_by minus digits.now }
 {
@@ -42,7 +42,7 @@ fn number_by(minus: bool, digits: &[u8]) -> Option<i64>
     }
 }
 
-// The number of this size, below 0 where there is a minus, if 64 bits hold it.
+// The number of this size, below 0 if there is a minus, if 64 bits hold it.
 fn signed_by(minus: bool, size: u64) -> Option<i64>
     ensures { result ≡ signed_by minus size }
 {
@@ -91,7 +91,7 @@ fn value(digits: &[u8]) -> u64
     value
 }
 
-/// Whether a byte stands for itself in a word: 0x21 to 0x7E, but not the backslash.
+/// Whether a byte represents itself in a word: 0x21 to 0x7E, but not the backslash.
 pub fn is_plain(byte: u8) -> bool
     ensures { result ≡ is_plain byte }
 {
@@ -124,7 +124,7 @@ fn escaped(backslash: u8, x: u8, high: u8, low: u8) -> Option<u8>
     }
 }
 
-// The first byte that a word stands for, and how many bytes of the word it takes.
+// The first byte that a word represents, and how many bytes of the word it takes.
 fn first_byte(word: &[u8]) -> Option<(u8, usize)>
     requires { 0 < length word.now }
     ensures { MatchOption result (unescaped word.now ≡ None)
@@ -142,7 +142,7 @@ fn first_byte(word: &[u8]) -> Option<(u8, usize)>
     }
 }
 
-// The bytes that a word of plain bytes and escapes stands for; `None` where it is made of anything else.
+// The bytes that a word of plain bytes and escapes represents; `None` if it is made of anything else.
 fn unescaped(alloc: Global, word: &[u8]) -> Result<Option<Vec<u8>>, AllocError>
     ensures { IfOk result (λ text. option_map (λ v. v.items) text ≡ unescaped word.now) }
 {
@@ -160,16 +160,16 @@ fn unescaped(alloc: Global, word: &[u8]) -> Result<Option<Vec<u8>>, AllocError>
     Ok(Some(text))
 }
 
-// Whether each byte of the word stands for itself.
+// Whether each byte of the word represents itself.
 fn are_plain(word: &[u8]) -> bool
     ensures { result ≡ list_all is_plain word.now }
 {
     word.iter().all(|byte| is_plain(*byte))
 }
 
-/// The text of a key or value word, in which `\xHH` stands for a byte and `-` alone for none; `None` where the word
-/// has a byte outside 0x21 to 0x7E or any other use of the backslash. The text of a word without escapes is the word itself, lent, and
-/// takes no memory; else it fails only where memory ran out.
+/// The text of a key or value word, in which `\xHH` represents a byte and `-` alone no bytes; `None` if the word has a byte outside
+/// 0x21 to 0x7E or any other use of the backslash. The text of a word without escapes is the word itself, borrowed, and takes no
+/// memory; otherwise it fails only if an allocation fails.
 pub fn text_of(alloc: Global, word: &[u8]) -> Result<Option<CowSlice<'_, u8>>, AllocError>
     ensures { IfOk result (λ text. option_map cow_slice_items text ≡ text_of word.now) }
 {

@@ -1,4 +1,4 @@
--- What stands under each id, and the columns of it, once one id is written.
+-- The node of each id, and its columns, once one id is written.
 use Rattle.std.proofs.Common.{◌≡◌, ◌≢◌, ℕ, zero, suc, inl, inr, List, [], ◌∷◌, Option, Some, None, is_some, map, slice_index_or, slice_set, refl, sym, ◌∙◌, ap, subst}
 use Rattle.std.proofs.lemmas.Bool.{cases_eq}
 use Rattle.std.specs.Prelude.{option_map, unwrap_or}
@@ -34,11 +34,11 @@ module _ {X : Type 0} where
 pub link_kept : (f : Node → Option ℕ) (nodes new_nodes : Nodes) (id : ℕ) → slice_index_or new_nodes id None ≡ slice_index_or nodes id None → link_at (map (option_map f) new_nodes) id ≡ link_at (map (option_map f) nodes) id
 link_kept f nodes new_nodes id e = column_at f new_nodes id ∙ (ap (option_map f) e ∙ sym (column_at f nodes id))
 
--- the link of what stands there
+-- the link of the node there
 pub link_of : (f : Node → Option ℕ) (nodes : Nodes) (id : ℕ) (o : Option Node) → slice_index_or nodes id None ≡ o → link_at (map (option_map f) nodes) id ≡ option_map f o
 link_of f nodes id o e = column_at f nodes id ∙ ap (option_map f) e
 
--- one of the links of a node that stands is written
+-- one of the links of an existing node is written
 module _ (f : Node → Option ℕ) (nodes : Nodes) (id : ℕ) (old new : Node) (is : Some old ≡ slice_index_or nodes id None) where
   pub link_here : link_at (map (option_map f) (slice_set nodes id (Some new))) id ≡ Some (f new)
   link_here = column_at f (slice_set nodes id (Some new)) id ∙ ap (option_map f) (set_here nodes id old (Some new) is)

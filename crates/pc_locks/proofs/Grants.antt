@@ -32,7 +32,7 @@ flip_other a b e = grind (arith, nat_tests)
 abbrev all_shared : Queue → Bool
 all_shared q = list_all (λ r. not (is_exclusive r.mode)) q
 
--- beside requests of other transactions a request fits where there is none or all are shared
+-- with requests of other transactions a request is compatible if there is none or all are shared
 fits_shared : (r : Request) (q : Queue) → stands_in q r.transaction ≡ false → list_all (are_compatible r) q ≡ (is_nil q || (all_shared q && not (is_exclusive r.mode)))
 fits_shared r [] e = refl
 fits_shared r (x ∷ xs) e = by (x.transaction == r.transaction) refl e (fits_shared r xs)
@@ -74,7 +74,7 @@ pub place_written : (node : Option Placed) (q : Request) → q.transaction ≡ (
 place_written None q e = refl
 place_written (Some n) q e = ap (λ t. Some (n.slot, t)) e
 
--- those before are granted, and those behind are to be
+-- those before are granted, and those after are to be
 pub record Granting (was nodes : Nodes) (ids : List ℕ) (is_first are_shared : Bool) (at : Option ℕ) (count : ℕ) : Type 0 where
   pub before : List ℕ
   pub behind : List ℕ

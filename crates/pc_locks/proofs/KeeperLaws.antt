@@ -1,4 +1,4 @@
--- Other ends beside the same locks: a keeper that gets a slot, or loses one that has no request.
+-- Other ends with the same locks: a keeper that gets a slot, or loses one that has no request.
 use Rattle.std.proofs.Common.{◌≡◌, ℕ, inl, inr, List, [], ◌∷◌, length, Bool, true, false, ap, sym, ◌∙◌, subst, refl}
 use Rattle.std.specs.List.{list_any}
 use Rattle.pc_chain.specs.declared.chain.Chain.{Chain}
@@ -22,7 +22,7 @@ empty_ends ends kept slot a e =
     let line = subst (IsLine (links_in kept.nodes.slots) (ends slot)) (no_ids kept.nodes.slots (ids_by (links_in kept.nodes.slots) ends slot) e) (a.tied.lines.line slot) in
     (line.first, line.last)
 
--- where no slot has a request, any slots may have ends
+-- if no slot has a request, any slots may have ends
 pub sound_none : (has : ℕ → Type 0) (ends : ℕ → Chain ℕ) (kept : KeptRequests) → AreEnds ends kept → ((slot : ℕ) → queue_at (queues_of ends kept) slot ≡ []) → AreLocksSound has ends kept
 sound_none has ends kept a e = record {
   ends_are = a;
@@ -59,7 +59,7 @@ module _ (ends new_ends : ℕ → Chain ℕ) (kept : KeptRequests) (d : DifferWh
     };
   }
 
-  -- where each slot that has a request has its ends still
+  -- if each slot that has a request has its ends still
   pub other_sound : (has new_has : ℕ → Type 0) → ((slot t : ℕ) → stands_in (queue_at (queues_of ends kept) slot) t ≡ true → has slot → new_has slot) → AreLocksSound has ends kept → AreLocksSound new_has new_ends kept
   other_sound has new_has f a = record {
     ends_are = other_ends a.ends_are;
@@ -70,7 +70,7 @@ any_same : (p q : ℕ → Bool) (xs : List ℕ) → ((x : ℕ) → p x ≡ q x) 
 any_same p q [] f = refl
 any_same p q (x ∷ xs) f = rw (f x, any_same p q xs f)
 
--- who waits is told by what is seen
+-- the view determines who waits
 pub waits_alike : (a b : State) (t : ℕ) → AreAlike a b → is_waiting a t ≡ is_waiting b t
 waits_alike a b t e =
     any_same (λ s. is_ungranted (request_in (queue_at a.queues s) t)) (λ s. is_ungranted (request_in (queue_at b.queues s) t)) (slots_of a.lists t) (λ s. ap (λ q. is_ungranted (request_in q t)) (e.queues s))

@@ -177,7 +177,7 @@ linkless links lines k id a e = false_from_ne_true (is_listed (ids_of links (lin
     let h : is_some (link_at links id) ≡ true = have_listed (HasLink links) (ids_of links (lines k)) id (a.line k).held f in
     let z : false ≡ true = sym (ap is_some e) ∙ h in cc)
 
--- where no id is in any
+-- if no id is in any
 pub lines_none : (links : Links) (lines : ℕ → Chain ℕ) → ((k : ℕ) → (lines k).first ≡ None) → ((k : ℕ) → (lines k).last ≡ None) → AreLines links lines
 lines_none links lines f l = record {
   line = λ k. subst (IsLine links (lines k)) (sym (ap (follow links (length links)) (f k))) (record { first = f k; last = l k; leads = tt; held = tt });

@@ -155,11 +155,11 @@ module _ (links : Links) (entries new_entries : List (ℕ × Chain ℕ)) (t : �
   first_left : is_some (first_of (rest_of (ids_of links (ends_at entries t)))) ≡ is_some first
   first_left = ap is_some (sym (f (rest_of (ids_of links (ends_at entries t))) new_line ∙ same_first (rest_of (ids_of links (ends_at entries t)))))
 
-  -- where some are left
+  -- if some are left
   pub changed_pop : is_some first ≡ true → ends_at new_entries t ≡ new_ends → Changed links links entries new_entries t (rest_of (slots_of (entry_ids links entries) t))
   changed_pop s this = changed_rest links entries new_entries t new_ends a new_line this (λ k. first_left ∙ s) others
 
-  -- and where none is
+  -- and if none is
   pub changed_away : is_some first ≡ false → lookup (is_at (nat_cmp t)) new_entries ≡ None → Changed links links entries new_entries t (rest_of (slots_of (entry_ids links entries) t))
   changed_away s this =
       let none : rest_of (ids_of links (ends_at entries t)) ≡ [] = none_left (rest_of (ids_of links (ends_at entries t))) (first_left ∙ s) in

@@ -139,7 +139,7 @@ keeps_first result told nodes new_nodes ids new_ids entries new_entries s t mode
   linked = linked_result result told (queues_in nodes ids) (queues_in new_nodes new_ids) (lists_in nodes entries) (lists_in new_nodes new_entries) s t mode f w q l others err k.linked;
 }
 
--- the requests that are left where one was taken out
+-- the requests that are left if one was taken out
 pub once_left : (nodes taken : Nodes) (ids new_ids : ℕ → List ℕ) (s t : ℕ) → AreOnce (queue_at (queues_in nodes ids) s) →
     SetsAt (queues_in nodes ids) (queues_in taken new_ids) s (filter (λ r. not (r.transaction == t)) (queue_at (queues_in nodes ids) s)) → AreOnce (requests taken (new_ids s))
 once_left nodes taken ids new_ids s t k e = subst AreOnce (sym e.this) (once_filter (λ r. not (r.transaction == t)) (queue_at (queues_in nodes ids) s) k)
@@ -200,7 +200,7 @@ last_none nodes [] e = refl
 last_none nodes (x ∷ []) e = absurd cc
 last_none nodes (x ∷ y ∷ ys) e = last_none nodes (y ∷ ys) e
 
--- whether a transaction waits is told by its last request
+-- a transaction's last request determines whether it waits
 pub waits_last : (nodes : Nodes) (ids : ℕ → List ℕ) (entries : List (ℕ × List ℕ)) (t id : ℕ) → Keeps nodes ids entries → Some id ≡ last_of (slots_of entries t) →
     not (request_at nodes id).granted ≡ is_waiting (record { queues = queues_in nodes ids; lists = lists_in nodes entries }) t
 waits_last nodes ids entries t id k e =
@@ -236,7 +236,7 @@ filled_lists nodes entries f = λ t k. ap (λ xs. is_some (first_of xs)) (found_
 keeps_settled : (nodes : Nodes) (ids : ℕ → List ℕ) (entries : List (ℕ × List ℕ)) → Keeps nodes ids entries → AreSettled (record { queues = queues_in nodes ids; lists = lists_in nodes entries })
 keeps_settled nodes ids entries k = record { settled = k.settled; linked = k.linked; filled = filled_lists nodes entries k.table.filled }
 
--- beside the ends
+-- with the ends
 pub ends_keep : (ends : ℕ → Chain ℕ) (kept : KeptRequests) → AreEnds ends kept → Keeps kept.nodes.slots (ids_by (links_in kept.nodes.slots) ends) kept.entries
 ends_keep ends kept a = record { table = a.tied.table; settled = a.settled.settled; linked = a.settled.linked }
 

@@ -23,7 +23,7 @@ pub same_some : (o : Option ℕ) (id : ℕ) → option_eq ◌==◌ o (Some id) �
 same_some None id e = absurd cc
 same_some (Some x) id e = ap Some (sym (eqb-true x id e))
 
--- what is listed stands, and what stands in two parts stands in the whole
+-- what is listed exists, and what is in two parts is in the whole
 pub member_stands : (nodes : Nodes) (xs : List ℕ) (id t : ℕ) → is_listed xs id ≡ true → (request_at nodes id).transaction ≡ t → stands_in (requests nodes xs) t ≡ true
 member_stands nodes [] id t e f = absurd cc
 member_stands nodes (x ∷ xs) id t e f = elim (or_cases (x == id) (is_listed xs id) e) [
@@ -95,7 +95,7 @@ pub first_owner : (nodes : Nodes) (ids : ℕ → List ℕ) (entries : List (ℕ 
 first_owner nodes ids entries t id a e =
     eq-eqb (request_at nodes id).transaction t (transaction_placed nodes id (slot_at nodes id) t (the_first nodes ids entries t id a e).place)
 
--- it stands in its slot's queue
+-- it is in its slot's queue
 pub first_stands : (nodes : Nodes) (ids : ℕ → List ℕ) (entries : List (ℕ × List ℕ)) (s t id : ℕ) → IsTable nodes ids entries → Some id ≡ first_of (slots_of entries t) → s ≡ slot_at nodes id → stands_in (requests nodes (ids s)) t ≡ true
 first_stands nodes ids entries s t id a e f =
     let first = first_at nodes ids entries s t id a e f in

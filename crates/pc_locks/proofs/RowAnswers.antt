@@ -53,7 +53,7 @@ module _ (es : List (ℕ × Chain ℕ)) (t : ℕ) where
       pub forget_other : (u : ℕ) → u ≢ t → lookup (is_at (nat_cmp u)) new_es ≡ lookup (is_at (nat_cmp u)) es
       forget_other u n = ap (lookup (is_at (nat_cmp u))) is ∙ remove_other (is_at (nat_cmp u)) es t i (apart u t n) at.number
 
-  -- empty ends where none were
+  -- empty ends if none were
   module _ (i : ℕ) (gap : IsGapAt es t i) (ends : Chain ℕ) (empty : ends ≡ no_chain) (new_es : List (ℕ × Chain ℕ)) (is : new_es ≡ insert es i (t, ends)) where
     keep_this : lookup (is_at (nat_cmp t)) new_es ≡ Some no_chain
     keep_this = ap (lookup (is_at (nat_cmp t))) is ∙ (insert_this es t i ends gap.none ∙ ap Some empty)

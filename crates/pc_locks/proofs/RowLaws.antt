@@ -1,4 +1,4 @@
--- Entries that rise by number: what a search finds, and what an edit at its place does.
+-- Entries that ascend by number: what a search finds, and what an edit at its place does.
 use Rattle.std.proofs.Common.{◌≡◌, ◌≢◌, ℕ, zero, suc, ◌+◌, ◌<◌, List, [], ◌∷◌, length, get_or, Some, None, Result, Ok, Err, IfOk, IfErr, refl, sym, ap, ◌∙◌, arith, Bool, true, false, cond, subst}
 use Rattle.std.specs.declared.cmp.Ordering.{Ordering}
 use Rattle.std.specs.declared.cmp.Ordering.TheVariants.{Less, Equal, Greater}
@@ -64,18 +64,18 @@ module _ {X : Type 0} where
   below_none t [] below = refl
   below_none t (e ∷ es) below = lookup_tail (is_at (nat_cmp t)) e es (ap is_eq below.0) ∙ below_none t es below.1
 
-  -- each number is less than all behind it
+  -- each number is less than all after it
   rise_far : (es : List (ℕ × X)) (i j : ℕ) (d : ℕ × X) → Rise es → i < j → j < length es → nat_cmp (get_or es i d).0 (get_or es j d).0 ≡ Less
   rise_far [] i j d rise before lt = absurd (omega (arith, lt))
   rise_far (e ∷ es) i zero d rise before lt = absurd (omega (arith, before))
   rise_far (e ∷ es) zero (suc j) d rise before lt = below_far e.0 es j d (sorted_head nat_cmp e.0 (keys_of es) rise) (omega (arith, lt))
   rise_far (e ∷ es) (suc i) (suc j) d rise before lt = rise_far es i j d (sorted_tail nat_cmp e.0 (keys_of es) rise) (omega (arith, before)) (omega (arith, lt))
 
-  -- the first entry is not the one that stands further on
+  -- the first entry is not the one further on
   head_other : (e : ℕ × X) (es : List (ℕ × X)) (t i : ℕ) → i < length es → Rise (e ∷ es) → Has es t i → nat_cmp e.0 t ≡ Less
   head_other e es t i lt rise has = sym (ap (nat_cmp e.0) (has e)) ∙ below_far e.0 es i e (sorted_head nat_cmp e.0 (keys_of es) rise) lt
 
-  -- the entry where the number stands is what is found by it
+  -- the entry at the number's place is the one found by it
   pub found : (es : List (ℕ × X)) (t i : ℕ) (d : ℕ × X) → i < length es → Rise es → Has es t i → lookup (is_at (nat_cmp t)) es ≡ Some (get_or es i d).1
   found [] t i d lt rise has = absurd (omega (arith, lt))
   found (e ∷ es) t zero d lt rise has = lookup_head (is_at (nat_cmp t)) e es (ap (is_at (nat_cmp t)) (has e) ∙ itself t)

@@ -10,7 +10,7 @@ sets_cases old new s x h u = elim (cases_eq u s) [
   | inr n ↦ inr (n, h.others u n)
 ]
 
--- where it is what it was, nothing changed
+-- if it is what it was, nothing changed
 pub sets_same : {A : Type 0} (old new : ℕ → A) (s : ℕ) (x : A) → SetsAt old new s x → x ≡ old s → (u : ℕ) → new u ≡ old u
 sets_same old new s x h e u = elim (cases_eq u s) [
   | inl f ↦ ap new f ∙ (h.this ∙ (e ∙ ap old (sym f)))

@@ -19,7 +19,7 @@ use Rattle.pc_locks.proofs.LocksLemmas.{Keeps, Answered, Released, answered_agai
 ids_none : (links : Links) (ends : ℕ → Chain ℕ) → ((u : ℕ) → IsEmpty (ends u)) → (u : ℕ) → ids_by links ends u ≡ []
 ids_none links ends e u = ap (follow links (length links)) (e u).0
 
--- beside any ends of empty queues
+-- with any ends of empty queues
 pub ends_new : (ends : ℕ → Chain ℕ) (kept : KeptRequests) → kept.nodes.slots ≡ [] → kept.entries ≡ [] → ((u : ℕ) → IsEmpty (ends u)) → AreEnds ends kept
 ends_new ends kept g f e =
     let ids = ids_by (links_in kept.nodes.slots) ends in

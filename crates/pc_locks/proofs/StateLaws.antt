@@ -49,7 +49,7 @@ linked_new queues f = record {
   waits = λ t slot e. absurd (let g : false ≡ true = sym (ap (λ q. is_ungranted (request_in q t)) (f slot)) ∙ e in cc);
 }
 
--- where each queue and each list is what it was
+-- if each queue and each list is what it was
 pub linked_alike : (queues new_queues : Queues) (lists new_lists : SlotLists) → ((u : ℕ) → queue_at new_queues u ≡ queue_at queues u) → ((u : ℕ) → slots_of new_lists u ≡ slots_of lists u) → AreLinked queues lists → AreLinked new_queues new_lists
 linked_alike queues new_queues lists new_lists e f k = record {
   listed = λ t slot. ap (λ xs. is_listed xs slot) (f t) ∙ (k.listed t slot ∙ ap (λ q. stands_in q t) (sym (e slot)));
@@ -84,7 +84,7 @@ ungranted_with (r ∷ rs) n u e = by (r.transaction == n.transaction) e (ungrant
         behind true g = refl
         behind false g = g
 
--- where nobody's place changes
+-- if nobody's place changes
 pub linked_same : (queues new_queues : Queues) (lists : SlotLists) (s : ℕ) (q : Queue) → SetsAt queues new_queues s q → ((u : ℕ) → stands_in q u ≡ stands_in (queue_at queues s) u) →
     ((u : ℕ) → is_ungranted (request_in q u) ≡ true → is_ungranted (request_in (queue_at queues s) u) ≡ true) → AreLinked queues lists → AreLinked new_queues lists
 linked_same queues new_queues lists s q h e w k = record {
@@ -136,7 +136,7 @@ last_push [] s = refl
 last_push (x ∷ []) s = refl
 last_push (x ∷ y ∷ ys) s = last_push (y ∷ ys) s
 
--- where a transaction's first request of a slot is added
+-- if a transaction's first request of a slot is added
 pub linked_push : (queues new_queues : Queues) (lists new_lists : SlotLists) (s : ℕ) (n : Request) → SetsAt queues new_queues s (queue_at queues s ++ n ∷ []) → stands_in (queue_at queues s) n.transaction ≡ false →
     ((slot : ℕ) → is_ungranted (request_in (queue_at queues slot) n.transaction) ≡ false) →
     slots_of new_lists n.transaction ≡ slots_of lists n.transaction ++ s ∷ [] → ((u : ℕ) → u ≢ n.transaction → slots_of new_lists u ≡ slots_of lists u) →
@@ -230,7 +230,7 @@ last_rest : (s x : ℕ) (rest : List ℕ) → last_of (s ∷ rest) ≡ Some x �
 last_rest s x [] e n = absurd (n (let f : x ≡ s = cc in f))
 last_rest s x (y ∷ ys) e n = e
 
--- where a transaction's first request is removed
+-- if a transaction's first request is removed
 pub linked_pop : (queues new_queues : Queues) (lists new_lists : SlotLists) (s t : ℕ) → SetsAt queues new_queues s (queue_without (queue_at queues s) t) → Some s ≡ first_of (slots_of lists t) →
     slots_of new_lists t ≡ rest_of (slots_of lists t) → ((u : ℕ) → u ≢ t → slots_of new_lists u ≡ slots_of lists u) →
     AreLinked queues lists → AreLinked new_queues new_lists
@@ -295,11 +295,11 @@ last_listed [] s e = absurd cc
 last_listed (x ∷ []) s e = let f : s ≡ x = cc in rw (same_test x s (sym f))
 last_listed (x ∷ y ∷ ys) s e = rw (last_listed (y ∷ ys) s e) (or_true (x == s))
 
--- where a transaction waits anywhere, it waits at one of its slots
+-- if a transaction waits anywhere, it waits at one of its slots
 pub waits_anywhere : (queues : Queues) (lists : SlotLists) (t s : ℕ) → AreLinked queues lists → waits_for t (queue_at queues s) ≡ true → is_waiting (record { queues = queues; lists = lists }) t ≡ true
 waits_anywhere queues lists t s k e = some_any (λ x. waits_for t (queue_at queues x)) (slots_of lists t) s (last_listed (slots_of lists t) s (sym (k.waits t s e))) e
 
--- where it waits at none of its slots, it waits nowhere
+-- if it waits at none of its slots, it waits nowhere
 pub ready_at : (queues : Queues) (lists : SlotLists) (t : ℕ) → AreLinked queues lists → is_waiting (record { queues = queues; lists = lists }) t ≡ false → (s : ℕ) → waits_for t (queue_at queues s) ≡ false
 ready_at queues lists t k e s = not_true (waits_for t (queue_at queues s)) (λ f. let g : false ≡ true = sym e ∙ waits_anywhere queues lists t s k f in cc)
 

@@ -63,7 +63,7 @@ no_end : (b : Bool) → (b || false) ≡ true → b ≡ true
 no_end true e = refl
 no_end false e = absurd cc
 
--- an id at the end, or one that stood
+-- an id at the end, or one that existed
 end_cases : (xs : List ℕ) (id x : ℕ) → is_listed (xs ++ id ∷ []) x ≡ true → (is_listed xs x ≡ true) ⊎ (x ≡ id)
 end_cases xs id x e = elim (or_cases (is_listed xs x) ((id == x) || false) (sym (listed_end xs id x) ∙ e)) [
   | inl f ↦ inl f

@@ -1,4 +1,4 @@
--- What becomes of what locks keep where a request comes, or goes.
+-- The invariants of locks when a request comes, or goes.
 use Rattle.std.specs.Prelude.{◌≡◌, ◌≢◌, ℕ, true, [], ◌∷◌, ◌++◌, Some, None, is_some}
 use Rattle.std.specs.Map.{lookup}
 use Rattle.std.specs.BTreeMap.{is_at}

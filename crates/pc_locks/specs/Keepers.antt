@@ -1,4 +1,4 @@
--- What locks keep, what they are seen as beside the ends of the slots' queues, and what both keep together.
+-- The invariants of locks, their view with the ends of the slots' queues, and the invariants of both together.
 use Rattle.std.specs.Prelude.{◌≡◌, ◌⊎◌, ℕ, List, []}
 use Rattle.slab.specs.Slab.{Slab}
 use Rattle.pc_chain.specs.declared.chain.Chain.{Chain}

@@ -25,7 +25,7 @@ HasLink links id = is_some (link_at links id) ≡ true
 abbrev pub next_in : Links → ℕ → Option ℕ
 next_in links id = unwrap_or (link_at links id) None
 
--- so many ids at most, from this one on
+-- at most that many ids, from this one on
 abbrev pub follow : Links → ℕ → Option ℕ → List ℕ
 follow links n None = []
 follow links zero (Some id) = []
@@ -66,11 +66,11 @@ no_chain = record { first = None; last = None }
 abbrev pub ends_at : List (ℕ × Chain ℕ) → ℕ → Chain ℕ
 ends_at entries t = unwrap_or (lookup (is_at (nat_cmp t)) entries) no_chain
 
--- the entries rise by the transaction's number
+-- the entries ascend by the transaction's number
 abbrev pub AreRising : List (ℕ × Chain ℕ) → Type 0
 AreRising entries = IsStrictlySortedBy nat_cmp (keys_of entries)
 
--- the transaction's entry stands there
+-- the transaction's entry is there
 pub record IsEntryAt (entries : List (ℕ × Chain ℕ)) (t at : ℕ) : Type 0 where
   pub within : at < length entries
   pub number : (e : ℕ × Chain ℕ) → (slice_index_or entries at e).0 ≡ t

@@ -1,4 +1,4 @@
--- What locks are seen as: each slot's queue, and the slots of each transaction.
+-- The view of locks: each slot's queue, and the slots of each transaction.
 use Rattle.std.specs.Prelude.{◌≡◌, ◌≢◌, ⊤, ℕ, ◌==◌, Bool, true, false, not, filter, List, [], ◌∷◌, ◌++◌, Option, Some, None, is_some, unwrap_or, if◌then◌else◌}
 use Rattle.std.specs.List.{list_any}
 use Rattle.std.specs.Ordering.{nat_cmp}
@@ -62,11 +62,11 @@ last_of [] = None
 last_of (x ∷ []) = Some x
 last_of (x ∷ y ∷ ys) = last_of (y ∷ ys)
 
--- the slot stands in the list
+-- the slot is in the list
 abbrev pub is_listed : List ℕ → ℕ → Bool
 is_listed slots slot = list_any (λ s. s == slot) slots
 
--- no slot stands twice
+-- no slot occurs twice
 abbrev pub AreDifferent : List ℕ → Type 0
 AreDifferent [] = ⊤
 AreDifferent (x ∷ xs) = (is_listed xs x ≡ false) × AreDifferent xs
@@ -83,7 +83,7 @@ pub record TurnsInto (old new : State) (slot t : ℕ) (queue : Queue) (slots : L
   pub list : slots_of new.lists t ≡ slots
   pub others : (other : ℕ) → other ≢ t → slots_of new.lists other ≡ slots_of old.lists other
 
--- the request stands at the end of the slot's queue, and the slot at the end of its transaction's
+-- the request is at the end of the slot's queue, and the slot at the end of its transaction's
 abbrev pub IsEntered : State → State → ℕ → Request → Type 0
 IsEntered old new slot request = TurnsInto old new slot request.transaction (queue_at old.queues slot ++ request ∷ []) (slots_of old.lists request.transaction ++ slot ∷ [])
 
@@ -95,7 +95,7 @@ IsTakenOut old new t slot = TurnsInto old new slot t (filter (λ r. not (r.trans
 abbrev pub IsReleased : State → State → ℕ → ℕ → Type 0
 IsReleased old new t slot = TurnsInto old new slot t (queue_without (queue_at old.queues slot) t) (rest_of (slots_of old.lists t))
 
--- the transaction's request of the slot was so answered, and stands where it didn't die
+-- the transaction's request of the slot was so answered, and is kept if it didn't die
 pub record IsRequestAnswered (old new : State) (t slot : ℕ) (mode : Mode) (answer : Outcome) : Type 0 where
   pub told : answer ≡ outcome (queue_at old.queues slot) t mode
   pub turned : TurnsInto old new slot t (queue_after (queue_at old.queues slot) t mode answer) (slots_after (slots_of old.lists t) slot (stands_in (queue_at old.queues slot) t) answer)
@@ -104,8 +104,8 @@ pub record IsRequestAnswered (old new : State) (t slot : ℕ) (mode : Mode) (ans
 abbrev pub is_waiting : State → ℕ → Bool
 is_waiting state t = list_any (λ slot. is_ungranted (request_in (queue_at state.queues slot) t)) (slots_of state.lists t)
 
--- a slot stands in the transaction's list exactly where the transaction has a request in its queue, and none twice; only
--- the last may wait
+-- a slot is in the transaction's list if and only if the transaction has a request in its queue, and none occurs twice;
+-- only the last may wait
 pub record AreLinked (queues : Queues) (lists : SlotLists) : Type 0 where
   pub listed : (t slot : ℕ) → is_listed (slots_of lists t) slot ≡ stands_in (queue_at queues slot) t
   pub once : (t : ℕ) → AreDifferent (slots_of lists t)
@@ -115,8 +115,8 @@ pub record AreLinked (queues : Queues) (lists : SlotLists) : Type 0 where
 abbrev pub AreFilled : SlotLists → Type 0
 AreFilled lists = (t : ℕ) → is_some (lookup (is_at (nat_cmp t)) lists) ≡ true → is_some (first_of (slots_of lists t)) ≡ true
 
--- what is so of locks at all times: in each queue the granted requests stand in front and fit together, and only waiting
--- ones stand behind; the lists and the queues say the same; and no transaction without a request has a list
+-- the invariant of locks: in each queue the granted requests are in front and compatible, and only waiting ones come
+-- after them; the lists and the queues say the same; and no transaction without a request has a list
 pub record AreSettled (state : State) : Type 0 where
   pub settled : (slot : ℕ) → IsSettled (queue_at state.queues slot)
   pub linked : AreLinked state.queues state.lists

@@ -31,7 +31,7 @@ pub record Placed : Type 0 where
 abbrev pub placed : Node → Placed
 placed n = record { request = n.request; slot = n.slot }
 
--- the request of an id and its slot, where it has one
+-- the request of an id and its slot, if it has one
 abbrev pub node_at : Nodes → ℕ → Option Placed
 node_at nodes id = option_map placed (slice_index_or nodes id None)
 
@@ -89,8 +89,8 @@ queues_in nodes ids slot = requests nodes (ids slot)
 abbrev pub lists_in : Nodes → List (ℕ × List ℕ) → SlotLists
 lists_in nodes entries = map (λ e. (e.0, slots nodes e.1)) entries
 
--- each id of a slot has a request of it, each id of a transaction has a request of it, which stands with its slot, and each
--- request stands with both; no transaction without an id has an entry
+-- each id of a slot has a request of it, each id of a transaction has a request of it, which is with its slot, and each
+-- request is with both; no transaction without an id has an entry
 pub record IsTable (nodes : Nodes) (ids : ℕ → List ℕ) (entries : List (ℕ × List ℕ)) : Type 0 where
   pub in_queue : (slot id : ℕ) → is_listed (ids slot) id ≡ true → (t : ℕ) × (place_of (node_at nodes id) ≡ Some (slot, t))
   pub in_list : (t id : ℕ) → is_listed (slots_of entries t) id ≡ true → (slot : ℕ) × (place_of (node_at nodes id) ≡ Some (slot, t)) × (is_listed (ids slot) id ≡ true)

@@ -10,8 +10,8 @@ use pc_chain::Chain;
 use std::alloc::{AllocError, Global};
 use std::marker::Model;
 
-/// The ends of each transaction's chain that has some, in entries that rise by the transaction's number. An entry is found by
-/// a binary search, and then named by its place. The row keeps its room, so that an entry that comes where one went takes
+/// The ends of each transaction's chain that has some, in entries that ascend by the transaction's number. An entry is found
+/// by a binary search, and then named by its place. The row keeps its room, so that an entry that comes where one went takes
 /// no memory.
 #[derive(Drop)]
 pub(crate) struct EndsRow {
@@ -31,7 +31,7 @@ impl Model for EndsRow {
 }
 
 impl EndsRow {
-    /// No entries. It takes no memory.
+    /// No entries. It allocates no memory.
     pub(crate) fn new(alloc: Global) -> EndsRow
         ensures { result ≡ [] }
     {
@@ -40,7 +40,7 @@ impl EndsRow {
         }
     }
 
-    /// A transaction's ends; empty ones where it has none.
+    /// A transaction's ends; empty ones if it has none.
     pub(crate) fn ends_of(&self, transaction: u64) -> Chain<usize>
         ensures { result ≡ ends_at self.now transaction }
     {
@@ -50,7 +50,7 @@ impl EndsRow {
         }
     }
 
-    /// The place of the transaction's entry; None where it has none.
+    /// The place of the transaction's entry; `None` if it has none.
     pub(crate) fn find(&self, transaction: u64) -> Option<usize>
         ensures some { IfSome result (IsEntryAt self.now transaction) }
         ensures none { IfNone result (lookup (is_at (nat_cmp transaction)) self.now ≡ None) }
@@ -61,7 +61,7 @@ impl EndsRow {
         }
     }
 
-    /// Makes sure that the transaction has an entry, and gives its place. Where memory ran out nothing changed.
+    /// Makes sure that the transaction has an entry, and returns its place. If an allocation failed nothing changed.
     pub(crate) fn keep(&mut self, transaction: u64) -> Result<usize, AllocError>
         ensures at { IfOk result (IsEntryAt self.new transaction) }
         ensures ends { (other : ℕ) → ends_at self.new other ≡ ends_at self.old other }
@@ -86,7 +86,7 @@ impl EndsRow {
         self.rows[at].1
     }
 
-    /// Writes the ends of the transaction, whose entry stands there.
+    /// Writes the ends of the transaction, whose entry is there.
     pub(crate) fn put(&mut self, at: usize, transaction: u64, ends: Chain<usize>)
         requires { IsEntryAt self.old transaction at }
         ensures this { ends_at self.new transaction ≡ ends }
@@ -105,7 +105,7 @@ impl EndsRow {
     }
 }
 
-// Puts an entry there. At the end, where most come, nothing is moved.
+// Puts an entry there. At the end, if most come, nothing is moved.
 fn insert_at(
     rows: &mut Vec<(u64, Chain<usize>)>,
     at: usize,
@@ -134,7 +134,7 @@ fn remove_at(rows: &mut Vec<(u64, Chain<usize>)>, at: usize)
     }
 }
 
-// Where the transaction's entry is, or else where one would go.
+// The place of the transaction's entry, or else the place where one would go.
 fn place(rows: &[(u64, Chain<usize>)], transaction: u64) -> Result<usize, usize>
     requires { AreRising rows.now }
     ensures at { IfOk result (IsEntryAt rows.now transaction) }

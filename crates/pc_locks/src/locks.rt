@@ -13,11 +13,11 @@ use pc_types::{Mode, Outcome, SlotId, TxnNo};
 use std::alloc::{AllocError, Global};
 use std::marker::Model;
 
-/// The locks of slots, and what each transaction has requested. The ends of each slot's queue are kept by whoever is given at
-/// each call; what is seen of the locks is read off both (`specs/Keepers`, `state_of`). As long as both stand together, the
-/// granted requests of each queue stand in front and fit together, a slot stands in a transaction's list exactly where the
-/// transaction has a request in its queue, only the last slot of a list may be one that its transaction waits for, and no
-/// transaction without a request has a list.
+/// The locks of slots, and what each transaction has requested. The ends of each slot's queue are kept by the keeper that is
+/// given at each call; what is seen of the locks is read off both (`specs/Keepers`, `state_of`). As long as both are
+/// consistent, the granted requests of each queue are in front and compatible, a slot is in a transaction's list if and only
+/// if the transaction has a request in its queue, only the last slot of a list may be one that its transaction waits for, and
+/// no transaction without a request has a list.
 #[derive(Drop)]
 pub struct Locks {
     table: RequestTable,
@@ -32,7 +32,7 @@ impl Model for Locks {
 }
 
 impl Locks {
-    /// Locks without a request. They stand beside any ends of empty queues. It takes no memory.
+    /// Locks without a request. They are consistent with any ends of empty queues. It allocates no memory.
     pub fn new(alloc: Global) -> Locks
         ensures ends { (ends : ℕ → Chain ℕ) → ((slot : ℕ) → IsEmpty (ends slot)) → AreEnds ends result }
         ensures queues { (ends : ℕ → Chain ℕ) → ((slot : ℕ) → IsEmpty (ends slot)) → (slot : ℕ) → queue_at (queues_of ends result) slot ≡ [] }
@@ -42,11 +42,11 @@ impl Locks {
         Locks { table }
     }
 
-    /// Answers a transaction's request of a slot. What the own lock covers is granted at once, and a new request where it is
-    /// compatible with every other one. Else it waits where the transaction is older than each of the others, and else it
-    /// dies and leaves no request; an upgrade beside another reader dies too, and the shared lock stays. A lock stands until
-    /// it is released. The transaction may have no request that waits. Memory is asked for only where a new request is kept
-    /// and there is no room for it. It fails only where memory ran out, and then nothing changed.
+    /// Answers a transaction's request of a slot. What the own lock covers is granted immediately, and a new request if it is
+    /// compatible with every other one. Otherwise it waits if the transaction is older than each of the others, and otherwise
+    /// it dies and leaves no request; an upgrade while there is another reader dies too, and the shared lock stays. A lock is
+    /// held until it is released. The transaction may have no request that waits. Memory is asked for only if a new request
+    /// is kept and there is no room for it. It fails only if an allocation fails, and then nothing changed.
     pub fn request<K, E: QueueEnds<K>>(
         &mut self,
         keeper: &mut E,
@@ -70,8 +70,8 @@ impl Locks {
         }
     }
 
-    /// How `request` would answer, where no request of the transaction waits; whether one does isn't looked at. It changes
-    /// nothing and takes no memory.
+    /// The outcome that `request` would have, if no request of the transaction waits; whether one does isn't looked at. It
+    /// changes nothing and takes no memory.
     pub fn outcome<K, E: QueueEnds<K>>(
         &self,
         keeper: &E,
@@ -90,8 +90,8 @@ impl Locks {
         }
     }
 
-    /// Removes the first request of the transaction's list, grants from the front of that slot's queue, and gives the slot;
-    /// None exactly where the transaction has no request. It takes no memory and always succeeds, so that repeated it
+    /// Removes the first request of the transaction's list, grants from the front of that slot's queue, and returns the slot;
+    /// `None` if and only if the transaction has no request. It allocates no memory and always succeeds, so that repeated it
     /// releases all, and then nothing is kept of the transaction.
     pub fn release_one<K, E: QueueEnds<K>>(
         &mut self,
@@ -120,7 +120,7 @@ impl Locks {
         }
     }
 
-    /// Whether a request of the slot stands, granted or waiting.
+    /// Whether the slot has a request, granted or waiting.
     pub fn has_request<K, E: QueueEnds<K>>(&self, keeper: &E, slot: SlotId) -> bool
         requires ends { AreEnds (E.ends_of keeper.now) self.now }
         requires has { E.has keeper.now slot }

@@ -1,4 +1,4 @@
-//! Requests as they stand in the slab.
+//! The form of requests in the slab.
 ghost use Rattle.std.specs.Prelude.{◌≡◌, ◌≢◌, ◌||◌, not, ℕ, option_map};
 ghost use Rattle.pc_model.specs.Locks.{is_exclusive, are_compatible};
 ghost use Rattle.pc_locks.specs.Lines.{HasLink, next_in};
@@ -8,7 +8,7 @@ use pc_chain::Links;
 use pc_types::{Mode, Request, TxnNo};
 use slab::Slab;
 
-/// A request and its slot, what is behind it in the slot's queue, and what is behind it in its transaction's chain.
+/// A request and its slot, what is after it in the slot's queue, and what is after it in its transaction's chain.
 #[derive(Clone, Copy)]
 pub(crate) struct Node {
     pub(crate) request: Request,
@@ -116,7 +116,7 @@ pub(crate) fn put_request(nodes: &mut Slab<Node>, id: usize, request: Request)
 pub(crate) enum Test {
     /// Whether it is the transaction's.
     Of(TxnNo),
-    /// Whether it may not stand granted beside this one.
+    /// Whether it conflicts with this one: both may not be granted together.
     Conflicts(Request),
     /// Whether the transaction isn't older.
     NotYounger(TxnNo),
@@ -138,7 +138,7 @@ impl Test {
     }
 }
 
-// Whether the two may stand granted together.
+// Whether the two may be granted together.
 fn are_compatible(a: &Request, b: &Request) -> bool
     ensures { result ≡ are_compatible a.now b.now }
 {

@@ -19,7 +19,7 @@ use std::alloc::{AllocError, Global};
 use std::marker::Model;
 
 /// The requests in a slab, each with its links, and the ends of each transaction's chain. The ends of the slots' queues are
-/// their keeper's. No id stands in the chains of two transactions, and each chain that is kept has an id.
+/// their keeper's. No id is in the chains of two transactions, and each chain that is kept has an id.
 #[derive(Drop)]
 pub(crate) struct RequestTable {
     nodes: Slab<Node>,
@@ -39,7 +39,7 @@ impl Model for RequestTable {
 }
 
 impl RequestTable {
-    /// No requests. It takes no memory.
+    /// No requests. It allocates no memory.
     pub(crate) fn new(alloc: Global) -> RequestTable
         ensures nodes { result.nodes.slots ≡ [] }
         ensures entries { result.entries ≡ [] }
@@ -89,7 +89,7 @@ impl RequestTable {
         self.nodes.capacity()
     }
 
-    // What is behind the id in its slot's queue.
+    // The next id in its slot's queue.
     fn next(&self, id: usize) -> Option<usize>
         ensures { result ≡ next_in (links_of self.now) id }
     {
@@ -140,7 +140,7 @@ impl RequestTable {
         self.find(queue, test).is_some()
     }
 
-    /// How a request of a transaction that has none in the queue is answered.
+    /// The outcome of a request of a transaction that has none in the queue.
     pub(crate) fn outcome_of_new(
         &self,
         queue: Chain<usize>,
@@ -164,7 +164,7 @@ impl RequestTable {
         }
     }
 
-    // How an upgrade of the transaction's own request of the queue is answered.
+    // The outcome of an upgrade of the transaction's own request of the queue.
     fn outcome_of_upgrade(&self, queue: Chain<usize>, transaction: TxnNo) -> Outcome
         requires { IsQueue (links_of self.now) queue }
         ensures { result ≡ outcome_of_upgrade (queue_along self.now queue) transaction }
@@ -176,7 +176,7 @@ impl RequestTable {
         }
     }
 
-    /// How a request of a transaction whose own request of the queue was found is answered.
+    /// The outcome of a request of a transaction whose own request of the queue was found.
     pub(crate) fn outcome_again(
         &self,
         queue: Chain<usize>,
@@ -194,8 +194,8 @@ impl RequestTable {
         self.outcome_of_upgrade(queue, transaction)
     }
 
-    // Adds a request, which is in no queue, at the end of its transaction's chain, and gives its id. It asks for memory only
-    // where the slab has no room or the transaction no entry, and before the first change: where memory ran out nothing changed.
+    // Adds a request, which is in no queue, at the end of its transaction's chain, and returns its id. It asks for memory only
+    // if the slab has no room or the transaction no entry, and before the first change: if an allocation failed nothing changed.
     fn add(&mut self, request: Request, slot: u32) -> Result<usize, AllocError>
         ensures added { IfOk result (IsAdded self.old self.new (record { request = request; slot = slot })) }
         ensures room { HasRoomForRequest self.old request.transaction → IsOk result }
@@ -241,7 +241,7 @@ impl RequestTable {
     }
 
     // Adds a request at the end of the slot's queue, which is this one, and of its transaction's chain. It asks for memory only
-    // where there is no room, and before the first change: where memory ran out nothing changed.
+    // if there is no room, and before the first change: if an allocation failed nothing changed.
     fn enter<K, E: QueueEnds<K>>(
         &mut self,
         keeper: &mut E,
@@ -271,8 +271,8 @@ impl RequestTable {
         Ok(())
     }
 
-    /// Answers a transaction's first request of the slot, which has this queue; an empty one grants it at once. Where memory ran
-    /// out nothing changed.
+    /// Answers a transaction's first request of the slot, which has this queue; an empty one grants it immediately. If an
+    /// allocation failed nothing changed.
     pub(crate) fn first<K, E: QueueEnds<K>>(
         &mut self,
         keeper: &mut E,
@@ -404,7 +404,7 @@ impl RequestTable {
         }
     }
 
-    // Takes the first id out of the transaction's chain; None where it has none. No request changes.
+    // Takes the first id out of the transaction's chain; `None` if it has none. No request changes.
     fn pop(&mut self, transaction: u64) -> Option<usize>
         ensures given { result ≡ first_of (slots_of self.old.entries transaction) }
         ensures rest { slots_of self.new.entries transaction ≡ rest_of (slots_of self.old.entries transaction) }
@@ -437,7 +437,7 @@ impl RequestTable {
         keeper.set_ends(slot, ends);
     }
 
-    // Takes the id behind `previous` out of the slot's queue, which is this one; the first one where `previous` is None.
+    // Takes the id after `previous` out of the slot's queue, which is this one; the first one if `previous` is `None`.
     fn unlink_behind<K, E: QueueEnds<K>>(
         &mut self,
         keeper: &mut E,
@@ -459,8 +459,8 @@ impl RequestTable {
         keeper.set_ends(slot, ends);
     }
 
-    // Takes the transaction's request, which has this id, out of the slot's queue. Where it is the first, as it mostly is,
-    // nothing is looked for.
+    // Takes the transaction's request, which has this id, out of the slot's queue. If it is the first, as it mostly is, nothing
+    // is looked for.
     fn unlink<K, E: QueueEnds<K>>(
         &mut self,
         keeper: &mut E,
@@ -494,7 +494,7 @@ impl RequestTable {
         self.nodes.try_remove(id);
     }
 
-    /// Takes the first request of the transaction out, and gives its slot.
+    /// Takes the first request of the transaction out, and returns its slot.
     pub(crate) fn take<K, E: QueueEnds<K>>(
         &mut self,
         keeper: &mut E,

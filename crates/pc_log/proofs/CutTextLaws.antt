@@ -1,4 +1,4 @@
--- What is read of a log's text that was cut off.
+-- What is read of a log's text that was truncated.
 use Rattle.std.proofs.Common.{◌≡◌, ℕ, zero, suc, ◌-◌, ◌^◌, ◌<◌, ◌≤◌, false, cond, eqb, List, [], ◌∷◌, ◌++◌, length, take, Some, None, Ok, Err, refl, sym, ap, subst, ◌∙◌, append_assoc, add-one, arith, inl, inr}
 use Rattle.std.specs.Prelude.{All}
 use Rattle.std.specs.List.{flat_map, AllByRecursion}
@@ -32,19 +32,19 @@ bytes_short missing count bytes lt = rw (lt-ltb (length bytes) count lt) refl
 number_short : (missing : Refusal) (w : Width) (bytes : List ℕ) → length bytes < byte_len w → number_at missing w bytes ≡ Err missing
 number_short missing w bytes lt = rw (lt-ltb (length bytes) (byte_len w) lt) refl
 
--- a cut behind the first text
+-- a cut after the first text
 take_behind : (first rest : List ℕ) (c : ℕ) → length first ≤ c → take c (first ++ rest) ≡ first ++ take (c - length first) rest
 take_behind first rest c le =
     ap (λ (n : ℕ). take n (first ++ rest)) (omega arith) ∙ take-append-add first rest (c - length first)
 
--- the same where the first text is known to have so many bytes
+-- the same if the first text is known to have that many bytes
 behind_sized : (n : ℕ) (first rest : List ℕ) (c : ℕ) → length first ≡ n → n ≤ c → take c (first ++ rest) ≡ first ++ take (c - n) rest
 behind_sized n first rest c len le = subst (λ (k : ℕ). take c (first ++ rest) ≡ first ++ take (c - k) rest) len (take_behind first rest c (omega (arith, len, le)))
 
 taken_length : (c : ℕ) (bytes : List ℕ) → length (take c bytes) ≤ c
 taken_length c bytes = omega (arith, length-take c bytes)
 
--- ---- an entry that is cut off
+-- ---- an entry that is truncated
 
 entry_cut : (format : Format) (last : LastToken) (entry : Entry) (more : List ℕ) (c : ℕ) → IsEntry entry → c < length (entry_text_in format entry) → entry_at format last (take c (entry_text_in format entry ++ more)) ≡ Err Short
 unfolding entry_at
@@ -59,9 +59,9 @@ entry_cut format last entry more c lawful cut =
           ap (entry_at format last) parts ∙ rw (number_again Short w32 (2 ^ 32) wide32 size (take (c - 4) (body_text_in format entry ++ more)) (body_fits format entry lawful), body_lawful format entry lawful, bytes_short Short size (take (c - 4) (body_text_in format entry ++ more)) short) refl
     ]
 
--- ---- entries that are cut off
+-- ---- entries that are truncated
 
--- so many bytes are left behind these entries
+-- that many bytes are left after these entries
 abbrev left_over : List Entry → ℕ → LogReading
 left_over entries rest = record { entries = entries; rest = rest; fault = cond (eqb rest 0) None (Some Short) }
 
@@ -115,7 +115,7 @@ cut_entries format (entry ∷ entries) last c lawful has order =
       | inr le ↦ let others = cut_entries format entries (token_after last entry) (c - length (entry_text_in format entry)) lawful.1 has.1 next.1 in (suc others.0, cut_later format last entry entries c others.0 lawful.0 has.0 next.0 le others.1)
     ]
 
--- ---- a header that is cut off
+-- ---- a header that is truncated
 
 magic_short : (first second bytes : List ℕ) → length bytes < 8 → magic_at first second bytes ≡ Err Short
 unfolding magic_at
@@ -138,7 +138,7 @@ header_cut format run rest c fits cut =
       ]
     ]
 
--- ---- a log that is cut off
+-- ---- a log that is truncated
 
 pub log_cut : (format : Format) (run : ℕ) (entries : List Entry) (c : ℕ) → run < 2 ^ 64 → All IsEntry entries → HasLog format entries → InOrder entries → 20 ≤ c
     → (p : ℕ) × AreCut format run entries c p × (log_at (take c (log_text_in format run entries)) ≡ Ok (cut_read format run entries c p))

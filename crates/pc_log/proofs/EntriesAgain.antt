@@ -53,7 +53,7 @@ in_middle : (P : List ℕ → Type 0) (earlier : List Write) (write : Write) (mo
 in_middle P [] write more all = all.0
 in_middle P (x ∷ xs) write more all = in_middle P xs write more all.1
 
--- where no key stands twice, none stands among the earlier ones
+-- if no key occurs twice, none is among the earlier ones
 not_earlier : (earlier : List Write) (write : Write) (more : List Write) → IsDistinct same_key (keys_of (earlier ++ write ∷ more)) → is_written earlier write.key ≡ false
 unfolding IsDistinct
 not_earlier [] write more once = refl
@@ -75,7 +75,7 @@ writes_again format (w ∷ ws) earlier rest limits has once =
 
 -- ---- how long texts are
 
--- the longest write has so many bytes
+-- the longest write has that many bytes
 abbrev most_write_bytes : Format → ℕ
 most_write_bytes format = 2 + (space_bytes format + 255) + 1 + (4 + 65535)
 

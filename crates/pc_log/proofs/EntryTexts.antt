@@ -72,7 +72,7 @@ write_takes format earlier bytes write rest fits e =
       new = not-true (is_written earlier a.0.0) g.0;
     })
 
--- the writes that were read behind the earlier ones
+-- the writes that were read after the earlier ones
 record WritesTake (format : Format) (earlier : List Write) (count : ℕ) (bytes : List ℕ) (all : List Write) (rest : List ℕ) : Type 0 where
   more : List Write
   all_is : all ≡ earlier ++ more

@@ -35,7 +35,7 @@ use Rattle.pc_log.specs.Orders.{FollowFrom, next_phase, next_point}
 use Rattle.pc_log.specs.Laws.{LogsOfRunsHaveTexts}
 use Rattle.pc_log.proofs.LawfulWrites.{AreLawful, none_lawful, lawful_change, merges_to, lawful_with}
 
--- ---- what is lawful of an effect
+-- ---- what is valid of an effect
 
 abbrev pub IsLawfulMove : History → Phase → Type 0
 IsLawfulMove h Prepare = eqb (point_of h) 65535 ≡ false

@@ -24,7 +24,7 @@ pub record AreLawful (ws : List Write) : Type 0 where
 pub none_lawful : AreLawful []
 none_lawful = record { count = omega arith; in_limits = tt; once = none_distinct }
 
--- a key is set within the limits of values, or removed, and both can be done behind any earlier change
+-- a key is set within the limits of values, or removed, and both can be done after any earlier change
 pub lawful_change : (v : Option (List ℕ)) → IfSome v IsValue → IsChange (change_to v)
 lawful_change None is = tt
 lawful_change (Some value) is = is
@@ -41,7 +41,7 @@ lawful_sum : (value : List ℕ) (sum : Option ℤ) → IsValue value → IsChang
 lawful_sum value None is = is
 lawful_sum value (Some n) is = number_is_value n
 
--- two lawful changes that can be kept as one are a lawful one
+-- two valid changes that can be kept as one are a valid one
 lawful_merge : (before after : Change) → IsChange before → IsChange after → CanMerge (Some before) after → IsChange (merged before after)
 lawful_merge before (Set value) was is can = is
 lawful_merge before Remove was is can = tt
@@ -53,11 +53,11 @@ module _ (k : List ℕ) (change : Change) where
   abbrev write : Write
   write = write_of k change
 
-  -- that of the earlier write of the key, once this one stands behind it
+  -- that of the earlier write of the key, once this one comes after it
   abbrev behind : Write → Write
   behind w = write_of w.key (merged w.change change)
 
-  -- a write adds its key where it is new
+  -- a write adds its key if it is new
   keys_with : (ws : List Write) → keys_of (with_write ws write) ≡ with_key (keys_of ws) k
   keys_with [] = refl
   keys_with (w ∷ ws) = by (same_bytes w.key k) refl (keys_with ws)
@@ -74,7 +74,7 @@ module _ (k : List ℕ) (change : Change) where
           cons true = refl
           cons false = refl
 
-  -- and one more write only where its key is
+  -- and one more write only if its key is
   count_with : (ws : List Write) → length (with_write ws write) ≡ cond (is_some (written ws k)) (length ws) (length ws + 1)
   count_with [] = refl
   count_with (w ∷ ws) = by (same_bytes w.key k) (count_with ws)
@@ -97,7 +97,7 @@ module _ (k : List ℕ) (change : Change) where
       by true here later = ((all.0.0, lawful_merge w.change change all.0.1 is here), all.1)
       by false here later = (all.0, later here)
 
-  -- one more lawful write that isn't one too many, and can be kept as one with what was written of its key
+  -- one more valid write that isn't one too many, and can be kept as one with what was written of its key
   pub lawful_with : (ws : List Write) → IsKey k → IsChange change → CanMerge (written ws k) change → (eqb (length ws) 256 && not (is_some (written ws k))) ≡ false → AreLawful ws → AreLawful (with_write ws write)
   lawful_with ws is_key is can few are = record {
     count = by (is_some (written ws k)) (count_with ws) few;

@@ -26,7 +26,7 @@ use Rattle.pc_log.proofs.StepLaws.{made_ok}
 use Rattle.pc_log.proofs.EntriesAgain.{last_after, all_again, magic_is, header_again}
 use Rattle.pc_log.proofs.TurnLaws.{turn_is, with_front, read_as}
 
--- what was found in the bytes, behind the last token
+-- what was found in the bytes, after the last token
 record FoundTakes (format : Format) (last : LastToken) (bytes : List ℕ) (found : LogReading) : Type 0 where
   left : List ℕ
   parts : bytes ≡ flat_map (entry_text_in format) found.entries ++ left
@@ -84,7 +84,7 @@ header_takes bytes header fits e =
     let taken = TakesText-then bytes (log_magic a.0.0) a.0.1 (to_be_bytes w64 r.0.0 ++ to_be_bytes w32 0) b.0.1 m numbers in
     subst (λ (x : Format × ℕ × List ℕ). HeaderTakes bytes x.0 x.1 x.2) g.1 (record { taken = taken; run_fits = n.1 })
 
--- the header, and what is found behind it
+-- the header, and what is found after it
 record LogTakes (bytes : List ℕ) (read : LogRead) : Type 0 where
   format : Format
   rest : List ℕ

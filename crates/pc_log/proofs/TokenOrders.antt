@@ -14,7 +14,7 @@ use Rattle.pc_log.specs.Orders.{next_phase, next_point, FollowFrom, comes_next, 
 use Rattle.pc_types.specs.Phases.{same_phase}
 use Rattle.pc_log.specs.Reading.{phase_numbered}
 
--- the entry keeps the order behind the last token
+-- the entry keeps the order after the last token
 abbrev pub ComesNext : LastToken → Entry → Type 0
 ComesNext last (Commit session writes) = ⊤
 ComesNext last (Token phase point) = (phase ≡ next_phase last.phase) × (point ≡ next_point last.phase last.point)

@@ -1,4 +1,4 @@
--- Reading entries one after the other: each takes some of the bytes, so that there are turns enough.
+-- Reading entries in order: each takes some of the bytes, so that there are turns enough.
 use Rattle.std.proofs.Common.{◌≡◌, ◌≢◌, ℕ, zero, suc, ◌-◌, ◌+◌, ◌≤◌, ◌<◌, Bool, true, false, ltb, eqb, List, [], ◌∷◌, ◌++◌, length, take, drop, Some, None, Result, Ok, Err, refl, sym, ap, subst, ◌∙◌, append_assoc, arith}
 use Rattle.std.specs.Prelude.{nat_le, ◌&&◌}
 use Rattle.std.specs.Int.{Width, w32, byte_len, from_be_bytes}
@@ -125,11 +125,11 @@ not_empty b bytes e f = λ none. grind (arith, nat_tests, e, f, none)
 pub is_empty : (b : Bool) (bytes : List ℕ) → b ≡ eqb (length bytes) 0 → b ≡ true → bytes ≡ []
 is_empty b bytes e t = nil_from_length bytes (eqb-true (length bytes) 0 (sym e ∙ t))
 
--- what is read where this was found
+-- what is read if this was found
 abbrev pub read_as : ℕ → LogReading → Result LogRead Refusal
 read_as run found = Ok (of_run run found)
 
--- what a stopped loop gives: what was read, unless memory ran out
+-- what a stopped loop gives: what was read, unless an allocation failed
 pub stopped_gives : (run : ℕ) (result : Result LogText Refusal) (fault : Refusal) (total : LogReading) (entries : List Entry) (rest : ℕ)
     → Gives text_of result (Ok (record { run = run; entries = entries; rest = rest; fault = Some fault })) → (fault ≡ OutOfMemory → result ≡ Err OutOfMemory)
     → (fault ≢ OutOfMemory → total ≡ record { entries = entries; rest = rest; fault = Some fault }) → Gives text_of result (Ok (of_run run total))

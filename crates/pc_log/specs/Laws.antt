@@ -1,4 +1,4 @@
--- What is read of a text, and what was written is read again.
+-- The laws of reading a text, and of reading again a written one.
 use Rattle.std.specs.Prelude.{◌≡◌, ℕ, ◌+◌, ◌-◌, ◌<◌, ◌≤◌, ◌^◌, ◌==◌, List, ◌++◌, length, take, Some, None, Ok, Err, All, slice_index, if◌then◌else◌}
 use Rattle.std.specs.List.{flat_map}
 use Rattle.pc_types.specs.declared.refusal.Refusal.TheVariants.{Short}
@@ -23,7 +23,7 @@ pub record IsLog (entries : List Entry) : Type 0 where
   pub lawful : All IsEntry entries
   pub in_order : InOrder entries
 
--- the bytes begin with a text of these entries, and so many are left behind it
+-- the bytes begin with a text of these entries, and that many are left after it
 abbrev pub LeavesBehind : List ℕ → ℕ → List Entry → ℕ → Type 0
 LeavesBehind bytes run entries rest = (format : Format) × HasLog format entries × (left : List ℕ) × (bytes ≡ log_text_in format run entries ++ left) × (length left ≡ rest)
 
@@ -31,8 +31,8 @@ LeavesBehind bytes run entries rest = (format : Format) × HasLog format entries
 abbrev pub BeginsWithText : List ℕ → ℕ → List Entry → Type 0
 BeginsWithText bytes run entries = (rest : ℕ) × LeavesBehind bytes run entries rest
 
--- The whole entries of the bytes: a text of theirs and so many bytes more are the bytes, and any other log of which a text begins
--- the bytes is a beginning of theirs.
+-- The whole entries of the bytes: a text of theirs and that many bytes more are the bytes, and any other log of which a text begins
+-- the bytes is a prefix of theirs.
 pub record AreWholeEntries (bytes : List ℕ) (run : ℕ) (entries : List Entry) (rest : ℕ) : Type 0 where
   pub run_fits : run < 2 ^ 64
   pub is_log : IsLog entries
@@ -48,7 +48,7 @@ abbrev pub LogTextsAreRead : Type 0
 LogTextsAreRead =
     (bytes : List ℕ) (run : ℕ) (entries : List Entry) → run < 2 ^ 64 → All IsEntry entries → InOrder entries → IsLogText bytes run entries → log_at bytes ≡ Ok (record { run = run; entries = entries; rest = 0; fault = None })
 
--- Each entry's text is read as that entry, whatever token was before it, and the bytes behind it are left; and the texts of entries
+-- Each entry's text is read as that entry, whatever token was before it, and the bytes after it are left; and the texts of entries
 -- are read as these, in their order.
 abbrev pub EntryTextsAreRead : Type 0
 EntryTextsAreRead =
@@ -59,7 +59,7 @@ EntryTextsAreRead =
 abbrev pub LogsOfRunsHaveTexts : Type 0
 LogsOfRunsHaveTexts = (st : Setting) (history : History) → HasLegalEffects st history → st.sessions ≤ MOST_SESSIONS → AreInLimits history → IsLog (log_of history)
 
--- how many of the first c bytes of the text are behind that of the first p entries
+-- how many of the first c bytes of the text are after that of the first p entries
 abbrev pub left_behind : Format → ℕ → List Entry → ℕ → ℕ → ℕ
 left_behind format run entries c p = length (take c (log_text_in format run entries)) - length (log_text_in format run (take p entries))
 
@@ -69,14 +69,14 @@ pub record AreCut (format : Format) (run : ℕ) (entries : List Entry) (c p : �
   pub there : length (log_text_in format run (take p entries)) ≤ c
   pub next : p < length entries → c < length (log_text_in format run (take (p + 1) entries))
 
--- what is read of the first c bytes, where the first p entries are whole in them
+-- what is read of the first c bytes, if the first p entries are whole in them
 abbrev pub cut_read : Format → ℕ → List Entry → ℕ → ℕ → LogRead
 cut_read format run entries c p =
     let left = left_behind format run entries c p in
     record { run = run; entries = take p entries; rest = left; fault = if left == 0 then None else Some Short }
 
--- A log's text of either format that is cut off within its header, which has 20 bytes, is short. Else the entries are read that
--- are whole, and the rest is short, where there is one.
+-- A log's text of either format that is truncated within its header, which has 20 bytes, is short. Otherwise the entries are read
+-- that are whole, and the rest is short, if there is one.
 abbrev pub CutLogsAreRead : Type 0
 CutLogsAreRead =
     (format : Format) (run : ℕ) (entries : List Entry) (c : ℕ) → run < 2 ^ 64 → All IsEntry entries → HasLog format entries → InOrder entries →

@@ -1,5 +1,5 @@
--- The order of a log's tokens: five for each point, from its prepare to its rest, and the points one after the other from 1
--- up to 65,535.
+-- The order of a log's tokens: five for each point, from its prepare to its rest, and the points in order from 1 up to
+-- 65,535.
 use Rattle.std.specs.Prelude.{◌≡◌, ℕ, ◌+◌, ◌==◌, Bool, ◌&&◌, nat_le, List, [], ◌∷◌, ⊤}
 use Rattle.pc_types.specs.declared.Entry.{Entry}
 use Rattle.pc_types.specs.declared.Entry.TheVariants.{Commit, Token}

@@ -10,7 +10,7 @@ use Rattle.pc_types.specs.declared.Format.TheVariants.{Second}
 use Rattle.pc_types.specs.Fields.{◌>>=◌, where_true, bytes_at, number_at}
 use Rattle.pc_log.specs.Reading.{byte_at, phase_numbered, commit_at}
 
--- what a token has behind its kind
+-- what a token has after its kind
 unfoldable pub plain_token_at : List ℕ → Result (Entry × List ℕ) Refusal
 plain_token_at bytes = do
   number ← byte_at bytes
@@ -18,7 +18,7 @@ plain_token_at bytes = do
   point ← number_at BadLength w32 number.1
   where_true (nat_le point.0 MOST_POINTS) TokenOrder (Token phase point.0, point.1)
 
--- what an entry of this kind has behind its kind
+-- what an entry of this kind has after its kind
 unfoldable pub plain_kind_at : ℕ → List ℕ → Result (Entry × List ℕ) Refusal
 plain_kind_at (suc zero) bytes = commit_at Second bytes
 plain_kind_at (suc (suc zero)) bytes = plain_token_at bytes
@@ -38,12 +38,12 @@ plain_entry_at bytes = do
   entry ← plain_body_at body.0
   Ok (entry.0, body.1)
 
--- the entry that was read, and those behind it
+-- the entry that was read, and those after it
 abbrev pub and_behind : Result (Entry × List ℕ) Refusal → (List ℕ → List Entry) → List Entry
 and_behind (Ok entry) behind = entry.0 ∷ behind entry.1
 and_behind (Err fault) behind = []
 
--- so many entries at most, as far as they can be read
+-- at most that many entries, as far as they can be read
 unfoldable pub plain_entries_at : ℕ → List ℕ → List Entry
 plain_entries_at zero bytes = []
 plain_entries_at (suc turns) bytes = and_behind (plain_entry_at bytes) (plain_entries_at turns)

@@ -31,7 +31,7 @@ byte_at (byte ∷ rest) = Ok (byte, rest)
 abbrev pub is_written : List Write → List ℕ → Bool
 is_written writes key = list_any (λ (write : Write). same_key key write.key) writes
 
--- what a write does to its key: a kind of 0 and nothing, of 1 and a value, or of 2 and a number in two's complement
+-- the effect of a write on its key: a kind of 0 and nothing, of 1 and a value, or of 2 and a number in two's complement
 unfoldable pub change_at : List ℕ → Result (Change × List ℕ) Refusal
 change_at [] = Err BadLength
 change_at (zero ∷ rest) = Ok (Remove, rest)
@@ -51,14 +51,14 @@ write_at format earlier bytes = do
   change ← change_at first.1
   Ok (record { key = first.0; change = change.0 }, change.1)
 
--- the earlier writes, and so many more
+-- the earlier writes, and that many more
 unfoldable pub writes_at : Format → ℕ → List Write → List ℕ → Result (List Write × List ℕ) Refusal
 writes_at format zero earlier bytes = Ok (earlier, bytes)
 writes_at format (suc count) earlier bytes = do
   write ← write_at format earlier bytes
   writes_at format count (earlier ++ write.0 ∷ []) write.1
 
--- what a commit has behind its kind
+-- what a commit has after its kind
 unfoldable pub commit_at : Format → List ℕ → Result (Entry × List ℕ) Refusal
 commit_at format bytes = do
   session ← byte_at bytes
@@ -68,7 +68,7 @@ commit_at format bytes = do
   writes ← writes_at format few.0 [] few.1
   Ok (Commit lawful.0 writes.0, writes.1)
 
--- the phase for which a number stands
+-- the phase that a number represents
 abbrev pub phase_numbered : ℕ → Result Phase Refusal
 phase_numbered zero = Ok Rest
 phase_numbered (suc zero) = Ok Prepare
@@ -77,7 +77,7 @@ phase_numbered (suc (suc (suc zero))) = Ok Capture
 phase_numbered (suc (suc (suc (suc zero)))) = Ok Complete
 phase_numbered (suc (suc (suc (suc (suc number))))) = Err BadKind
 
--- what a token has behind its kind; it comes next after the last one
+-- what a token has after its kind; it comes next after the last one
 unfoldable pub token_at : LastToken → List ℕ → Result (Entry × List ℕ) Refusal
 token_at last bytes = do
   number ← byte_at bytes
@@ -85,7 +85,7 @@ token_at last bytes = do
   point ← number_at BadLength w32 number.1
   where_true (comes_next last phase point.0) TokenOrder (Token phase point.0, point.1)
 
--- what an entry of this kind has behind its kind
+-- what an entry of this kind has after its kind
 unfoldable pub kind_at : Format → ℕ → LastToken → List ℕ → Result (Entry × List ℕ) Refusal
 kind_at format (suc zero) last bytes = commit_at format bytes
 kind_at format (suc (suc zero)) last bytes = token_at last bytes
@@ -112,13 +112,13 @@ entry_at format last bytes = do
   entry ← body_at format last body.0
   Ok (entry, body.1)
 
--- the entries that can be read one after the other, how many bytes are left, and the fault that stopped the reading
+-- the entries that can be read in order, how many bytes are left, and the fault that stopped the reading
 pub record LogReading : Type 0 where
   pub entries : List Entry
   pub rest : ℕ
   pub fault : Option Refusal
 
--- this is the fault of the bytes, where there are any
+-- this is the fault of the bytes, if there are any
 abbrev pub fault_of : List ℕ → Refusal → Option Refusal
 fault_of [] fault = None
 fault_of (byte ∷ bytes) fault = Some fault
@@ -131,7 +131,7 @@ none_more bytes fault = record { entries = []; rest = length bytes; fault = faul
 abbrev pub with_entry : Entry → LogReading → LogReading
 with_entry entry found = record found { entries = entry ∷ found.entries }
 
--- the entry that was read and what is found behind it, or none more
+-- the entry that was read and what is found after it, or none more
 abbrev pub found_by : List ℕ → Result (Entry × List ℕ) Refusal → (Entry × List ℕ → LogReading) → LogReading
 found_by bytes (Ok entry) behind = with_entry entry.0 (behind entry)
 found_by bytes (Err fault) behind = none_more bytes fault
@@ -152,7 +152,7 @@ pub record LogRead : Type 0 where
 abbrev pub of_run : ℕ → LogReading → LogRead
 of_run run found = record { run = run; entries = found.entries; rest = found.rest; fault = found.fault }
 
--- the header: the format, the run, and the bytes behind it
+-- the header: the format, the run, and the bytes after it
 unfoldable pub header_at : List ℕ → Result (Format × ℕ × List ℕ) Refusal
 header_at bytes = do
   start ← magic_at (log_magic First) (log_magic Second) bytes
@@ -160,7 +160,7 @@ header_at bytes = do
   base ← number_at Short w32 run.1
   where_true (base.0 == 0) BadRanges (start.0, run.0, base.1)
 
--- all of the bytes: the header, and the entries behind it in the header's format
+-- all of the bytes: the header, and the entries after it in the header's format
 unfoldable pub log_at : List ℕ → Result LogRead Refusal
 log_at bytes = do
   header ← header_at bytes

@@ -1,5 +1,5 @@
--- The text of a log: the bytes that stand for it, in either format. Numbers stand with their highest byte first. A word with _in
--- takes the format; the same word without it is what is written, in format 02.
+-- The text of a log: the bytes that represent it, in either format. Numbers are big-endian. A word with _in takes the format;
+-- the same word without it is what is written, in format 02.
 use Rattle.std.specs.Prelude.{◌≡◌, ℕ, ◌≤◌, Bool, true, List, ◌∷◌, ◌++◌, length, map, codes, Some, None, All, ⊤}
 use Rattle.std.specs.List.{flat_map, IsDistinct, AllByRecursion}
 use Rattle.std.specs.Int.{w8, w16, w32, w64, to_be_bytes}
@@ -19,16 +19,16 @@ use Rattle.pc_types.specs.Fields.{key_text_in, content_text, HasKey}
 use Rattle.pc_types.specs.Limits.{IsKey, IsValue}
 use Rattle.pc_types.specs.declared.limits.TheConstants.{MOST_POINTS, MOST_SESSIONS, MOST_WRITES}
 
--- the bytes that tell a log of a format
+-- the magic of a log of a format
 abbrev pub log_magic : Format → List ℕ
 log_magic First = codes "PCALCL01"
 log_magic Second = codes "PCALCL02"
 
--- what stands first: the magic, the run, and the base point, which is 0
+-- the header: the magic, the run, and the base point, which is 0
 abbrev pub header_text_in : Format → ℕ → List ℕ
 header_text_in format run = log_magic format ++ (to_be_bytes w64 run ++ to_be_bytes w32 0)
 
--- what a write does to its key: the kind, and behind it the value that is set, or the number that is added
+-- the effect of a write on its key: the kind, and after it the value that is set, or the number that is added
 abbrev pub change_text : Change → List ℕ
 change_text Remove = content_text None
 change_text (Set value) = content_text (Some value)
@@ -38,7 +38,7 @@ change_text (Add d) = 2 ∷ number_text d
 abbrev pub write_text_in : Format → Write → List ℕ
 write_text_in format write = key_text_in format write.key ++ change_text write.change
 
--- the number that stands for a phase
+-- the number that represents a phase
 abbrev pub phase_number : Phase → ℕ
 phase_number Rest = 0
 phase_number Prepare = 1
@@ -46,8 +46,8 @@ phase_number Resolve = 2
 phase_number Capture = 3
 phase_number Complete = 4
 
--- what stands of an entry behind its length: of a commit its kind, its session, and its writes with their count before them;
--- of a token its kind, its phase and its point
+-- the bytes of an entry after its length: of a commit its kind, its session, and its writes with their count before them; of a
+-- token its kind, its phase and its point
 abbrev pub body_text_in : Format → Entry → List ℕ
 body_text_in format (Commit session writes) = 1 ∷ (to_be_bytes w8 session ++ (to_be_bytes w16 (length writes) ++ flat_map (write_text_in format) writes))
 body_text_in format (Token phase point) = 2 ∷ (phase_number phase ∷ to_be_bytes w32 point)
@@ -70,11 +70,11 @@ header_text run = header_text_in Second run
 abbrev pub write_text : Write → List ℕ
 write_text write = write_text_in Second write
 
--- an entry behind its length
+-- an entry after its length
 abbrev pub body_text : Entry → List ℕ
 body_text entry = body_text_in Second entry
 
--- what stands of a commit before its writes
+-- the bytes of a commit before its writes
 abbrev pub commit_head_text : ℕ → List Write → List ℕ
 commit_head_text session writes = to_be_bytes w32 (length (body_text (Commit session writes))) ++ (1 ∷ (to_be_bytes w8 session ++ to_be_bytes w16 (length writes)))
 

@@ -25,17 +25,17 @@ pub const COMMIT: u8 = 1;
 /// The kind of a token, the byte with which its body begins.
 pub const TOKEN: u8 = 2;
 
-/// The kind of a write that leaves its key without a value, the byte behind the key.
+/// The kind of a write that leaves its key without a value, the byte after the key.
 pub const ABSENCE: u8 = 0;
 
-/// The kind of a write that gives its key a value, the byte behind the key.
+/// The kind of a write that gives its key a value, the byte after the key.
 pub const VALUE: u8 = 1;
 
-/// The kind of a write that adds to the number that its key has, the byte behind the key.
+/// The kind of a write that adds to the number that its key has, the byte after the key.
 pub const ADD: u8 = 2;
 
-/// Writes what stands before the entries of the run. It takes no memory, and refuses with `Device` exactly where the device
-/// failed; then a beginning of the text went out, and not all of it.
+/// Writes the header, which comes before the entries, of the run. It allocates no memory, and returns `Device` if and only if
+/// the device failed; then a prefix of the text went out, and not all of it.
 pub fn encode_header<W: io::Write>(out: &mut Tally<W>, run: u64) -> Result<(), Refusal>
     ensures { Puts W.contents out.old out.new result (header_text run) }
 {
@@ -44,8 +44,8 @@ pub fn encode_header<W: io::Write>(out: &mut Tally<W>, run: u64) -> Result<(), R
     out.put_all(&[&MAGIC, &run_bytes, &BASE_POINT])
 }
 
-/// Writes the text of the entry, which has at most 256 writes. It takes no memory, and refuses with `Device` exactly where
-/// the device failed; then a beginning of the text went out, and not all of it.
+/// Writes the text of the entry, which has at most 256 writes. It allocates no memory, and returns `Device` if and only if the
+/// device failed; then a prefix of the text went out, and not all of it.
 pub fn encode_entry<W: io::Write>(out: &mut Tally<W>, entry: &Entry) -> Result<(), Refusal>
     requires { HasFewWrites entry.now }
     ensures { Puts W.contents out.old out.new result (entry_text entry.now) }
@@ -60,8 +60,8 @@ pub fn encode_entry<W: io::Write>(out: &mut Tally<W>, entry: &Entry) -> Result<(
     }
 }
 
-/// Writes the text of a log: the header of the run, and the entries, each of which has at most 256 writes. It takes no memory,
-/// and refuses with `Device` exactly where the device failed; then a beginning of the text went out, and not all of it.
+/// Writes the text of a log: the header of the run, and the entries, each of which has at most 256 writes. It allocates no
+/// memory, and returns `Device` if and only if the device failed; then a prefix of the text went out, and not all of it.
 pub fn encode_log<W: io::Write>(
     out: &mut Tally<W>,
     run: u64,
@@ -146,7 +146,7 @@ fn put_token<W: io::Write>(out: &mut Tally<W>, phase: Phase, point: Point) -> Re
     out.put_all(&[&[0, 0, 0, 6, TOKEN, phases::number(phase)], &point_bytes])
 }
 
-/// How many bytes the text of the entry takes, which has at most 256 writes.
+/// The number of bytes that the text of the entry takes, which has at most 256 writes.
 pub fn entry_size(entry: &Entry) -> u32
     requires { HasFewWrites entry.now }
     ensures { result ≡ length (entry_text entry.now) }
@@ -157,7 +157,7 @@ pub fn entry_size(entry: &Entry) -> u32
     }
 }
 
-/// How many bytes the text of a commit of these writes takes, which are at most 256.
+/// The number of bytes that the text of a commit of these writes takes, which are at most 256.
 pub fn commit_size(writes: &[Write]) -> u32
     requires { length writes.now ≤ MOST_WRITES }
     ensures { (session : ℕ) → result ≡ length (entry_text (Commit session writes.now)) }
@@ -165,10 +165,10 @@ pub fn commit_size(writes: &[Write]) -> u32
     8 + writes_size(writes)
 }
 
-/// How many bytes the text of a token takes.
+/// The number of bytes that the text of a token takes.
 pub const TOKEN_SIZE: u32 = 10;
 
-/// How many bytes the texts of these writes take, which are at most 256: at most 65,799 each.
+/// The number of bytes that the texts of these writes take, which are at most 256: at most 65,799 each.
 pub fn writes_size(writes: &[Write]) -> u32
     requires { length writes.now ≤ MOST_WRITES }
     ensures size { result ≡ length (flat_map write_text writes.now) }

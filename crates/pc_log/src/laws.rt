@@ -1,8 +1,8 @@
 //! Laws of texts. Each function does nothing, and its contract is a law.
 ghost use Rattle.pc_log.specs.Laws.{CutLogsAreRead, EntryTextsAreRead, LogTextsAreRead, LogsOfRunsHaveTexts, WholeEntriesAreLongest};
 
-/// What is read of a text of either format are its whole entries: their texts begin the bytes after the header, they have what
-/// an entry's text asks, their tokens keep their order, and each such list of entries is a beginning of theirs.
+/// The entries read of a text of either format are its whole entries: their texts begin the bytes after the header, they have
+/// what an entry's text asks, their tokens keep their order, and each such list of entries is a prefix of theirs.
 pub fn whole_entries_are_longest()
     ensures { WholeEntriesAreLongest }
 {}
@@ -23,8 +23,8 @@ pub fn entry_texts_are_read()
     ensures { EntryTextsAreRead }
 {}
 
-/// A text of either format that was cut off in its header is short, and else as many entries are read as are there as a whole;
-/// the rest is short, where there is one.
+/// A text of either format that was truncated in its header is short, and otherwise as many entries are read as are there as a
+/// whole; the rest is short, if there is one.
 pub fn cut_logs_are_read()
     ensures { CutLogsAreRead }
 {}

@@ -1,5 +1,5 @@
 //! The text of a log: the commits and the changes of the phase, in their order; and what can be read of a text that may have
-//! been cut off.
+//! been truncated.
 #![tactic(auto)]
 
 mod encoding;

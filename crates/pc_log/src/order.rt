@@ -1,5 +1,5 @@
-//! The order of a log's tokens: five for each point, from its prepare to its rest, and the points one after the other from 1
-//! up to 65,535.
+//! The order of a log's tokens: five for each point, from its prepare to its rest, and the points in order from 1 up to
+//! 65,535.
 ghost use Rattle.std.specs.Prelude.{◌≡◌, ◌≤◌, true};
 ghost use Rattle.pc_log.specs.Orders.{comes_next, next_phase, next_point, no_token, token_after};
 ghost use Rattle.pc_types.specs.Phases.{same_phase};
@@ -34,7 +34,7 @@ impl LastToken {
             && point <= u32::from(MOST_POINTS)
     }
 
-    /// The last token once this entry stands behind the others.
+    /// The last token once this entry is appended to the others.
     pub fn after(&self, entry: &Entry) -> LastToken
         ensures { result ≡ token_after self.now entry.now }
     {

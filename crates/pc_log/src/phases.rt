@@ -1,4 +1,4 @@
-//! The numbers that stand for phases in a text.
+//! The numbers that represent phases in a text.
 ghost use Rattle.std.specs.Prelude.{◌≡◌};
 ghost use Rattle.pc_types.specs.Fields.{Reads};
 ghost use Rattle.pc_log.specs.Texts.{phase_number};
@@ -19,7 +19,7 @@ pub fn number(phase: Phase) -> u8
     }
 }
 
-/// The phase of this number. Refuses with `BadKind` exactly where it is above 4.
+/// The phase of this number. Returns `BadKind` if and only if it is above 4.
 pub fn numbered(number: u8) -> Result<Phase, Refusal>
     ensures { Reads (λ phase. phase) result (phase_numbered number) }
 {

@@ -7,10 +7,10 @@ use crate::reading::{read_byte, read_commit};
 use pc_types::{Entry, Format, MOST_POINTS, Point, Refusal, read_bytes, read_u32};
 use std::alloc::Global;
 
-/// Reads the entry with which the bytes begin in format 02, whatever token was before it: the entry, and the bytes behind it. Of
-/// an entry's text that is just the entry. Refuses other bytes with the first fault that is met: `Short` where they end inside
-/// the entry, else `BadLength`, `BadKind`, `KeyOrder` or `TokenOrder`; what is left of a body behind its entry is passed over. It
-/// refuses with `OutOfMemory` only where a growth was refused, and takes memory for the entry alone.
+/// Reads the entry with which the bytes begin in format 02, whatever token was before it: the entry, and the bytes after it. Of
+/// an entry's text that is just the entry. Refuses other bytes with the first fault that is met: `Short` if they end inside the
+/// entry, else `BadLength`, `BadKind`, `KeyOrder` or `TokenOrder`; what is left of a body after its entry is passed over. It
+/// refuses with `OutOfMemory` only if a growth was refused, and takes memory for the entry alone.
 #[tactic(auto, unfolding(crate::specs::Plain::plain_entry_at))]
 pub fn read_plain_entry(alloc: Global, bytes: &[u8]) -> Result<(Entry, &[u8]), Refusal>
     ensures { Gives (λ x. (x.0, x.1.now)) result (plain_entry_at bytes.now) }

@@ -1,4 +1,4 @@
-//! A log is read from its text, which may have been cut off.
+//! A log is read from its text, which may have been truncated.
 ghost use Rattle.std.specs.Prelude.{◌≡◌, ◌<◌, [], length, IfOk, Ok, Err, Some};
 ghost use Rattle.pc_types.specs.Fields.{Gives, Reads};
 ghost use Rattle.pc_log.specs.Reading.{byte_at, change_at, write_at, writes_at, commit_at, token_at, kind_at, body_at, most_body_bytes, entry_at, entries_at, header_at, log_at, text_of, of_run, is_written};
@@ -14,9 +14,9 @@ use pc_types::{
 };
 use std::alloc::Global;
 
-/// How many bytes the body of an entry has at most in this format: those of the most writes, of the longest keys and values,
-/// with two for the length of each key, one for what stands behind it and four for the length of its value, behind one each for
-/// the kind and the session and two for the number of writes.
+/// The number of bytes that the body of an entry has at most in this format: those of the most writes, of the longest keys and
+/// values, with two for the length of each key, one for the byte after it and four for the length of its value, after one each
+/// for the kind and the session and two for the number of writes.
 pub fn most_body_bytes(format: Format) -> usize
     ensures { result ≡ most_body_bytes format }
 {
@@ -27,23 +27,23 @@ pub fn most_body_bytes(format: Format) -> usize
     4 + MOST_WRITES * (2 + key + 1 + 4 + MOST_VALUE_BYTES)
 }
 
-/// What was read of a log's text: its whole entries, which are all that can be read behind the header one by one with their
-/// tokens in order, and what is left behind them.
+/// The result of reading a log's text: its whole entries, which are all that can be read after the header one by one with their
+/// tokens in order, and what is left after them.
 #[derive(Drop)]
 pub struct LogText {
     /// The number of the run.
     pub run: u64,
     /// The whole entries, the oldest first.
     pub entries: Vec<Entry>,
-    /// How many bytes are left behind the whole entries.
+    /// How many bytes are left after the whole entries.
     pub rest: usize,
-    /// None where no byte is left, else the fault that stopped the reading.
+    /// `None` if no byte is left, else the fault that stopped the reading.
     pub fault: Option<Refusal>,
 }
 
-/// Reads a log's text, of either format: the header tells which, for all of it. Refuses with `Short`, `BadMagic` or `BadRanges`
-/// where the header of 20 bytes has that fault, and with `OutOfMemory` only where a growth was refused. It takes memory for the
-/// entries alone.
+/// Reads a log's text, of either format: the header determines which, for all of it. Refuses with `Short`, `BadMagic` or
+/// `BadRanges` if the header of 20 bytes has that fault, and with `OutOfMemory` only if a growth was refused. It allocates memory
+/// for the entries alone.
 pub fn read_log(alloc: Global, bytes: &[u8]) -> Result<LogText, Refusal>
     ensures exact { Gives text_of result (log_at bytes.now) }
     ensures whole { IfOk result (λ text. AreWholeEntries bytes.now text.run text.entries.items text.rest) }
@@ -60,9 +60,9 @@ fn read_text(alloc: Global, bytes: &[u8]) -> Result<LogText, Refusal>
     read_entries(alloc, format, run, rest)
 }
 
-/// Reads the header of 20 bytes with which a log's text begins: the format of all that stands behind it, the number of the run,
-/// and the bytes behind it. Refuses with `Short` where there are fewer bytes, with `BadMagic` where the first 8 are those of no
-/// format, and with `BadRanges` where the base point isn't 0; of several faults with the first. It takes no memory.
+/// Reads the header of 20 bytes with which a log's text begins: the format of all that follows, the number of the run, and the
+/// bytes after it. Refuses with `Short` if there are fewer bytes, with `BadMagic` if the first 8 are those of no format, and with
+/// `BadRanges` if the base point isn't 0; of several faults with the first. It allocates no memory.
 #[tactic(auto, unfolding(crate::specs::Reading::header_at))]
 pub fn read_header(bytes: &[u8]) -> Result<(Format, u64, &[u8]), Refusal>
     ensures { Reads (λ x. (x.0, x.1, x.2.now)) result (header_at bytes.now) }
@@ -76,7 +76,7 @@ pub fn read_header(bytes: &[u8]) -> Result<(Format, u64, &[u8]), Refusal>
     Ok((format, run, rest))
 }
 
-// As many entries as can be read one after the other.
+// As many entries as can be read in order.
 fn read_entries(alloc: Global, format: Format, run: u64, bytes: &[u8]) -> Result<LogText, Refusal>
     ensures { Gives text_of result (Ok (of_run run (entries_at format (length bytes.now) no_token bytes.now))) }
 {
@@ -101,7 +101,7 @@ fn read_entries(alloc: Global, format: Format, run: u64, bytes: &[u8]) -> Result
     })
 }
 
-// What was read where the rest has this fault, or memory ran out.
+// The result if the rest has this fault, or an allocation failed.
 fn stopped(run: u64, entries: Vec<Entry>, rest: &[u8], fault: Refusal) -> Result<LogText, Refusal>
     ensures read { Gives text_of result (Ok (record { run = run; entries = entries.items; rest = length rest.now; fault = Some fault })) }
     ensures memory { fault ≡ Refusal.OutOfMemory → result ≡ Err Refusal.OutOfMemory }
@@ -117,10 +117,10 @@ fn stopped(run: u64, entries: Vec<Entry>, rest: &[u8], fault: Refusal) -> Result
     })
 }
 
-/// Reads the entry with which the bytes begin, in the format of their log: the entry, and the bytes behind it. A token has to be
-/// the one that follows the last token before these bytes. Refuses with the first fault of the entry: `Short` where the bytes end
-/// inside it, else `BadLength`, `BadKind`, `KeyOrder`, `TokenOrder` or `Trailing`; and with `OutOfMemory` only where a growth was
-/// refused. It takes memory for the entry alone.
+/// Reads the entry with which the bytes begin, in the format of their log: the entry, and the bytes after it. A token has to be
+/// the one that follows the last token before these bytes. Refuses with the first fault of the entry: `Short` if the bytes end
+/// inside it, else `BadLength`, `BadKind`, `KeyOrder`, `TokenOrder` or `Trailing`; and with `OutOfMemory` only if a growth was
+/// refused. It allocates memory for the entry alone.
 #[tactic(auto, unfolding(crate::specs::Reading::entry_at))]
 pub fn read_entry(
     alloc: Global,
@@ -201,7 +201,7 @@ pub(crate) fn read_commit(
     Ok((Entry::Commit(session, writes), rest))
 }
 
-// So many writes, of which no two have the same key. Room is taken for just as many.
+// The given number of writes, of which no two have the same key. Room is made for just as many.
 fn read_writes(
     alloc: Global,
     format: Format,
@@ -238,7 +238,7 @@ fn read_write<'a>(
     Ok((Write { key, change }, rest))
 }
 
-// What a write does to its key: a kind of 0 and nothing, of 1 and a value, or of 2 and a number in two's complement.
+// The effect of a write on its key: a kind of 0 and nothing, of 1 and a value, or of 2 and a number in two's complement.
 #[tactic(auto, unfolding(crate::specs::Reading::change_at))]
 fn read_change(alloc: Global, bytes: &[u8]) -> Result<(Change, &[u8]), Refusal>
     ensures { Gives (λ x. (x.0, x.1.now)) result (change_at bytes.now) }

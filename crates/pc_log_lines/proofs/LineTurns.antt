@@ -1,4 +1,4 @@
--- The lines of a log's entries as they are read, one after the other.
+-- The lines of a log's entries as they are read, in order.
 use Rattle.std.proofs.Common.{◌≡◌, ◌≢◌, ℕ, ◌+◌, List, [], ◌∷◌, ◌++◌, length, Some, None, Ok, Err, refl, ap, ◌∙◌}
 use Rattle.pc_types.specs.declared.refusal.Refusal.{Refusal}
 use Rattle.pc_types.specs.declared.Entry.{Entry}

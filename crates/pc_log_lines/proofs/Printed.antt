@@ -21,16 +21,16 @@ use Rattle.pc_log_lines.specs.Runs.{BeginsLines, IsCutOff, IsLogLost, PutsAll}
 pub at_ok : {A E : Type 0} (P : A → Type 0) (answer : Result A E) (x : A) → answer ≡ Ok x → IfOk answer P → P x
 at_ok P answer x e h = rw e at h
 
--- nothing is a beginning
+-- nothing is a prefix
 nothing_begins : (a : Option (List ℕ)) (y : List ℕ) → AppendsBeginning a a y
 nothing_begins None y = tt
 nothing_begins (Some a) y = (0, omega arith, sym (append-nil a))
 
--- what went out is a beginning of each longer text
+-- what went out is a prefix of each longer text
 pub begins_some : (a b : Option (List ℕ)) (x y z : List ℕ) → Appends a b x → x ++ y ≡ z → AppendsBeginning a b z
 begins_some a b x y z p e = rw (← e) (begins_after a b b x y p (nothing_begins b y))
 
--- so is a beginning of a text
+-- so is a prefix of a text
 begins_longer : (a b : Option (List ℕ)) (x y : List ℕ) → AppendsBeginning a b x → AppendsBeginning a b (x ++ y)
 begins_longer None b x y p = tt
 begins_longer (Some a) None x y p = absurd p
@@ -41,17 +41,17 @@ module _ {T : Type 0} (contents : T → Option (List ℕ)) where
   pub cut_off : (a b : Tally T) (why : Refusal) (x : List ℕ) → Puts contents a b (Err why) x → IsCutOff contents a b why x
   cut_off a b why x p = (part_begins (contents a.inner) (contents b.inner) x p.2, inr (p.0, p.1))
 
-  -- and memory ran out, or not, where no more can be read
+  -- and an allocation failed, or not, if no more can be read
   pub stopped_part : (a b : Tally T) (answer : Result Rest Refusal) (x y z : List ℕ) → IfErr answer (λ why. why ≡ OutOfMemory) → Appends (contents a.inner) (contents b.inner) x → b.failures ≡ a.failures → x ++ y ≡ z
       → IfErr answer (λ why. IsCutOff contents a b why z)
   stopped_part a b (Ok rest) x y z memory sent counted e = tt
   stopped_part a b (Err why) x y z memory sent counted e = (begins_some (contents a.inner) (contents b.inner) x y z sent e, inl (memory, counted))
 
-  -- of a longer text a beginning is one too
+  -- of a longer text a prefix is one too
   pub cut_longer : (a b : Tally T) (why : Refusal) (x y : List ℕ) → IsCutOff contents a b why x → IsCutOff contents a b why (x ++ y)
   cut_longer a b why x y p = (begins_longer (contents a.inner) (contents b.inner) x y p.0, p.1)
 
-  -- a text behind one that went out
+  -- a text after one that went out
   pub all_after : {A : Type 0} (a b c : Tally T) (answer : Result A Refusal) (x y : List ℕ) → PutsAll contents a b x → OnOk answer (Puts contents b c (Ok tt) y) → OnOk answer (PutsAll contents a c (x ++ y))
   all_after a b c (Ok v) x y p q = (appends_then (contents a.inner) (contents b.inner) (contents c.inner) x y p.0 q.0, q.1 ∙ p.1)
   all_after a b c (Err e) x y p q = tt
@@ -86,7 +86,7 @@ module _ {T : Type 0} (contents : T → Option (List ℕ)) where
   ended_failed a b c x (Err e) why all (begins, inl memory) (inr both) other = omega (arith, memory.1, both.1)
   ended_failed a b c x (Err e) why all (begins, inr device) (inr both) other = omega (arith, device.1, both.1)
 
--- ---- where no more entries can be read
+-- ---- if no more entries can be read
 
 pub stopped_all : (P : Type 0) (answer : Result Rest Refusal) (fault : Refusal) → (fault ≡ OutOfMemory → IsErr answer) → (fault ≢ OutOfMemory → P) → OnOk answer P
 stopped_all P (Ok rest) fault memory read = read (λ e. let f = memory e in absurd cc)

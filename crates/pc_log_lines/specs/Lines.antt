@@ -1,4 +1,5 @@
--- What `pcalc log` prints: a line for each entry of a log within a range, and one for the fault with which the rest begins.
+-- The output of `pcalc log`: a line for each entry of a log within a range, and one for the fault with which the rest
+-- begins.
 use Rattle.std.specs.Prelude.{ℕ, ◌+◌, ◌-◌, ◌&&◌, nat_le, if◌then◌else◌, List, [], ◌∷◌, ◌++◌, length, Option, Some, None, Result, Ok, Err, codes, decimal}
 use Rattle.std.specs.List.{flat_map}
 use Rattle.std.specs.Fmt.{signed_decimal}
@@ -44,18 +45,18 @@ entry_words (Token phase point) = phase_name phase ++ (codes " " ++ decimal poin
 abbrev pub entry_line : ℕ → Entry → List ℕ
 entry_line number entry = (decimal number ++ codes " ") ++ (entry_words entry ++ codes "\n")
 
--- the same where the number lies in the range, else nothing
+-- the same if the number lies in the range, else nothing
 abbrev pub line_within : EntryRange → ℕ → Entry → List ℕ
 line_within range number entry = if nat_le range.low number && nat_le number range.high then entry_line number entry else []
 
--- the lines of the entries behind this many others
+-- the lines of the entries after this many others
 abbrev pub lines_behind : EntryRange → ℕ → List Entry → List ℕ
 lines_behind range count [] = []
 lines_behind range count (entry ∷ entries) = line_within range (count + 1) entry ++ lines_behind range (count + 1) entries
 
 -- ---- the rest
 
--- what is left behind the entries that were read
+-- what is left after the entries that were read
 abbrev pub rest_found : LogReading → Rest
 rest_found found = record { bytes = found.rest; fault = found.fault }
 
@@ -68,7 +69,7 @@ rest_of size (Err why) = record { bytes = size; fault = Some why }
 abbrev pub fault_line : Refusal → ℕ → List ℕ
 fault_line why byte = codes "log " ++ (name_of why ++ (codes " byte " ++ (decimal byte ++ codes "\n")))
 
--- the line of the rest of a log of this many bytes: it is the fault's, where there is one
+-- the line of the rest of a log of this many bytes: it is the fault's, if there is one
 abbrev pub line_of : ℕ → ℕ → Option Refusal → List ℕ
 line_of size left None = []
 line_of size left (Some why) = fault_line why (size - (left - 1))
@@ -88,7 +89,7 @@ lines_with range size read rest = entry_lines range read ++ line_of size rest.by
 abbrev pub log_lines : EntryRange → List ℕ → List ℕ
 log_lines range bytes = lines_with range (length bytes) (log_at bytes) (rest_of (length bytes) (log_at bytes))
 
--- the status: 4 where there is a fault
+-- the status: 4 if there is a fault
 abbrev pub status_of : Option Refusal → ℕ
 status_of None = 0
 status_of (Some why) = 4

@@ -128,7 +128,7 @@ fn put_later<W: io::Write>(out: &mut Tally<W>, writes: &[Write]) -> Result<(), R
     Ok(())
 }
 
-// A write, and what stands before it.
+// A write, and the text before it.
 fn put_write<W: io::Write>(out: &mut Tally<W>, before: &[u8], write: &Write) -> Result<(), Refusal>
     ensures { Puts W.contents out.old out.new result (before.now ++ write_words write.now) }
 {
@@ -160,7 +160,7 @@ fn put_add<W: io::Write>(out: &mut Tally<W>, key: &Key, number: &i64) -> Result<
     put_number(out, number)
 }
 
-// What is done to a key, and the key.
+// The word for a write, and its key.
 fn put_verb<W: io::Write>(out: &mut Tally<W>, verb: &[u8], key: &Key) -> Result<(), Refusal>
     ensures { Puts W.contents out.old out.new result (verb.now ++ printed_key key.now) }
 {

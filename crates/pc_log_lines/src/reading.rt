@@ -1,4 +1,4 @@
-//! A log's entries are read one after the other, and the line of each goes out before the next one is read.
+//! A log's entries are read in order, and the line of each goes out before the next one is read.
 ghost use Rattle.std.specs.Prelude.{◌≡◌, ◌⊎◌, length, ◌-◌, Some, Ok, Err, IfOk, IfErr, IsErr, OnOk};
 ghost use Rattle.pc_types.specs.Tallies.{Puts};
 ghost use Rattle.pc_log.specs.Orders.{no_token};
@@ -19,8 +19,8 @@ pub struct EntryRange {
     pub high: u64,
 }
 
-// What is left of a log behind its whole entries: how many bytes, and the fault with which they begin, where there are any. Where the
-// header has a fault, it is all of the log.
+// The rest of a log after its whole entries: the number of bytes, and the fault with which they begin, if there are any. If the header
+// has a fault, it is all of the log.
 #[derive(Clone, Copy)]
 pub(crate) struct Rest {
     pub(crate) bytes: usize,
@@ -32,8 +32,8 @@ const WHOLE: u8 = 0;
 
 const FAULTY: u8 = 4;
 
-/// Writes the lines of a log of these bytes; the status. It takes memory for one entry at a time. It is refused with `OutOfMemory` where
-/// that ran out, and with `Device` exactly where the device failed; then a beginning of the lines went out.
+/// Writes the lines of a log of these bytes; the status. It allocates memory for one entry at a time. It is refused with `OutOfMemory`
+/// if an allocation failed, and with `Device` if and only if the device failed; then a prefix of the lines went out.
 pub(crate) fn put_log<W: Write>(
     alloc: Global,
     range: EntryRange,
@@ -49,7 +49,7 @@ pub(crate) fn put_log<W: Write>(
     put_rest(out, bytes.len(), rest)
 }
 
-// The lines of the whole entries; what is left behind them.
+// The lines of the whole entries; what is left after them.
 #[tactic(auto, unfolding(pc_log::specs::Reading::log_at))]
 fn put_entries<W: Write>(
     alloc: Global,
@@ -70,7 +70,7 @@ fn put_entries<W: Write>(
     }
 }
 
-// The lines of as many entries as can be read one after the other.
+// The lines of as many entries as can be read in order.
 fn put_behind<W: Write>(
     alloc: Global,
     format: Format,
@@ -117,7 +117,7 @@ fn put_within<W: Write>(
     Ok(())
 }
 
-// No more entries can be read for this fault, or memory ran out.
+// No more entries can be read for this fault, or an allocation failed.
 fn stopped(bytes: usize, fault: Refusal) -> Result<Rest, Refusal>
     ensures rest { IfOk result (λ rest. rest ≡ record { bytes = bytes; fault = Some fault }) }
     ensures memory { fault ≡ Refusal.OutOfMemory → IsErr result }
@@ -132,7 +132,7 @@ fn stopped(bytes: usize, fault: Refusal) -> Result<Rest, Refusal>
     })
 }
 
-// The line of the fault of what is left of a log of this many bytes, where there is one; the status.
+// The line of the fault of what is left of a log of this many bytes, if there is one; the status.
 fn put_rest<W: Write>(out: &mut Tally<W>, size: usize, rest: Rest) -> Result<u8, Refusal>
     ensures status { IfOk result (λ status. status ≡ status_of rest.fault) }
     ensures statuses { IfOk result (λ status. (status ≡ WHOLE) ⊎ (status ≡ FAULTY)) }
@@ -149,7 +149,7 @@ fn put_rest<W: Write>(out: &mut Tally<W>, size: usize, rest: Rest) -> Result<u8,
     }
 }
 
-// With which byte the last ones begin, as many as are left of this many, counted from 1; 0 where there is none.
+// With which byte the last ones begin, as many as are left of this many, counted from 1; 0 if there is none.
 fn first_of(size: usize, left: usize) -> u64
     ensures { result ≡ size - (left - 1) }
 {

@@ -18,29 +18,29 @@ use std::io::{Read, Write};
 pub enum LostLog<R> {
     /// The log can't be opened or read. A reader whose device failed is handed back, and has counted that.
     Unread(Unread<R>),
-    /// Memory ran out.
+    /// An allocation failed.
     NoMemory,
     /// The output failed.
     Output,
 }
 
-/// How the lines of a log have ended.
+/// The outcome of printing a log's lines.
 #[derive(Drop)]
 pub struct EndedLog<R> {
     pub status: u8,
-    /// Why not all of them went out, where they didn't.
+    /// Why not all of them went out, if they didn't.
     pub lost: Option<LostLog<R>>,
 }
 
-/// Prints a line for each whole entry of a log whose number lies in the range, in their order, and a last one where the bytes behind
+/// Prints a line for each whole entry of a log whose number lies in the range, in their order, and a last one if the bytes after
 /// them have a fault: which, and with which byte of the log, from 1, begins what has it. It gives the status
 ///
-/// - 0 where the log is whole;
-/// - 4 where it has a fault: its header, or the bytes behind its whole entries, which may just be cut off;
-/// - 1 where not all of that went out: the log can't be opened or read, or memory ran out, for which the error writer gets a line; or
-///   the output failed, for which it gets none. Then the cause is handed back.
+/// - 0 if the log is whole;
+/// - 4 if it has a fault: its header, or the bytes after its whole entries, which may just be truncated;
+/// - 1 if not all of that went out: the log can't be opened or read, or an allocation failed, for which the error writer gets a
+///   line; or the output failed, for which it gets none. Then the cause is handed back.
 ///
-/// The log is read whole; beside its bytes it takes memory for one entry at a time.
+/// The log is read whole; besides its bytes it allocates memory for one entry at a time.
 pub fn run_log<R: Read + Drop, W: Write, E: Write>(
     alloc: Global,
     name: &str,
@@ -87,7 +87,7 @@ fn print_log<R: Read + Drop, W: Write>(
     }
 }
 
-// Why not all lines went out, where this ended them: memory, or else the output.
+// Why not all lines went out, if this ended them: memory, or else the output.
 fn lost_by<R>(why: Refusal) -> LostLog<R>
     ensures { ((why ≡ Refusal.OutOfMemory) × (result ≡ LostLog.NoMemory)) ⊎ ((why ≢ Refusal.OutOfMemory) × (result ≡ LostLog.Output)) }
 {
@@ -112,7 +112,7 @@ fn read_bytes<R: Read + Drop>(
     }
 }
 
-// Tells why not all lines of the log of this name went out. Of a fault of the output it tells nothing.
+// Reports why not all lines of the log of this name went out. A fault of the output isn't reported.
 fn tell_lost<R, E: Write>(name: &[u8], lost: &LostLog<R>, errors: &mut Tally<E>)
     ensures { IsLostTold E.contents errors.old errors.new name.now lost.now }
 {

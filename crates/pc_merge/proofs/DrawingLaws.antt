@@ -159,7 +159,7 @@ module _ (inputs now : List (Option Coming)) (firsts : List (Option Triple)) (pl
         ),
       ))))
 
--- a test that fails tells that keys don't rise
+-- a test that fails tells that keys don't ascend
 pub order_cause : (inputs now : List (Option Coming)) (firsts : List (Option Triple)) (place : ℕ) (was : List Coming) (next : Option Triple) → length inputs ≡ length firsts → place < length inputs → all_left inputs firsts ≡ Some was → Draws inputs now place (answers next)
     → at firsts place ≢ None → Rises (at firsts place) next false → IsCause was KeyOrder
 order_cause inputs now firsts place was next size within left draws some rises =

@@ -1,4 +1,4 @@
--- What a merge has given until all inputs have ended is the join of them.
+-- The entries that a merge has given until all inputs have ended are the join of them.
 use Rattle.std.proofs.Common.{◌≡◌, ℕ, zero, suc, ◌<◌, nat_lt, Bool, true, false, cond, List, [], ◌∷◌, Option, Some, None, length, map, get_or, slice_get, ◌⊎◌, inl, inr, ⊎_elim, refl, sym, ap, ◌∙◌, subst, arith}
 use Rattle.std.specs.List.{All, Contains}
 use Rattle.std.specs.Ordering.{is_eq, is_lt}
@@ -73,7 +73,7 @@ pub causes_stand : CausesStand
 causes_stand start [] left why has cause = subst (λ (cs : List Coming). IsCause cs why) (sym has) cause
 causes_stand start (entry ∷ given) left why has cause = cause_before start (all_behind entry.key start) (rests_behind entry.key start) why (causes_stand (all_behind entry.key start) given left why has.1 cause)
 
--- ---- keys that rise
+-- ---- keys that ascend
 
 below_first : (key : List ℕ) (entries : List Triple) → KeysRise (entries_of entries) → IsBelow key (slice_get entries 0) → below_all key_cmp key (entries_of entries) ≡ true
 below_first key [] rise below = refl
@@ -141,7 +141,7 @@ under_best entry (first ∷ entries) rise (inr (same, newest)) = subst (λ x. Is
     older (inl less) = inl less
     older (inr is) = inr (ap at_point is)
 
--- of another key the same is found behind
+-- of another key the same is found after
 found_behind : (key other : List ℕ) (entries : List Triple) → same_bytes key other ≡ false → found key (entries_behind other entries) ≡ found key entries
 found_behind key other [] apart = refl
 found_behind key other (entry ∷ entries) apart = by (same_bytes entry.key other) refl

@@ -10,7 +10,7 @@ use Rattle.pc_merge.specs.Inputs.{known_with, all_known, left_of, each_left, all
 use Rattle.pc_merge.specs.Merging.{first_of, firsts_of}
 use Rattle.pc_merge.specs.Tournaments.{at}
 
--- ---- where all is known
+-- ---- if all is known
 
 record IsKnown (input : Option Coming) (inputs : Option (List Coming)) (was : List Coming) : Type 0 where
   one : Coming
@@ -50,7 +50,7 @@ known_set (input ∷ inputs) was (suc place) now e =
     ∙ ap (λ i. known_with i (Some (set parts.others place now))) parts.one_is
     ∙ ap (λ (all : List Coming). Some (set all (suc place) now)) (sym parts.are)
 
--- where each is known all are
+-- if each is known all are
 pub known_each : (inputs : List (Option Coming)) (was : List Coming) → length was ≡ length inputs → ((place : ℕ) → place < length inputs → coming_at inputs place ≡ Some (input_at was place)) → all_known inputs ≡ Some was
 known_each [] [] size each = refl
 known_each [] (one ∷ was) size each = absurd (omega arith)
@@ -121,7 +121,7 @@ first_left (Some entry) None was is = cc
 first_left (Some entry) (Some input) was is = let same : was ≡ after_entry entry input = cc in ap first_of same
 
 module _ (inputs : List (Option Coming)) (firsts : List (Option Triple)) (was : List Coming) (size : length inputs ≡ length firsts) (left : all_left inputs firsts ≡ Some was) where
-  -- the first entry of what is left stands at the input's place
+  -- the first entry of what is left is at the input's place
   pub first_at : (place : ℕ) → first_of (input_at was place) ≡ at firsts place
   first_at place = ⊎_elim
       (λ (less : place < length inputs). first_left (at firsts place) (coming_at inputs place) (input_at was place) (left_at inputs firsts was size left place less))

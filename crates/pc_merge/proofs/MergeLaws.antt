@@ -37,7 +37,7 @@ module _ (inputs : List (Option Coming)) (firsts : List (Option Triple)) (size :
       let less : place < length inputs = omega (arith, many, within) in
       sym (get_or_default was place ended other within) ∙ none_of (at firsts place) (coming_at inputs place) (input_at was place) (left_at inputs firsts was size left place less) (free place)
 
-  -- where nothing stands at any place, all have ended
+  -- if there is no entry at any place, all have ended
   pub goes_to_its_end : IsFree firsts → GoesOn (all_left inputs firsts) (all_left inputs firsts) (gives None)
   goes_to_its_end free = by (all_left inputs firsts) refl
     where
@@ -51,7 +51,7 @@ goes_wrong None now why r is cause = tt
 goes_wrong (Some was) now why (Ok next) is cause = let bad : false ≡ true = is.0 in absurd cc
 goes_wrong (Some was) now why (Err e) is cause = subst (IsCause was) (sym is.1) (cause was refl)
 
--- the entry that stands at the least place is no later than any
+-- the entry at the least place is no later than any
 pub stands_first : (firsts : List (Option Triple)) (place : ℕ) (entry : Triple) → IsLeast firsts place → at firsts place ≡ Some entry → (p : ℕ) → IsNoLater (Some entry) (at firsts p)
 stands_first firsts place entry least there p = subst (λ (f : Option Triple). IsNoLater f (at firsts p)) there (least.least p)
 

@@ -96,7 +96,7 @@ other_is_less k l upto other = by (key_cmp k l) refl
     by Equal e = let same = ap is_eq (tied_back key_order.total k l e) in let bad = sym other ∙ same in cc
     by Greater e = absurd (upto e)
 
--- where the least is of another key than a lesser entry, all are of greater ones
+-- if the least is of another key than a lesser entry, all are of greater ones
 pub least_is_above : (firsts : List (Option Triple)) (place : ℕ) (entry : Triple) → IsLeast firsts place → ((other : ℕ) → IsNoLater (Some entry) (at firsts other)) → has_key entry.key (at firsts place) ≡ false → (other : ℕ) → IsBelow entry.key (at firsts other)
 least_is_above firsts place entry least lesser test other = by (at firsts place) least.some (lesser place) test (at firsts other) (least.least other)
   where

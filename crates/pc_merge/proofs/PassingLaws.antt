@@ -1,4 +1,4 @@
--- Inputs are passed, one after the other, and the newest entry of their key is kept.
+-- Inputs are passed, in order, and the newest entry of their key is kept.
 use Rattle.std.proofs.Common.{◌≡◌, ℕ, suc, ◌<◌, ◌++◌, Bool, true, false, cond, List, [], ◌∷◌, Some, length, set, inl, inr, ⊎_elim, refl, sym, ap, ◌∙◌, subst, arith, append_assoc, length-set, slice_get}
 use Rattle.std.specs.List.{Contains}
 use Rattle.std.specs.declared.cmp.Ordering.{Ordering}
@@ -31,7 +31,7 @@ rest_trans was now then first second = record {
   fault = first.fault ∙ second.fault;
 }
 
--- what is behind a key is a rest
+-- what is after a key is a rest
 pub rest_behind : (key : List ℕ) (input : Coming) → IsRest input (behind key input)
 rest_behind key input = record { front = (front_of input.entries).0; entries = (front_of input.entries).1; fault = refl }
   where
@@ -113,7 +113,7 @@ reversed Greater e = cc
 pub other_key : (key greater : List ℕ) → key_cmp key greater ≡ Less → same_bytes greater key ≡ false
 other_key key greater less = ap is_eq (key_order.total.antisymm greater key) ∙ reversed (key_cmp key greater) less
 
--- where all is above the key, all is behind it
+-- if all is above the key, all is after it
 behind_above : (key : List ℕ) (input : Coming) → IsBelow key (first_of input) → behind key input ≡ input
 behind_above key input above = ap (λ (es : List Triple). record { entries = es; fault = input.fault }) (same input.entries above)
   where
@@ -125,7 +125,7 @@ pub all_above : (key : List ℕ) (inputs : List Coming) → ((place : ℕ) → I
 all_above key [] above = refl
 all_above key (input ∷ inputs) above = let first = behind_above key input (above 0) in let rest = all_above key inputs (λ place. above (suc place)) in ap (λ (c : Coming). c ∷ all_behind key inputs) first ∙ ap (λ (cs : List Coming). input ∷ cs) rest
 
--- what is behind the key stays where one input is passed
+-- what is after the key stays if one input is passed
 pub behind_set : (key : List ℕ) (inputs : List Coming) (place : ℕ) → place < length inputs → IsBelow key (first_of (behind key (input_at inputs place))) → all_behind key (set inputs place (behind key (input_at inputs place))) ≡ all_behind key inputs
 behind_set key inputs place within above =
     map-set (behind key) inputs place (behind key (input_at inputs place))

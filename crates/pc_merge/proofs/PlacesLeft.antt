@@ -1,4 +1,4 @@
--- At how many places an entry of a key stands.
+-- The number of places that have an entry of a key.
 use Rattle.std.proofs.Common.{◌≡◌, ℕ, zero, suc, ◌+◌, ◌<◌, Bool, cond, List, [], ◌∷◌, Option, Some, None, set, refl, sym, ap, ◌∙◌, arith}
 use Rattle.std.proofs.lemmas.Cmp.{eq_by_cmp_equiv}
 use Rattle.pc_types.specs.declared.Triple.{Triple}
@@ -23,7 +23,7 @@ greater_counts : (key : List ℕ) (next : Option Triple) → IsBelow key next �
 greater_counts key None below = refl
 greater_counts key (Some next) below = ap (λ (b : Bool). cond b 1 0) (other_key key next.key below)
 
--- there are fewer where a greater key comes in its place
+-- there are fewer if a greater key comes in its place
 pub having_less : (key : List ℕ) (firsts : List (Option Triple)) (place : ℕ) (entry : Triple) (next : Option Triple) → at firsts place ≡ Some entry → entry.key ≡ key → IsBelow key next → having key (set firsts place next) < having key firsts
 having_less key [] place entry next there is below = cc
 having_less key (first ∷ firsts) zero entry next there is below =

@@ -1,4 +1,4 @@
--- How inputs stand behind a draw, and which points they keep to.
+-- The states of inputs after a draw, and which points they keep to.
 use Rattle.std.proofs.Common.{◌≡◌, ◌≢◌, ℕ, suc, ◌++◌, option_to_list, Bool, IsTrue, true, false, nat_eq, arith, ◌<◌, ◌⊎◌, List, Option, Some, None, Result, Ok, Err, length, set, map, get_or, All, IfOk, inl, inr, refl, sym, ap, ◌∙◌, subst, IsErr, IsErrAnd}
 use Rattle.std.proofs.lemmas.List.{get_or-map, get_or-set_same, get_or-set_other, length-map, map-set, set-get_or}
 use Rattle.pc_types.specs.Counted.{HasRisen}
@@ -71,7 +71,7 @@ stands_on was now why (Err e) (Err f) is given s =
     let same = err_is e why _ _ refl refl is in
     (λ device. s.0 (same ∙ sym given.1 ∙ device), λ other. s.1 (λ device. other (given.1 ∙ sym same ∙ device)))
 
--- what stands as it stood before counts from then on
+-- what is as it was before counts from then on
 pub stands_since : {X : Type 0} (start was now : List Standing) (result : Result X Refusal) → was ≡ start → AllStand was now result → AllStand start now result
 stands_since start was now result same s = subst (λ (xs : List Standing). AllStand xs now result) same s
 
@@ -86,7 +86,7 @@ module _ {S : Type 0} (within : S → (ℕ → Bool) → Type 0) where
       (given.0, All-set (λ input. within input points) inputs place now given.1 all)
   drawn_within inputs place d now (Err why) inside gives = tt
 
-  -- the first entry at a place is taken, and another one of the points stands there
+  -- the first entry at a place is taken, and another one of the points is there
   pub taken_within : (points : ℕ → Bool) (inputs : List S) (firsts : List (Option Triple)) (place : ℕ) (next : Option Triple) → place < length firsts → All (λ input. within input points) inputs → ((other : ℕ) → IsWithin points (at firsts other)) → IsWithin points next
       → AreWithin within points inputs (set firsts place next)
   taken_within points inputs firsts place next inside all drawn given = record {

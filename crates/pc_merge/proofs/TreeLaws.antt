@@ -121,7 +121,7 @@ each_pushed P xs n x size each last j within = ⊎_elim
 abbrev nothing : Option Triple
 nothing = None
 
--- where nothing stands at any place, each node has the better one
+-- if there is no entry at any place, each node has the better one
 pub kept_empty : (places : ℕ) (firsts : List (Option Triple)) (heads tree : List ℕ) → places ≤ MOST_INPUTS → firsts ≡ replicate places nothing → heads ≡ replicate places 18446744073709551615 → AreNodes places tree → AreKept firsts heads tree
 kept_empty places firsts heads tree few none last nodes = rw (none, last) (record {
   few = rw size few;

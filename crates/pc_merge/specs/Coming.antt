@@ -1,11 +1,11 @@
--- What is to come of a stream of entries.
+-- The future of a stream of entries.
 use Rattle.std.specs.Prelude.{◌≡◌, ◌≢◌, ◌⊎◌, ℕ, Bool, IsTrue, List, [], ◌∷◌, Option, Some, None, Result, Ok, Err, ⊤}
 use Rattle.pc_types.specs.Counted.{HasRisen}
 use Rattle.pc_types.specs.declared.Refusal.{Refusal}
 use Rattle.pc_types.specs.declared.Refusal.TheVariants.{OutOfMemory, Device}
 use Rattle.pc_types.specs.declared.Triple.{Triple}
 
--- entries, one after the other, and then the end, or a refusal that is answered from then on
+-- entries, in order, and then the end, or a refusal that is answered from then on
 pub record Coming : Type 0 where
   pub entries : List Triple
   pub fault : Option Refusal
@@ -18,7 +18,7 @@ ended = record { entries = []; fault = None }
 abbrev pub refused : Refusal → Coming
 refused why = record { entries = []; fault = Some why }
 
--- an entry before what comes behind it
+-- an entry before what comes after it
 abbrev pub after_entry : Triple → Coming → Coming
 after_entry entry behind = record { entries = entry ∷ behind.entries; fault = behind.fault }
 
@@ -30,7 +30,7 @@ GivesKnown was (Some now) (Ok None) = (was ≡ ended) × (now ≡ ended)
 GivesKnown was (Some now) (Ok (Some entry)) = was ≡ after_entry entry now
 GivesKnown was now (Err why) = (was ≡ refused why) ⊎ (why ≡ OutOfMemory) ⊎ (why ≡ Device)
 
--- the same where it may not be known
+-- the same if it may not be known
 abbrev pub GivesNext : Option Coming → Option Coming → Result (Option Triple) Refusal → Type 0
 GivesNext None now result = ⊤
 GivesNext (Some was) now result = GivesKnown was now result
@@ -40,17 +40,17 @@ pub record Standing : Type 0 where
   pub refused : Option Refusal
   pub failures : ℕ
 
--- failures are counted: Device is answered where the count has risen, and else it stays
+-- failures are counted: Device is returned if the count increased, and otherwise the count stays
 abbrev pub Counts : ℕ → ℕ → Refusal → Type 0
 Counts was now why = (why ≡ Device → HasRisen was now) × (why ≢ Device → now ≡ was)
 
--- Where a call was refused, each later call is refused so, and nothing is read. Else a refusal is kept.
+-- If a call was refused, each later call is refused so, and nothing is read. Otherwise a refusal is kept.
 abbrev pub StandsBy : {X : Type 0} → Option Refusal → Standing → Standing → Result X Refusal → Type 0
 StandsBy (Some why) was now result = (result ≡ Err why) × (now ≡ was)
 StandsBy None was now (Ok x) = now ≡ was
 StandsBy None was now (Err why) = (now.refused ≡ Some why) × Counts was.failures now.failures why
 
--- the same of a stream as it stood
+-- the same of a stream as it was
 abbrev pub Stands : {X : Type 0} → Standing → Standing → Result X Refusal → Type 0
 Stands was now result = StandsBy was.refused was now result
 
@@ -59,7 +59,7 @@ abbrev pub IsWithin : (ℕ → Bool) → Option Triple → Type 0
 IsWithin points None = ⊤
 IsWithin points (Some entry) = IsTrue (points entry.point)
 
--- where all that was to come is of these points, so is the entry that is given, and what is to come then
+-- if all that was to come is of these points, so is the entry that is given, and what is to come then
 abbrev pub GivesWithin : {S : Type 0} → (S → (ℕ → Bool) → Type 0) → S → S → Result (Option Triple) Refusal → Type 0
 GivesWithin within was now (Ok next) = (points : ℕ → Bool) → within was points → IsWithin points next × within now points
 GivesWithin within was now (Err why) = ⊤

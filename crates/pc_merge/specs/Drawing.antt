@@ -22,14 +22,14 @@ input_at inputs place = slice_index_or inputs place ended
 abbrev pub HasCause : List (Option Coming) → List (Option Triple) → Refusal → Type 0
 HasCause inputs firsts why = (was : List Coming) → all_left inputs firsts ≡ Some was → IsCause was why
 
--- The entry stood first at the place; there the next one of its input stands now, of a greater key.
+-- The entry was first at the place; now the next one of its input is there, of a greater key.
 pub record Passes (firsts firsts_now : List (Option Triple)) (place : ℕ) (entry : Triple) : Type 0 where
   pub first : at firsts place ≡ Some entry
   pub next : Option Triple
   pub stands : firsts_now ≡ slice_set firsts place next
   pub rises : IsBelow entry.key next
 
--- the entry was taken from the input at the place, of which what is behind its key is left
+-- the entry was taken from the input at the place, of which what is after its key is left
 abbrev pub HasPassed : List (Option Coming) → List (Option Triple) → List (Option Coming) → List (Option Triple) → ℕ → Triple → Type 0
 HasPassed inputs firsts inputs_now firsts_now place entry =
     (was : List Coming) → all_left inputs firsts ≡ Some was → all_left inputs_now firsts_now ≡ Some (slice_set was place (behind entry.key (input_at was place)))
@@ -60,7 +60,7 @@ pub record IsPassing (was now : List Coming) (entry : Triple) : Type 0 where
 abbrev pub ArePassing : List Coming → List (Option Coming) → List (Option Triple) → Triple → Type 0
 ArePassing was inputs firsts entry = (now : List Coming) × (all_left inputs firsts ≡ Some now) × IsPassing was now entry
 
--- where inputs were passing at the first entry, they are at the newest one, or there is a cause in what was
+-- if inputs were passing at the first entry, they are at the newest one, or there is a cause in what was
 abbrev pub GoOnPassing : List (Option Coming) → List (Option Triple) → Triple → List (Option Coming) → List (Option Triple) → Result Triple Refusal → Type 0
 GoOnPassing inputs firsts first inputs_now firsts_now result =
     (was : List Coming) → ArePassing was inputs firsts first → MatchResult result (ArePassing was inputs_now firsts_now) (IsCause was)
@@ -70,7 +70,7 @@ abbrev pub Rises : Option Triple → Option Triple → Bool → Type 0
 Rises (Some first) (Some next) result = result ≡ is_lt (key_cmp first.key next.key)
 Rises first next result = result ≡ true
 
--- Of so many inputs the first entries were drawn, and of the others none: this is left of all.
+-- Of the first inputs, whose number is given, the first entries were drawn, and of the others none: this is left of all.
 pub record AreOpened (inputs : List (Option Coming)) (firsts : List (Option Triple)) (count : ℕ) (was : List Coming) : Type 0 where
   pub many : length was ≡ length inputs
   pub drawn : (place : ℕ) → place < length inputs → place < count → left_of (at firsts place) (coming_at inputs place) ≡ Some (input_at was place)

@@ -27,12 +27,12 @@ pub record IsFold (first : File) (others : List File) (file : File) : Type 0 whe
   pub is : file ≡ folded first others
   pub over : (one : File) → Contains (first ∷ others) one → IsUnder one.triples file.triples
 
--- why files of one run aren't folded: want of memory, two that differ at some key and point, or too many keys
+-- why files of one run aren't folded: an allocation failure, two that differ at some key and point, or too many keys
 abbrev pub IsFoldCause : File → List File → Refusal → Type 0
 IsFoldCause first others why =
     (why ≡ OutOfMemory) ⊎ ((why ≡ Conflict) × ¬ NoneConflict (first ∷ others)) ⊎ ((why ≡ Full) × (MOST_FILE_ENTRIES < map_of.len (folded first others).triples))
 
--- the fold of any files: there is none of no files, none of files of two runs, and else the join, or a cause
+-- the fold of any files: there is none of no files, none of files of two runs, and otherwise the join, or a cause
 abbrev pub Folds : List File → Result File Refusal → Type 0
 Folds [] result = result ≡ Err NoFile
 Folds (first ∷ others) result = MatchBool (has_other_run first others) (result ≡ Err OtherRun) (MatchResult result (IsFold first others) (IsFoldCause first others))

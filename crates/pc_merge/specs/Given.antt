@@ -1,4 +1,4 @@
--- What a merge has given since it began, and what it gives until all inputs have ended.
+-- The entries that a merge has given since it began, and those until all inputs have ended.
 use Rattle.std.specs.Prelude.{◌≡◌, ◌⊎◌, ◌<◌, ℕ, List, [], ◌∷◌, ◌++◌, Option, Some, None, length, map, ⊤}
 use Rattle.std.specs.List.{All}
 use Rattle.pc_types.specs.declared.Refusal.{Refusal}
@@ -12,7 +12,7 @@ use Rattle.pc_model.specs.TripleLists.{entries_of, triples_of}
 use Rattle.pc_merge.specs.Coming.{Coming}
 use Rattle.pc_merge.specs.Merging.{GivesFirst, AreEnded, IsCause, all_behind}
 
--- the merge of inputs has given these entries, one after the other, and this is left of the inputs
+-- the merge of inputs has given these entries, in order, and this is left of the inputs
 abbrev pub HasGiven : List Coming → List Triple → List Coming → Type 0
 HasGiven start [] left = start ≡ left
 HasGiven start (entry ∷ given) left = GivesFirst start entry × HasGiven (all_behind entry.key start) given left
@@ -32,9 +32,9 @@ IsUnderAt (Some a) (Some b) = (a.point < b.point) ⊎ (a ≡ b)
 abbrev pub IsUnder : Triples → Triples → Type 0
 IsUnder m n = (key : List ℕ) → IsUnderAt (map_of.get m key) (map_of.get n key)
 
--- The entries are the merge of the inputs: they rise by key and are the join of all; what a key has in one of the inputs is older
--- than what it has in them, or the same, so that no two inputs differ at a key's greatest point. All inputs rise by key and end
--- without a refusal.
+-- The entries are the merge of the inputs: they ascend by key and are the join of all; what a key has in one of the inputs is
+-- older than what it has in them, or the same, so that no two inputs differ at a key's greatest point. All inputs ascend by key
+-- and end without a refusal.
 pub record IsMerge (inputs : List Coming) (given : List Triple) : Type 0 where
   pub rise : KeysRise (entries_of given)
   pub joined : triples_of given ≡ joined_all (map (λ input. triples_of input.entries) inputs)
@@ -42,7 +42,7 @@ pub record IsMerge (inputs : List Coming) (given : List Triple) : Type 0 where
   pub inputs_rise : All (λ input. KeysRise (entries_of input.entries)) inputs
   pub no_fault : All (λ input. input.fault ≡ None) inputs
 
--- so many entries are given that a file can't have them
+-- more entries are given than a file can have
 abbrev pub HasTooMany : List Coming → Type 0
 HasTooMany inputs = (given : List Triple) × (left : List Coming) × HasGiven inputs given left × (MOST_FILE_ENTRIES < length given)
 
@@ -50,7 +50,7 @@ HasTooMany inputs = (given : List Triple) × (left : List Coming) × HasGiven in
 abbrev pub IsCauseOfAll : List Coming → Refusal → Type 0
 IsCauseOfAll inputs why = IsCause inputs why ⊎ ((why ≡ Full) × HasTooMany inputs)
 
--- What a merge has given until all inputs have ended is the merge of them.
+-- The entries that a merge has given until all inputs have ended are the merge of them.
 abbrev pub EndsAreMerges : Type 0
 EndsAreMerges = (start : List Coming) (given : List Triple) (left : List Coming) → HasGiven start given left → AreEnded left → IsMerge start given
 
@@ -58,6 +58,6 @@ EndsAreMerges = (start : List Coming) (given : List Triple) (left : List Coming)
 abbrev pub GivenGrows : Type 0
 GivenGrows = (start : List Coming) (given : List Triple) (left : List Coming) (entry : Triple) → HasGiven start given left → GivesFirst left entry → HasGiven start (given ++ entry ∷ []) (all_behind entry.key left)
 
--- A cause that stands by what is left of inputs stands by the inputs.
+-- A cause that follows from what is left of inputs follows from the inputs.
 abbrev pub CausesStand : Type 0
 CausesStand = (start : List Coming) (given : List Triple) (left : List Coming) (why : Refusal) → HasGiven start given left → IsCause left why → IsCause start why

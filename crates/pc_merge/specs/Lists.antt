@@ -1,4 +1,4 @@
--- What is to come of a list of entries.
+-- The future of a list of entries.
 use Rattle.std.specs.Prelude.{ℕ, Bool, IsTrue, List, Option, Some, None}
 use Rattle.std.specs.List.{All}
 use Rattle.std.specs.Vec.Iter.{into_iter_items}

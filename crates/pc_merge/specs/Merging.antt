@@ -1,4 +1,4 @@
--- What a merge gives next, and what is then left of its inputs.
+-- The next entry of a merge, and the rest of its inputs after it.
 use Rattle.std.specs.Prelude.{◌≡◌, ◌⊎◌, ◌<◌, ℕ, List, [], ◌∷◌, Option, Some, None, Result, Ok, Err, map, slice_get, if◌then◌else◌, ⊤}
 use Rattle.std.specs.List.{All, Contains}
 use Rattle.std.specs.declared.cmp.Ordering.TheVariants.{Less}
@@ -10,7 +10,7 @@ use Rattle.pc_model.specs.TripleLists.{entries_of}
 use Rattle.pc_merge.specs.Coming.{Coming, ended}
 use Rattle.pc_merge.specs.Tournaments.{at}
 
--- a merge: the first entry that was drawn of each input, where there is one, and the refusal that was answered
+-- a merge: the first entry that was drawn of each input, if there is one, and the refusal that was answered
 pub record Merging : Type 0 where
   pub firsts : List (Option Triple)
   pub refused : Option Refusal
@@ -23,12 +23,12 @@ first_of input = slice_get input.entries 0
 abbrev pub firsts_of : List Coming → List (Option Triple)
 firsts_of inputs = map first_of inputs
 
--- the entries without the first one where that is of the key
+-- the entries without the first one if that is of the key
 abbrev pub entries_behind : List ℕ → List Triple → List Triple
 entries_behind key [] = []
 entries_behind key (entry ∷ entries) = if same_bytes entry.key key then entries else entry ∷ entries
 
--- what comes behind the key in an input that begins with it or behind it
+-- what comes after the key in an input that begins with it or after it
 abbrev pub behind : List ℕ → Coming → Coming
 behind key input = record { entries = entries_behind key input.entries; fault = input.fault }
 
@@ -50,8 +50,8 @@ abbrev pub IsBest : Triple → Option Triple → Type 0
 IsBest entry None = ⊤
 IsBest entry (Some other) = (key_cmp entry.key other.key ≡ Less) ⊎ ((entry.key ≡ other.key) × IsNewest entry other)
 
--- The entry is what a merge of these inputs gives next: one of their first entries, and the best of them; what comes behind it is
--- of greater keys.
+-- The entry is what a merge of these inputs gives next: one of their first entries, and the best of them; what comes after it is of
+-- greater keys.
 pub record GivesFirst (inputs : List Coming) (entry : Triple) : Type 0 where
   pub of : Contains (firsts_of inputs) (Some entry)
   pub best : All (IsBest entry) (firsts_of inputs)
@@ -79,38 +79,39 @@ pub record HaveConflict (inputs : List Coming) : Type 0 where
   pub point : entry.point ≡ second.point
   pub differ : entry.content ≡ second.content → ⊥
 
--- the keys of one of the inputs don't rise
+-- the keys of one of the inputs don't ascend
 abbrev pub HasNoOrder : List Coming → Type 0
 HasNoOrder inputs = (input : Coming) × Contains inputs input × (KeysRise (entries_of input.entries) → ⊥)
 
 -- why a merge of these inputs may be refused: memory or a device failed, an input ends in that refusal, two conflict, or the keys
--- of one don't rise
+-- of one don't ascend
 abbrev pub IsCause : List Coming → Refusal → Type 0
 IsCause inputs why =
     (why ≡ OutOfMemory) ⊎ (why ≡ Device) ⊎ HasFault inputs why ⊎ ((why ≡ Conflict) × HaveConflict inputs) ⊎ ((why ≡ KeyOrder) × HasNoOrder inputs)
 
--- what a merge may refuse, whether it is known what is to come or not: what its inputs may, and a conflict or keys that don't rise
+-- what a merge may refuse, whether it is known what is to come or not: what its inputs may, and a conflict or keys that don't
+-- ascend
 abbrev pub IsMergeRefusal : (Refusal → Type 0) → Refusal → Type 0
 IsMergeRefusal refusals why = (why ≡ Conflict) ⊎ (why ≡ KeyOrder) ⊎ refusals why
 
--- The answer to one call where it is known what was left: the next entry, of whose key then nothing is left; None where all
--- inputs had ended; or a refusal for a cause.
+-- The answer to one call if it is known what was left: the next entry, of whose key then nothing is left; `None` if all inputs had
+-- ended; or a refusal for a cause.
 abbrev pub GoesOn : Option (List Coming) → Option (List Coming) → Result (Option Triple) Refusal → Type 0
 GoesOn None now result = ⊤
 GoesOn (Some was) now (Ok None) = AreEnded was × (now ≡ Some was)
 GoesOn (Some was) now (Ok (Some entry)) = GivesFirst was entry × (now ≡ Some (all_behind entry.key was))
 GoesOn (Some was) now (Err why) = IsCause was why
 
--- the key is less than each of those that stand first
+-- the key is less than each of those that come first
 abbrev pub AreAbove : List ℕ → List (Option Triple) → Type 0
 AreAbove key firsts = (place : ℕ) → IsBelow key (at firsts place)
 
--- The keys rise: where all that stand first are above a key, an entry that is given is; and then all that stand first are above it.
+-- The keys ascend: if all that come first are above a key, an entry that is given is; and then all that come first are above it.
 abbrev pub KeysGoOn : List (Option Triple) → List (Option Triple) → Result (Option Triple) Refusal → Type 0
 KeysGoOn was now (Ok (Some entry)) = ((last : List ℕ) → AreAbove last was → key_cmp last entry.key ≡ Less) × AreAbove entry.key now
 KeysGoOn was now result = ⊤
 
--- where a merge was refused, each later call is refused so
+-- if a merge was refused, each later call is refused so
 abbrev pub MergeRefuses : {X : Type 0} → Option Refusal → Option Refusal → Result X Refusal → Type 0
 MergeRefuses (Some why) now result = (result ≡ Err why) × (now ≡ Some why)
 MergeRefuses None now (Ok x) = now ≡ None

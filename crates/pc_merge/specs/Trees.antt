@@ -1,4 +1,4 @@
--- The tree over places: which place each node has, and the numbers that stand for keys.
+-- The tree over places: which place each node has, and the numbers that represent keys.
 use Rattle.std.specs.Prelude.{◌≡◌, ℕ, zero, suc, ◌+◌, ◌*◌, ◌/◌, ◌^◌, ◌<◌, ◌≤◌, List, Option, Some, None, length, slice_index}
 use Rattle.pc_types.specs.declared.Triple.{Triple}
 use Rattle.pc_types.specs.FieldForms.{IsBytes}
@@ -6,12 +6,12 @@ use Rattle.pc_types.specs.Heads.{head}
 use Rattle.pc_merge.specs.declared.limits.TheConstants.{MOST_INPUTS}
 use Rattle.pc_merge.specs.Tournaments.{at, IsNoLater}
 
--- the node so many levels above another
+-- the node that many levels above another
 abbrev pub node_above : ℕ → ℕ → ℕ
 node_above zero node = node
 node_above (suc levels) node = node_above levels (node / 2)
 
--- the node is the other one or stands above it
+-- the node is the other one or above it
 abbrev pub IsOver : ℕ → ℕ → Type 0
 IsOver node other = (levels : ℕ) × (node_above levels other ≡ node)
 
@@ -30,7 +30,7 @@ pub record AreNodes (places : ℕ) (tree : List ℕ) : Type 0 where
   pub below : (node : ℕ) → 1 ≤ node → node < 2 * places → HasPlaceBelow places node (place_of tree node)
   pub leaves : (place : ℕ) → place < places → place_of tree (places + place) ≡ place
 
--- what stands at a node's place comes no later than what stands at those of its two children
+-- the entry at a node's place comes no later than the entries at those of its two children
 pub record HasBetter (firsts : List (Option Triple)) (tree : List ℕ) (node : ℕ) : Type 0 where
   pub left : IsNoLater (at firsts (place_of tree node)) (at firsts (place_of tree (2 * node)))
   pub right : IsNoLater (at firsts (place_of tree node)) (at firsts (place_of tree (2 * node + 1)))
@@ -40,7 +40,7 @@ pub record IsTournament (firsts : List (Option Triple)) (tree : List ℕ) : Type
   pub nodes : AreNodes (length firsts) tree
   pub better : (node : ℕ) → 1 ≤ node → node < length firsts → HasBetter firsts tree node
 
--- the number is the head of the entry's key, or where there is none no less than all heads
+-- the number is the head of the entry's key, or if there is none no less than all heads
 abbrev pub IsHeadAt : Option Triple → ℕ → Type 0
 IsHeadAt None number = 2 ^ 64 ≤ number + 1
 IsHeadAt (Some entry) number = (number ≡ head entry.key) × IsBytes entry.key

@@ -1,4 +1,4 @@
-//! Entries that come one after the other.
+//! Entries that come in order.
 ghost use Rattle.std.specs.Prelude.{◌≡◌, ℕ, Bool, Option, IfErr, ⊤};
 ghost use Rattle.pc_types.specs.declared.refusal.Refusal.{Refusal};
 ghost use Rattle.pc_merge.specs.Coming.{Coming, GivesNext, GivesWithin, Standing, Stands};
@@ -8,9 +8,9 @@ use pc_part::EntryText;
 use pc_types::Refusal;
 use std::vec::IntoIter;
 
-/// Entries that come one after the other, up to an end or a refusal.
+/// Entries that come in order, up to an end or a refusal.
 pub trait Entries {
-    /// What is to come, where that is known.
+    /// The entries to come, if they are known.
     ghost coming: { Self → Option Coming };
 
     /// The refusal that was answered, after which nothing else is, and how many calls of a device failed.
@@ -19,10 +19,11 @@ pub trait Entries {
     /// All that is to come, whether it is known or not, is of these points.
     ghost within: { Self → (ℕ → Bool) → Type 0 };
 
-    /// What may be refused, whether it is known what is to come or not.
+    /// The possible refusals, whether or not the entries to come are known.
     ghost refusals: { Refusal → Type 0 } = { λ _. ⊤ };
 
-    /// The next entry, or None at the end. It may be kept in this memory. After a refusal it answers the same one from then on.
+    /// The next entry, or `None` at the end. It may be kept in this memory. After a refusal it answers the same one from then
+    /// on.
     fn next(&mut self, memory: Vec<u8>) -> Result<Option<EntryText>, Refusal>
         ensures given { GivesNext (coming self.old) (coming self.new) result }
         ensures stands { Stands (standing self.old) (standing self.new) result }

@@ -1,7 +1,8 @@
 //! Laws of merges.
 ghost use Rattle.pc_merge.specs.Given.{CausesStand, EndsAreMerges, GivenGrows};
 
-/// What a merge has given until all inputs have ended is the join of them, and no two of them differ at a key's greatest point.
+/// The entries that a merge has given until all inputs have ended are the join of them, and no two of them differ at a key's
+/// greatest point.
 pub fn ends_are_merges()
     ensures { EndsAreMerges }
 {}
@@ -11,7 +12,7 @@ pub fn given_grows()
     ensures { GivenGrows }
 {}
 
-/// A cause of a refusal that stands by what is left of inputs stands by the inputs.
+/// A cause of a refusal that follows from what is left of inputs follows from the inputs.
 pub fn causes_stand()
     ensures { CausesStand }
 {}

@@ -18,16 +18,16 @@ use pc_types::{MOST_FILE_ENTRIES, Refusal, Triple};
 use std::alloc::{AllocError, Global};
 use std::marker::Model;
 
-/// The state of a merge of several inputs, which makes one stream of them: of each key the entry of the greatest point, in the order of
-/// the keys. The inputs stand with the caller, who hands in the same ones at each call. A contract sees the first entry that was drawn of
-/// each, and the refusal that was answered.
+/// The state of a merge of several inputs, which makes one stream of them: of each key the entry of the greatest point, in the order of the
+/// keys. The inputs stay with the caller, who passes the same ones to each call. A contract sees the first entry that was drawn of each,
+/// and the refusal that was answered.
 ///
 /// An entry is moved a constant number of times. Each costs one comparison for each doubling of the number of inputs, most of them
 /// of two numbers.
 #[derive(Drop)]
 pub struct Merge {
     alloc: Global,
-    // The first entry of each input; none where it has ended.
+    // The first entry of each input; `None` if it has ended.
     firsts: Tournament,
     // Memory of entries that are done with.
     spare: Spare,
@@ -43,7 +43,7 @@ impl Model for Merge {
 }
 
 impl Merge {
-    /// Room for a merge of so many inputs, at most `MOST_INPUTS`, of which nothing was drawn. It fails only where memory ran out.
+    /// A merge of the given number of inputs, at most `MOST_INPUTS`, of which nothing was drawn. It fails only if an allocation fails.
     pub fn new(alloc: Global, inputs: usize) -> Result<Merge, AllocError>
         requires { inputs ≤ MOST_INPUTS }
         ensures { IfOk result (λ merge. merge ≡ unopened inputs) }
@@ -56,8 +56,8 @@ impl Merge {
         })
     }
 
-    /// Draws the first entry of each input. Refuses with what an input refuses, and then answers the same refusal from then on. It takes no
-    /// memory of its own.
+    /// Draws the first entry of each input. Refuses with what an input refuses, and then answers the same refusal from then on. It
+    /// allocates no memory of its own.
     pub fn open<E: Entries>(&mut self, inputs: &mut [E]) -> Result<(), Refusal>
         requires { self.old ≡ unopened (length inputs.old) }
         ensures together { length inputs.new ≡ length self.new.firsts }
@@ -74,9 +74,9 @@ impl Merge {
         answer
     }
 
-    /// The next entry, or None once all inputs have ended: the least key's entry, of several inputs' that of the greatest point.
-    /// Refuses with the first thing that an input refuses, with `Conflict` where two inputs have a key at one point with different
-    /// contents, and with `KeyOrder` where an input's keys don't rise; it answers the same refusal from then on.
+    /// The next entry, or None once all inputs have ended: the least key's entry, of several inputs' that of the greatest point. Refuses
+    /// with the first thing that an input refuses, with `Conflict` if two inputs have a key at one point with different contents, and with
+    /// `KeyOrder` if an input's keys don't ascend; it answers the same refusal from then on.
     #[inline(always)]
     pub fn next<E: Entries>(&mut self, inputs: &mut [E]) -> Result<Option<EntryText>, Refusal>
         requires { length inputs.old ≡ length self.old.firsts }
@@ -107,7 +107,7 @@ impl Merge {
 }
 
 /// All entries that a merge of the inputs gives, of which there may be at most `MOST_INPUTS`: their join. Refuses as the merge does, and
-/// with `Full` where there are more than 4,294,967,295.
+/// with `Full` if there are more than 4,294,967,295.
 pub fn merge_all<E: Entries>(alloc: Global, inputs: &mut [E]) -> Result<Vec<Triple>, Refusal>
     requires { length inputs.old ≤ MOST_INPUTS }
     ensures known { (was : List Coming) → all_known (map E.coming inputs.old) ≡ Some was → MatchResult result (λ all. IsMerge was all.items) (IsCauseOfAll was) }
@@ -131,7 +131,7 @@ pub fn merge_all<E: Entries>(alloc: Global, inputs: &mut [E]) -> Result<Vec<Trip
     }
 }
 
-// Appends the entry as a triple. It fails only where memory ran out.
+// Appends the entry as a triple. It fails only if an allocation fails.
 fn push_triple(alloc: Global, all: &mut Vec<Triple>, entry: &EntryText) -> Result<(), AllocError>
     ensures items { OnOk result (all.new.items ≡ all.old.items ++ entry.now ∷ []) }
     ensures len { OnOk result (vec_len all.new ≡ vec_len all.old + 1) }

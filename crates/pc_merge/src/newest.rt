@@ -56,7 +56,7 @@ pub(crate) fn draw_firsts<E: Entries>(
     Ok(())
 }
 
-// Takes the first entry of the input at the place, and draws the one behind it, which may be kept in this memory and whose key
+// Takes the first entry of the input at the place, and draws the one after it, which may be kept in this memory and whose key
 // must be greater.
 #[inline(always)]
 pub(crate) fn advance<E: Entries>(
@@ -97,8 +97,8 @@ fn rises(first: Option<&EntryText>, next: &Option<EntryText>) -> bool
     }
 }
 
-// The newest of an entry and of all others that stand at a place with its key. Others are kept in the spare memory, which is then
-// that of one of them that is older.
+// The newest of an entry and of all others at a place with its key. Others are kept in the spare memory, which is then that of
+// one of them that is older.
 #[inline(always)]
 pub(crate) fn newest_of<E: Entries>(
     inputs: &mut [E],
@@ -124,7 +124,7 @@ pub(crate) fn newest_of<E: Entries>(
     Ok(newest)
 }
 
-// The place of the least key, where that is the entry's.
+// The place of the least key, if that is the entry's.
 #[inline(always)]
 fn least_with(firsts: &Tournament, entry: &EntryText) -> Option<usize>
     requires { (place : ℕ) → IsNoLater (Some entry.now) (at firsts.now place) }
@@ -153,7 +153,7 @@ fn is_of_key(first: Option<&EntryText>, entry: &EntryText) -> bool
     }
 }
 
-// Of two entries of one key the one of the greater point, where the other's memory is spare then; where they have one point and
+// Of two entries of one key the one of the greater point, if the other's memory is spare then; if they have one point and
 // different contents, `Conflict`.
 fn newer(one: EntryText, other: EntryText, spare: &mut Spare) -> Result<EntryText, Refusal>
     requires { other.key ≡ one.key }
@@ -169,7 +169,7 @@ fn newer(one: EntryText, other: EntryText, spare: &mut Spare) -> Result<EntryTex
     }
 }
 
-// Whether the first of two entries of one key is the older; where they have one point and different contents, `Conflict`.
+// Whether the first of two entries of one key is the older; if they have one point and different contents, `Conflict`.
 fn is_older(one: &EntryText, other: &EntryText) -> Result<bool, Refusal>
     requires { other.now.key ≡ one.now.key }
     ensures older { IfOk result (λ older. MatchBool older (IsNewest other.now one.now) (IsNewest one.now other.now)) }

@@ -6,14 +6,15 @@ ghost use Rattle.pc_model.specs.Database.{key_cmp, same_bytes};
 use pc_part::EntryText;
 use std::cmp::Ordering;
 
-// How the keys of the entries are ordered.
+// The order of the entries' keys.
 pub(crate) fn compare(one: &EntryText, other: &EntryText) -> Ordering
     ensures { result ≡ key_cmp one.now.key other.now.key }
 {
     one.key().cmp(&other.key())
 }
 
-// Whether the key of the one entry is less than that of the other: as their heads are where they differ, and else by the keys.
+// Whether the key of the one entry is less than that of the other: as their heads are if they differ, and otherwise by the
+// keys.
 #[inline(always)]
 #[tactic(auto, using(pc_part::proofs::LentLaws::heads_tell))]
 pub(crate) fn precedes(one: &EntryText, other: &EntryText) -> bool

@@ -1,4 +1,4 @@
-//! A tournament of places: of the entries that stand there the one with the least key is known.
+//! A tournament of places: of the entries at them the one with the least key is known.
 ghost use Rattle.std.specs.Prelude.{◌≡◌, ◌≤◌, ◌<◌, None, IfOk, IfSome, IfNone, length, option_map, replicate, slice_set};
 ghost use Rattle.pc_merge.specs.Tournaments.{IsFree, IsLeast, at};
 
@@ -9,15 +9,15 @@ use std::alloc::{AllocError, Global};
 use std::marker::Model;
 use std::mem;
 
-/// Places, at each of which an entry stands or none. A contract sees what stands at them. Of all entries that of the least key is
-/// found in constant time; a change at one place costs a comparison for each doubling of their number.
+/// Places, each with an entry or none. A contract sees the entries. Of all entries that of the least key is found in constant time;
+/// a change at one place costs a comparison for each doubling of their number.
 #[derive(Drop)]
 pub(crate) struct Tournament {
     firsts: Vec<Option<EntryText>>,
     // The first eight bytes of each key as one number: two that differ decide.
     heads: Vec<u64>,
     // Each node of the tree has a place. Node 1 is the root, the children of a node have twice its number and one more, and the
-    // leaves, one for each place, have the numbers behind those of all inner nodes. An inner node has the better of its children's.
+    // leaves, one for each place, have the numbers after those of all inner nodes. An inner node has the better of its children's.
     tree: Vec<u32>,
 }
 
@@ -34,7 +34,7 @@ impl Model for Tournament {
 }
 
 impl Tournament {
-    /// So many places, at which nothing stands; at most `MOST_INPUTS`. It makes all room, and fails only where memory ran out.
+    /// The given number of empty places, at most `MOST_INPUTS`. It makes all room, and fails only if an allocation fails.
     pub(crate) fn new(alloc: Global, places: usize) -> Result<Tournament, AllocError>
         requires { places ≤ MOST_INPUTS }
         ensures { IfOk result (λ all. all ≡ replicate places None) }
@@ -46,7 +46,7 @@ impl Tournament {
         })
     }
 
-    /// The place of the least key, where an entry stands at any.
+    /// The place of the least key, if there is an entry at any.
     pub(crate) fn least(&self) -> Option<usize>
         ensures none { IfNone result (IsFree self.now) }
         ensures least { IfSome result (IsLeast self.now) }
@@ -61,7 +61,7 @@ impl Tournament {
         }
     }
 
-    /// What stands at the place.
+    /// The entry at the place, if any.
     pub(crate) fn standing(&self, place: usize) -> Option<&EntryText>
         requires { place < length self.now }
         ensures { option_map (λ entry. entry.now) result ≡ at self.now place }
@@ -69,7 +69,7 @@ impl Tournament {
         self.firsts[place].as_ref()
     }
 
-    /// Puts another entry, or none, at the place, and gives what stood there.
+    /// Puts another entry, or none, at the place, and returns the previous one.
     #[inline(always)]
     pub(crate) fn replace(&mut self, place: usize, entry: Option<EntryText>) -> Option<EntryText>
         requires { place < length self.old }
@@ -83,7 +83,7 @@ impl Tournament {
     }
 }
 
-// So many places, at which nothing stands.
+// The given number of empty places.
 fn empty_places(alloc: Global, places: usize) -> Result<Vec<Option<EntryText>>, AllocError>
     ensures { IfOk result (λ all. all.items ≡ replicate places None) }
 {

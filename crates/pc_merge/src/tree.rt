@@ -9,7 +9,7 @@ use pc_part::EntryText;
 use std::alloc::{AllocError, Global};
 use std::cmp::Ordering;
 
-// The head of a place at which no entry stands; no key has a greater one.
+// The head of an empty place; no key has a greater one.
 pub(crate) const LAST_HEAD: u64 = u64::MAX;
 
 // The first eight bytes of the entry's key as one number.
@@ -22,7 +22,7 @@ pub(crate) fn head_at(entry: &Option<EntryText>) -> u64
     }
 }
 
-// A tree over so many places, of which each node has the place of its leftmost leaf.
+// A tree over the given number of places, of which each node has the place of its leftmost leaf.
 pub(crate) fn leftmost(alloc: Global, places: usize) -> Result<Vec<u32>, AllocError>
     requires { places ≤ MOST_INPUTS }
     ensures { IfOk result (λ tree. AreNodes places tree.items) }
@@ -51,7 +51,7 @@ pub(crate) fn mend(tree: &mut [u32], heads: &[u64], firsts: &[Option<EntryText>]
     }
 }
 
-// The place of the lesser key, by their heads, or by the whole keys where these are equal; an entry is better than none.
+// The place of the lesser key, by their heads, or by the whole keys if these are equal; an entry is better than none.
 fn better(heads: &[u64], firsts: &[Option<EntryText>], first: u32, second: u32) -> u32
     requires heads { AreHeads firsts.now heads.now }
     requires places { (first < length firsts.now) × (second < length firsts.now) }
@@ -67,7 +67,8 @@ fn better(heads: &[u64], firsts: &[Option<EntryText>], first: u32, second: u32) 
     }
 }
 
-// Whether the first comes no later than the other, whose heads are known: as these are where they differ, and else by the keys.
+// Whether the first comes no later than the other, whose heads are known: as these are if they differ, and otherwise by the
+// keys.
 fn is_no_later(
     head: u64,
     first: &Option<EntryText>,
@@ -100,7 +101,7 @@ fn leftmost_place(node: usize, places: usize) -> u32
     (leaf_below(node, places) - places) as u32
 }
 
-// The leftmost leaf below a node, or the node itself where it is a leaf.
+// The leftmost leaf below a node, or the node itself if it is a leaf.
 fn leaf_below(node: usize, places: usize) -> usize
     requires places { places ≤ MOST_INPUTS }
     requires node { (1 ≤ node) × (node < 2 * places) }

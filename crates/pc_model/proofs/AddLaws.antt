@@ -1,5 +1,5 @@
--- An add that is granted where no cause of a refusal stands has a sum, and can be kept as one change with what was written of its
--- key. And where each transaction's sums are right, what its commit does applies.
+-- An add that is granted if no cause of a refusal applies has a sum, and can be kept as one change with what was written of
+-- its key. And if each transaction's sums are correct, what its commit does applies.
 use Rattle.std.proofs.Common.{◌≡◌, ℕ, List, [], ◌∷◌, ◌++◌, eqb, not, ◌||◌, ◌&&◌, Option, Some, None, is_some, is_none, refl, sym, ap, ◌∙◌, cond, Bool, true, false, arith}
 use Rattle.std.specs.Prelude.{⊤, MatchBool, ℤ}
 use Rattle.std.proofs.lemmas.Bool.Decides.{nat_tests}
@@ -23,7 +23,7 @@ use Rattle.pc_model.specs.Replies.{Setting, first_refusal, is_granted, write_cau
 use Rattle.pc_model.proofs.EffectLaws.{no_first, no_other, no_others}
 use Rattle.pc_model.proofs.ChangeLaws.{still}
 
--- where no cause stands and the request is granted, there is a sum, and it can be kept
+-- if no cause applies and the request is granted, there is a sum, and it can be kept
 pub add_stands : (st : Setting) (h : History) (s : ℕ) (key : List ℕ) (delta : ℤ) → first_refusal (write_causes st s key h ++ add_causes st s key delta h) ≡ None → outcome (queue_of key h) (number_of s h) Exclusive ≡ Granted →
     (is_none (added delta (seen_by st s key h)) ≡ false) × (can_add (written (writes_of s h) key) delta ≡ true)
 add_stands st h s key delta none granted = by_or (is_none (added delta (seen_by st s key h))) (can_add (written (writes_of s h) key) delta) in_range
@@ -76,7 +76,7 @@ module _ (db : Database) (s : ℕ) where
   by_effect h (Joins a b) reads earlier = earlier reads
   by_effect h Nothing reads earlier = earlier reads
 
-  -- where a session's sums are right, what its writes do to each key applies
+  -- if a session's sums are correct, what its writes do to each key applies
   pub writes_apply : (h : History) → HasReadFrom db s h → AllApply db (writes_of s h)
   writes_apply [] reads = λ q. tt
   writes_apply (step ∷ h) reads = by_effect h (effect step) reads (writes_apply h)
@@ -87,7 +87,7 @@ adds-append db [] more first second = second
 adds-append db (Commit s ws ∷ log) more first second = (first.0, adds-append (applied_all db ws) log more first.1 second)
 adds-append db (Token phase point ∷ log) more first second = adds-append db log more first second
 
--- where the reads and sums of each committed transaction are right, the adds of its commit apply
+-- if the reads and sums of each committed transaction are correct, the adds of its commit apply
 pub adds_apply : (base : Database) (h : History) → HasRightReads base h → AddsApply base (log_of h)
 adds_apply base [] right = tt
 adds_apply base (step ∷ h) right = adds-append base (log_of h) (entries_by (effect step) h) (adds_apply base h right.1) (by_step (effect step) right.0)

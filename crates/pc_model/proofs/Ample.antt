@@ -29,7 +29,7 @@ abbrev pub file_reply : List File → ℕ → Reply
 file_reply [] number = told.Refused why.NoFile
 file_reply (f ∷ fs) number = told.File number (set.items f.points) (map_of.len f.triples)
 
--- the answer to an event where no reply is certain; a Take carries the state of the point
+-- the answer to an event if no reply is certain; a Take carries the state of the point
 abbrev pub answer : Setting → History → Event → Reply
 answer st history (asked.Begin s) = told.Begun (begun history + 1)
 answer st history (asked.Get s key) =
@@ -103,16 +103,16 @@ pub played_is_legal : (st : Setting) (history : History) (events : List Event) �
 played_is_legal st history [] legal = legal
 played_is_legal st history (event ∷ events) legal = played_is_legal st (record { event = event; reply = ample_reply st history event } ∷ history) events (ample_is_legal st history event, legal)
 
--- steps, the first one first, are a legal history where their events give just these replies
+-- steps, the first one first, are a legal history if their events give just these replies
 pub legal_run : (st : Setting) (steps : List Step) → play st [] (map (λ step. step.event) steps) ≡ reverse steps → IsLegalHistory st (reverse steps)
 legal_run st steps same = subst (IsLegalHistory st) same (played_is_legal st [] (map (λ step. step.event) steps) tt)
 
--- whether the reply is that memory ran out
+-- whether the reply is that an allocation failed
 abbrev is_memory : Reply → Bool
 is_memory (told.Refused why.OutOfMemory) = true
 is_memory other = false
 
--- the reply where memory ran out, or else the one with ample memory
+-- the reply if an allocation failed, or else the one with ample memory
 abbrev pub lean_reply : Setting → History → Event → Bool → Reply
 lean_reply st history event true = or_answer (certain st history event) (told.Refused why.OutOfMemory)
 lean_reply st history event false = ample_reply st history event
@@ -125,7 +125,7 @@ lean_is_legal st history event true =
       | Some due ↦ refl
     ]
 
--- the history after the steps' events, from this history on, where memory runs out just where the steps say so
+-- the history after the steps' events, from this history on, if an allocation fails if and only if the steps say so
 abbrev pub play_lean : Setting → History → List Step → History
 play_lean st history [] = history
 play_lean st history (step ∷ steps) = play_lean st (record { event = step.event; reply = lean_reply st history step.event (is_memory step.reply) } ∷ history) steps
@@ -135,6 +135,6 @@ played_lean_is_legal st history [] legal = legal
 played_lean_is_legal st history (step ∷ steps) legal =
     played_lean_is_legal st (record { event = step.event; reply = lean_reply st history step.event (is_memory step.reply) } ∷ history) steps (lean_is_legal st history step.event (is_memory step.reply), legal)
 
--- the same where memory may run out
+-- the same if an allocation may fail
 pub legal_lean_run : (st : Setting) (steps : List Step) → play_lean st [] steps ≡ reverse steps → IsLegalHistory st (reverse steps)
 legal_lean_run st steps same = subst (IsLegalHistory st) same (played_lean_is_legal st [] steps tt)

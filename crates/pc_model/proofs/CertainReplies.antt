@@ -12,7 +12,7 @@ use Rattle.pc_model.specs.Replies.{Setting, first_refusal, or_else, log_is_full,
 use Rattle.pc_model.proofs.EffectLaws.{first_refusal_refuses}
 
 module _ (Kind : Reply → Type 0) where
-  -- where what is certain is of the kind, and so is a refusal, a legal reply is the answer or of the kind
+  -- if what is certain is of the kind, and so is a refusal, a legal reply is the answer or of the kind
   pub answer_or_kind : Kind (told.Refused why.OutOfMemory) → (o : Option Reply) → IfSome o Kind → (Answer : Type 0) (reply : Reply) → MatchOption o (Answer ⊎ (reply ≡ told.Refused why.OutOfMemory)) (λ due. reply ≡ due)
       → ((o ≡ None) × Answer) ⊎ Kind reply
   answer_or_kind out (Some due) is Answer reply same = inr (subst Kind (sym same) is)
@@ -51,7 +51,7 @@ module _ (Kind : Reply → Type 0) where
           by_phase from h (or_else (not_yet (active_in st class h)) (first_refusal ((log_is_full h, why.LogFull) ∷ [])))
           (by_count (active_in st class h) (first_refusal ((log_is_full h, why.LogFull) ∷ [])) (by_causes ((log_is_full h, why.LogFull) ∷ [])))
 
--- a legal reply is the answer where no cause stands, or a refusal, for events that are only refused or answered
+-- a legal reply is the answer if no cause applies, or a refusal, for events that are only refused or answered
 pub answer_or_refusal : (causes : List (Bool × Refusal)) (Answer : Type 0) (reply : Reply) → MatchOption (first_refusal causes) (Answer ⊎ (reply ≡ told.Refused why.OutOfMemory)) (λ due. reply ≡ due) →
     ((first_refusal causes ≡ None) × Answer) ⊎ ((r : Refusal) × (reply ≡ told.Refused r))
 answer_or_refusal causes Answer reply = answer_or_kind (λ due. (r : Refusal) × (due ≡ told.Refused r)) (why.OutOfMemory, refl) (first_refusal causes) (first_refusal_refuses causes) Answer reply

@@ -1,4 +1,4 @@
--- Two changes of a key in a row are the merged one, and one more write of a transaction does what it does behind all others.
+-- Two changes of a key in a row are the merged one, and one more write of a transaction does what it does after all others.
 use Rattle.std.proofs.Common.{◌≡◌, ℕ, List, [], ◌∷◌, refl, sym, ap, subst, ◌∙◌, cond, Bool, true, false, Option, Some, None, is_some}
 use Rattle.std.specs.Prelude.{ℤ, pos, ◌+ℤ◌, if◌then◌else◌}
 use Rattle.std.proofs.lemmas.Cmp.{eq_by_cmp_equiv}
@@ -19,19 +19,19 @@ use Rattle.pc_model.proofs.DistinctWriteLaws.{distinct_with, seen_of}
 abbrev pub Merges : Change → Change → Option (List ℕ) → Type 0
 Merges a b there = (changed (merged a b) there ≡ changed b (changed a there)) × Applies (merged a b) there
 
--- an add behind a value
+-- an add after a value
 on_value : (v : List ℕ) (there : Option (List ℕ)) (o : Option ℤ) → (changed (set_to v o) there ≡ or_same (Some v) o) × Applies (set_to v o) there
 on_value v there None = (refl, tt)
 on_value v there (Some n) = (refl, tt)
 
--- an add behind a removal
+-- an add after a removal
 on_none : (d : ℤ) (there : Option (List ℕ)) → is_some (added d None) ≡ true → Merges Remove (Add d) there
 on_none d there some =
     let is : added d None ≡ sum_of (pos 0) d = ap (λ o. sum_if o d) none_is in
     let sum = is_sum (pos 0) d (sym (ap is_some is) ∙ some) in
     (sym (ap (or_same None) (is ∙ sum.0) ∙ ap (λ n. Some (number_text n)) (from_zero d)), tt)
 
--- an add behind an add
+-- an add after an add
 on_add : (e d : ℤ) (there : Option (List ℕ)) (o : Option ℤ) → number_of there ≡ o → is_some (sum_if o e) ≡ true → is_some (added d (or_same there (sum_if o e))) ≡ true →
     (or_same there (sum_if o (e +ℤ d)) ≡ or_same (or_same there (sum_if o e)) (added d (or_same there (sum_if o e)))) × (is_some (sum_if o (e +ℤ d)) ≡ true)
 on_add e d there None is first second = cc
@@ -50,7 +50,7 @@ merge (Set v) (Add d) there first second = on_value v there (added d (Some v))
 merge Remove (Add d) there first second = on_none d there second
 merge (Add e) (Add d) there first second = on_add e d there (number_of there) refl first second
 
--- a change behind the earlier one does what both do in a row
+-- a change after the earlier one does what both do in a row
 pub merge_if : (o : Option Change) (change : Change) (there : Option (List ℕ)) → AppliesIfAny o there → Applies change (seen o there) → (changed (merged_if o change) there ≡ changed change (seen o there)) × Applies (merged_if o change) there
 merge_if None change there first second = (refl, second)
 merge_if (Some before) change there first second = merge before change there first second
@@ -58,7 +58,7 @@ merge_if (Some before) change there first second = merge before change there fir
 turn : (k l : List ℕ) → same_bytes k l ≡ same_bytes l k
 turn k l = (eq_by_cmp_equiv key_order.total).symm k l
 
--- one more write, merged with the earlier one of its key, does what it does behind all of them
+-- one more write, merged with the earlier one of its key, does what it does after all of them
 pub final_write : (db : Database) (ws : List Write) (w : Write) → AreDistinct ws → AppliesIfAny (written ws w.key) (get db w.key) → Applies w.change (seen (written ws w.key) (get db w.key)) →
     applied_all db (with_write ws w) ≡ applied (applied_all db ws) w
 final_write db ws w d first second = same_database _ _ (λ q.
@@ -82,8 +82,8 @@ nothing_done db key d none = same_database _ _ (λ q. get_put db key q (changed 
     by_match q true e = ap (or_same (get db key)) none ∙ ap (get db) (sym (one_key q key e))
     by_match q false e = refl
 
--- More writes of a transaction, each applying to what the ones before it made, do the same where they are kept as one for each
--- key beside those of before.
+-- More writes of a transaction, each applying to what the ones before it made, do the same if they are kept as one for each
+-- key besides those of before.
 module _ (db : Database) where
   pub still : (ws : List Write) (w : Write) → AllApply db ws → Applies w.change (seen (written ws w.key) (get db w.key)) → AllApply db (with_write ws w)
   still ws w apply own q = subst (λ o. AppliesIfAny o (get db q)) (sym (written_with ws w q)) (by_match (same_bytes w.key q) refl)

@@ -96,7 +96,7 @@ content-union base log s t = same_map _ _ (λ key.
     ∙ ap (triple_at (states_of base log key)) (latest_same (touches_of log key) (states_of base log key) (λ p. is_one_of p (set.items s) || is_one_of p (set.items t)) (λ p. is_one_of p (set.items (set.union s t))) together.0 all.0 same together.1 all.1)
     ∙ sym all.2)
 
--- a log whose tokens stand in order
+-- a log whose tokens are in order
 pub record IsOrdered (log : List Entry) : Type 0 where
   pub none_zero : has_token 0 log ≡ false
   pub in_order : (p : ℕ) → has_token (p + 1) log ≡ true → PrecedesNext p log
@@ -127,14 +127,14 @@ one_of_numbers (suc n) p = list_any-append (same_number p) (numbers_to n) (suc n
     last : (n p : ℕ) → ((nat_lt 0 p && nat_le p n) || (eqb p (suc n) || false)) ≡ (nat_lt 0 p && nat_le p (suc n))
     last n p = grind (arith, nat_tests)
 
--- the base with the content of 1 to n laid on it is the state of n
+-- the base with the content of 1 to n applied to it is the state of n
 pub laid_content : (base : Database) (log : List Entry) (n : ℕ) → ((p : ℕ) → p < n → PrecedesNext p log) → laid base 0 (content base log (numbers_to n)) ≡ state_at base log n
 laid_content base log n order = same_database _ _ (λ key.
     let latest = latest_of_content base log key (numbers_to n) in
     get-laid base 0 (content base log (numbers_to n)) key ∙ ap (laid_at (get base key) 0) latest.2
     ∙ laid_is (touches_of log key) (states_of base log key) n (λ p. is_one_of p (numbers_to n)) latest.0 (λ p below none. untouched_stays base log p key (order p below) none) (one_of_numbers n) latest.1)
 
--- the content of points, all from b + 1 to n among them and none above, laid on the state of b, is the state of n
+-- the content of points, all from b + 1 to n among them and none above, applied to the state of b, is the state of n
 pub laid_content_from : (base : Database) (log : List Entry) (b n : ℕ) (points : List ℕ) → b ≤ n → ((p : ℕ) → p < n → PrecedesNext p log) → ((p : ℕ) → is_one_of p points ≡ true → p ≤ n)
     → ((p : ℕ) → b < p → p ≤ n → is_one_of p points ≡ true) → laid (state_at base log b) b (content base log points) ≡ state_at base log n
 laid_content_from base log b n points le order most all = same_database _ _ (λ key.

@@ -1,5 +1,5 @@
 -- The effects that an event may have: what holds of each of them holds of the effect of its reply. What a session's call
--- does beside waiting and dying is asked for only where its reply counts.
+-- does besides waiting and dying is asked for only if its reply counts.
 use Rattle.std.proofs.Common.{◌≡◌, ℕ, true, List, refl}
 use Rattle.std.specs.Prelude.{Option, Some, None, ℤ}
 use Rattle.pc_types.specs.declared.Mode.TheVariants.{Shared, Exclusive}

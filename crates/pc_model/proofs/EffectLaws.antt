@@ -18,7 +18,7 @@ pub first_refusal_refuses : (causes : List (Bool × Refusal)) → IfSome (first_
 first_refusal_refuses [] = tt
 first_refusal_refuses (c ∷ causes) = elim c.0 as (λ b. IfSome (cond b (Some (told.Refused c.1)) (first_refusal causes)) (λ due. (r : Refusal) × (due ≡ told.Refused r))) [ true ↦ (c.1, refl) | false ↦ first_refusal_refuses causes ]
 
--- where no cause stands, the first doesn't
+-- if no cause applies, the first doesn't
 pub no_first : (c : Bool × Refusal) (causes : List (Bool × Refusal)) → first_refusal (c ∷ causes) ≡ None → c.0 ≡ false
 no_first c causes = elim c.0 as (λ b. cond b (Some (told.Refused c.1)) (first_refusal causes) ≡ None → b ≡ false) [ true ↦ λ e. cc | false ↦ λ e. refl ]
 
@@ -26,7 +26,7 @@ no_first c causes = elim c.0 as (λ b. cond b (Some (told.Refused c.1)) (first_r
 pub no_other : (c : Bool × Refusal) (causes : List (Bool × Refusal)) → first_refusal (c ∷ causes) ≡ None → first_refusal causes ≡ None
 no_other c causes = elim c.0 as (λ b. cond b (Some (told.Refused c.1)) (first_refusal causes) ≡ None → first_refusal causes ≡ None) [ true ↦ λ e. cc | false ↦ λ e. e ]
 
--- where none of two lists of causes stands, none of the second does
+-- if none of two lists of causes applies, none of the second does
 pub no_others : (causes more : List (Bool × Refusal)) → first_refusal (causes ++ more) ≡ None → first_refusal more ≡ None
 no_others [] more e = e
 no_others (c ∷ causes) more e = no_others causes more (no_other c (causes ++ more) e)

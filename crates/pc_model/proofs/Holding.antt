@@ -1,5 +1,5 @@
--- Who holds which lock, as requests come and go: what a transaction holds stands until its own end, and nobody holds a
--- lock beside one who holds it exclusively.
+-- Who holds which lock, as requests come and go: what a transaction holds is held until its own end, and nobody holds a
+-- lock while another holds it exclusively.
 use Rattle.std.proofs.Common.{◌≡◌, ℕ, ◌==◌, [], ◌∷◌, ◌++◌, Option, Some, None, Bool, true, false, ◌||◌, ◌&&◌, ◌⊎◌, inl, inr, not, cond, refl, sym, ◌∙◌, ap, subst, arith}
 use Rattle.std.specs.Prelude.{MatchBool, filter}
 use Rattle.std.specs.List.{list_all}
@@ -62,7 +62,7 @@ covers_still true Shared Exclusive z e = refl
 covers_still true Shared Shared z e = e
 covers_still false x y z e = cc
 
--- what is held is held beside another request
+-- a lock that is held stays held while another requests it
 pub keeps_with : (queue : Queue) (n : Request) (m : ℕ) (x : Mode) → holds queue m x ≡ true → holds (with_request queue n) m x ≡ true
 keeps_with [] n m x e = cc
 keeps_with (r ∷ rs) n m x e = by_own (r.transaction == n.transaction) (r.transaction == m) refl e (keeps_with rs n m x)
@@ -107,7 +107,7 @@ other_filter (r ∷ rs) n m e = by_own (r.transaction == n) refl (other_filter r
     by_own true own later = rw (not_both r.transaction n m own e) later
     by_own false own later = ap (cond (r.transaction == m) (Some r)) later
 
--- what is held is held beside another's end
+-- a lock that is held stays held when another ends
 pub keeps_without : (queue : Queue) (n m : ℕ) (x : Mode) → (n == m) ≡ false → holds queue m x ≡ true → holds (queue_without queue n) m x ≡ true
 keeps_without queue n m x e h = keeps_granting [] (filter (λ r. not (r.transaction == n)) queue) m x (ap (is_granted_as x) (other_filter queue n m e) ∙ h)
 
@@ -133,7 +133,7 @@ holds_waits queue m x h = by_own (request_in queue m) h
     by_own None e = cc
     by_own (Some r) e = ap not (and_true r.granted (is_exclusive r.mode || not (is_exclusive x)) e).0
 
--- who waits stands in the queue
+-- who waits is in the queue
 pub waits_stands : (queue : Queue) (m : ℕ) → is_ungranted (request_in queue m) ≡ true → stands_in queue m ≡ true
 waits_stands [] m e = cc
 waits_stands (r ∷ rs) m e = by_own (r.transaction == m) e (waits_stands rs m)
@@ -142,7 +142,7 @@ waits_stands (r ∷ rs) m e = by_own (r.transaction == m) e (waits_stands rs m)
     by_own true e later = refl
     by_own false e later = later e
 
--- who stands in the queue after a request stood there before, or made it
+-- who is in the queue after a request was there before, or made it
 pub stands_with : (queue : Queue) (n : Request) (m : ℕ) → stands_in (with_request queue n) m ≡ true → ((n.transaction == m) ≡ true) ⊎ (stands_in queue m ≡ true)
 stands_with [] n m e = inl (left (n.transaction == m) e)
   where
@@ -208,7 +208,7 @@ granted_fits before (r ∷ rs) b q m s within found granted = by_own (r.transact
     by_own true later found = let is : r ≡ q = cc in subst (λ (p : Request). are_compatible p b ≡ true) is (own_fits r.granted (ap (λ (p : Request). p.granted) is ∙ granted) s)
     by_own false later found = by_grant later r.granted s found
 
--- two granted requests fit, the one that came later beside the other
+-- two granted requests are compatible, the later one with the other
 both_fit : (before rs : Queue) (p q : Request) (m n : ℕ) → (m == n) ≡ false → IsSettledBehind before rs → request_in rs m ≡ Some p → p.granted ≡ true → request_in rs n ≡ Some q → q.granted ≡ true →
     (are_compatible q p ≡ true) ⊎ (are_compatible p q ≡ true)
 both_fit before [] p q m n apart s first gp second gq = cc
@@ -256,7 +256,7 @@ apart_shared a b x true apart fits = by_shared x (rw apart at fits)
     by_shared false e = cc
 apart_shared a b x false apart fits = refl
 
--- beside an exclusive lock no other is held
+-- while an exclusive lock is held no other is
 pub alone : (queue : Queue) (m n : ℕ) → IsSettled queue → holds queue m Exclusive ≡ true → holds queue n Shared ≡ true → (m == n) ≡ true
 alone queue m n s first second = by_apart (m == n) refl
   where

@@ -120,7 +120,7 @@ after_other db [] q none = refl
 after_other db (Commit s ws ∷ log) q none = after_other (applied_all db ws) log q (second (have_key ws q) (has_written log q) none) ∙ applied_all_other db ws q (first (have_key ws q) (has_written log q) none)
 after_other db (Token phase point ∷ log) q none = after_other db log q none
 
--- A file of what a piece of the log wrote, laid on the database before it, is the database after it.
+-- A file of what a piece of the log wrote, applied to the database before it, is the database after it.
 pub one_piece : (db : Database) (log : List Entry) (b point : ℕ) → b < point → laid db b (triples_of point (after db log) (with_written [] log)) ≡ after db log
 one_piece db log b point above = same_database _ _ (λ q. get-laid db b _ q ∙ ap (laid_at (get db q) b) (get-triples_of point (after db log) (with_written [] log) q ∙ ap (λ t. cond t (Some (record { point = point; content = get (after db log) q })) None) (is_among-with_written [] log q))
     ∙ elim (has_written log q) as (λ t. has_written log q ≡ t → laid_at (get db q) b (cond t (Some (record { point = point; content = get (after db log) q })) None) ≡ get (after db log) q) [

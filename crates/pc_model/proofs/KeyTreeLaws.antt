@@ -1,4 +1,4 @@
--- Trees of keys as lists of entries that rise by key.
+-- Trees of keys as lists of entries that ascend by key.
 use Rattle.std.proofs.Common.{◌≡◌, ℕ, List, [], ◌∷◌, Some, cond, true, ◌&&◌, refl, sym, ap, subst, T, ◌∙◌}
 use Rattle.std.specs.BTreeMap as tree
 use Rattle.std.specs.BTreeMap.{BTreeMap}
@@ -22,7 +22,7 @@ below_all_is : {X : Type 0} (key : List ℕ) (es : List (List ℕ × X)) → All
 below_all_is key [] below = refl
 below_all_is key (e ∷ es) below = ap (λ o. is_lt o && below_all key_cmp key es) below.0 ∙ below_all_is key es below.1
 
--- keys that rise in order are sorted
+-- keys that ascend in order are sorted
 pub sorted_is : {X : Type 0} (es : List (List ℕ × X)) → IsStrictlySortedBy key_cmp (keys_of es) → is_sorted key_cmp es ≡ true
 sorted_is [] rise = refl
 sorted_is (e ∷ es) rise =

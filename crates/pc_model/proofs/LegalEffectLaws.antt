@@ -55,7 +55,7 @@ none_left_idle : (b : Bool) → IsIdleIfAny (cond b (Some told.NoneLeft) None)
 none_left_idle true = none_left_does_nothing
 none_left_idle false = tt
 
--- a legal reply is idle, or the answer where no reply was certain
+-- a legal reply is idle, or the answer if no reply was certain
 pub settled : (o : Option Reply) (Answer : Type 0) (reply : Reply) → IsIdleIfAny o → MatchOption o (Answer ⊎ (reply ≡ told.Refused why.OutOfMemory)) (λ due. reply ≡ due) → ((o ≡ None) × Answer) ⊎ IsIdle reply
 settled o Answer reply idle = answer_or_kind IsIdle (refused_idle why.OutOfMemory) o idle Answer reply
 

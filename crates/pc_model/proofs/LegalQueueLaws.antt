@@ -44,7 +44,7 @@ waiting : (r : Request) (rs : Queue) → AllWait rs → All (MayStand r) rs
 waiting r [] w = All-nil (MayStand r)
 waiting r (q ∷ qs) w = All-cons (MayStand r) q qs (λ a b. absurd (not_false q.granted w.0 b)) (waiting r qs w.1)
 
--- each behind r may stand beside it
+-- each after r is compatible with it
 behind : (r : Request) (before rs : Queue) → ((f : Request → Bool) → list_all f before ≡ true → f r ≡ true) → IsSoundBehind before rs → All (MayStand r) rs
 behind r before [] h s = All-nil (MayStand r)
 behind r before (q ∷ qs) h s = by (λ k t. behind r (before ++ q ∷ []) qs k t) q.granted refl s

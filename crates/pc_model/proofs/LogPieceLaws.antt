@@ -26,7 +26,7 @@ front_kept n (Token phase m ∷ l) more there = by_token (is_token_of n phase m)
     by_token true there later = refl
     by_token false there later = ap (◌∷◌ (Token phase m)) (later there)
 
--- and the log behind it grows at its end
+-- and the log after it grows at its end
 pub behind_kept : (n : ℕ) (l more : List Entry) → has_token n l ≡ true → behind n (l ++ more) ≡ behind n l ++ more
 behind_kept n [] more there = cc
 behind_kept n (Commit s ws ∷ l) more there = behind_kept n l more there
@@ -37,7 +37,7 @@ behind_kept n (Token phase m ∷ l) more there = by_token (is_token_of n phase m
     by_token true there later = refl
     by_token false there later = later there
 
--- where the first piece lacks the token, the front goes on into the second
+-- if the first piece lacks the token, the front goes on into the second
 pub front_past : (n : ℕ) (l more : List Entry) → has_token n l ≡ false → front n (l ++ more) ≡ l ++ front n more
 front_past n [] more none = refl
 front_past n (Commit s ws ∷ l) more none = ap (◌∷◌ (Commit s ws)) (front_past n l more none)
@@ -48,7 +48,7 @@ front_past n (Token phase m ∷ l) more none = by_token (is_token_of n phase m) 
     by_token true none later = cc
     by_token false none later = ap (◌∷◌ (Token phase m)) (later none)
 
--- and what is behind it is in the second
+-- and what is after it is in the second
 pub behind_past : (n : ℕ) (l more : List Entry) → has_token n l ≡ false → behind n (l ++ more) ≡ behind n more
 behind_past n [] more none = refl
 behind_past n (Commit s ws ∷ l) more none = behind_past n l more none
@@ -93,7 +93,7 @@ in_front m n (Token phase k ∷ l) there = by_token (is_token_of n phase k) (is_
     by_token true false e there later = cc
     by_token false false e there later = later (rw e at there)
 
--- and the other stands behind it
+-- and the other comes after it
 pub next_behind : (m n : ℕ) (l : List Entry) → has_token m (front n l) ≡ true → has_token n l ≡ true → has_token n (behind m l) ≡ true
 next_behind m n [] before there = cc
 next_behind m n (Commit s ws ∷ l) before there = next_behind m n l before there
@@ -131,7 +131,7 @@ cycle_more (suc n) l more (inr there) none =
     ∙ front_past (suc n + 1) (behind (suc n) l) more still
     ∙ ap (λ piece. piece ++ front (suc n + 1) more) (sym (front_whole (suc n + 1) (behind (suc n) l) still) ∙ sym (cycle_next l n))
 
--- the log behind the last token is the cycle of the next point
+-- the log after the last token is the cycle of the next point
 pub cycle_open : (n : ℕ) (l : List Entry) → has_token (suc n + 1) l ≡ false → cycle (suc n + 1) l ≡ behind (suc n) l
 cycle_open n l none = cycle_next l n ∙ front_whole (suc n + 1) (behind (suc n) l) (none_behind (suc n + 1) (suc n) l none)
 

@@ -74,12 +74,12 @@ abbrev MergesByOrder : {A B S T U F : Type 0} → (U → Option (EitherOrBoth A 
 MergesByOrder {A} {B} steps s firsts x seconds y call compare =
     EachRunBehindBoth steps s firsts x seconds y (λ p a b. EndsWithBoth p a b × ((h : A → B → Ordering) → ActsAsAtBoth call compare h → GivesOfBoth p a b (merge_join_by h)))
 
--- so it gives what this order makes, and does so where a loop has taken it over
+-- so it gives what this order makes, and does so if a loop has taken it over
 merges_by : {A B S T U F : Type 0} {steps : U → Option (EitherOrBoth A B) → U → Type 0} {firsts : S → Option A → S → Type 0} {seconds : T → Option B → T → Type 0} {s t : U} {x : S} {y : T} (call : Mut F (Bor A × (Bor B × ⊤)) Ordering) (compare : F) (h : A → B → Ordering)
     → t ≡ s → MergesByOrder steps s firsts x seconds y call compare → ActsAsAtBoth call compare h → EachRunBehindBoth steps t firsts x seconds y (λ p a b. GivesOfBoth p a b (merge_join_by h))
 merges_by call compare h same runs acts = rw same (λ p on at. let r = runs p on at in (r.0, r.1, (r.2.0, r.2.1, r.2.2.1 h acts)))
 
--- one over entries that are taken over gives their items, one after the other
+-- one over entries that are taken over gives their items, in order
 pub items_taken : {X Y S T U F : Type 0} {steps : U → Option (EitherOrBoth (List ℕ × X) (List ℕ × Y)) → U → Type 0} {firsts : S → Option (List ℕ × X) → S → Type 0} {seconds : T → Option (List ℕ × Y) → T → Type 0} {s t : U} {x : S} {y : T} {xs : List (List ℕ × X)} {ys : List (List ℕ × Y)}
     (call : Mut F (Bor (List ℕ × X) × (Bor (List ℕ × Y) × ⊤)) Ordering) (compare : F) → t ≡ s → MergesByOrder steps s firsts x seconds y call compare → ActsAsAtBoth call compare (λ x y. key_cmp x.0 y.0)
     → YieldsList firsts (λ a. a) x xs → YieldsList seconds (λ b. b) y ys → YieldsList steps (λ item. item) t (items xs ys)

@@ -1,4 +1,4 @@
--- What a merge of two rising lists has at each key, and its steps.
+-- What a merge of two ascending lists has at each key, and its steps.
 use Rattle.std.proofs.Common.{◌≡◌, ℕ, Bool, true, false, cond, ◌+◌, ◌<◌, List, [], ◌∷◌, ◌++◌, map, length, get_or, drop, Option, Some, None, refl, sym, ap, subst, ◌∙◌, append_assoc, arith}
 use Rattle.std.proofs.lemmas.List.{at_drop_more, at_drop_all, append-nil, length-append}
 use Rattle.std.specs.Ordering.{is_lt, ordering_reverse}
@@ -19,7 +19,7 @@ use Rattle.pc_model.proofs.MergeItemLaws.{items}
 flipped : (k l : List ℕ) → key_cmp k l ≡ Greater → key_cmp l k ≡ Less
 flipped k l is = key_order.total.antisymm l k ∙ ap ordering_reverse is
 
--- what entries have, where a key is below them
+-- what entries have, if a key is below them
 find_apart : {X : Type 0} (key q : List ℕ) (es : List (List ℕ × X)) → Below key es → find key_cmp q es ≡ cond (same_bytes q key) None (find key_cmp q es)
 find_apart {X} key q es below = by (same_bytes q key) refl
   where
@@ -108,7 +108,7 @@ module _ {A B C : Type 0} (rule : Option A → Option B → Option C) where
     merges_items [] b rise_a rise_b = second_merges b rise_b
     merges_items (a ∷ rest) b rise_a rise_b = merges_with a rest (λ bs ra rb. merges_items rest bs ra rb) b rise_a rise_b
 
-    -- a merge of rising lists has at each key what the rule makes of what both have there
+    -- a merge of ascending lists has at each key what the rule makes of what both have there
     pub merges : (a : List (List ℕ × A)) (b : List (List ℕ × B)) → Rise a → Rise b → Merges a b (merged rule a b)
     unfolding merged
     merges a b rise_a rise_b = merges_items a b rise_a rise_b

@@ -1,4 +1,4 @@
--- Which keys are occupied, key by key. A request stands only on a key that was asked for.
+-- Which keys are occupied, key by key. Only a key that was asked for has a request.
 use Rattle.std.specs.Prelude.{ℤ}
 use Rattle.std.proofs.Common.{◌≡◌, ℕ, List, [], ◌∷◌, ◌++◌, Option, Some, None, is_some, refl, sym, ap, ◌∙◌, cond, true, false, Bool, not, ◌||◌, ◌&&◌}
 use Rattle.std.specs.List.{list_any}
@@ -62,13 +62,13 @@ or_second : (a b : Bool) → b ≡ true → (a || b) ≡ true
 or_second true b e = refl
 or_second false b e = e
 
--- a request of a key that is asked for now, or one that stood before
+-- a request of a key that is asked for now, or one from before
 asked_now : (b c : Bool) (now before : Queue) → Has (cond b now before) → (Has before → c ≡ true) → (b || c) ≡ true
 asked_now true c now before has was = refl
 asked_now false c now before has was = was has
 
 module _ (h : History) (q : List ℕ) (was : Has (queue_of q h) → is_among (asked_for h) q ≡ true) where
-  -- the key was asked for, of those asked for then, where a request of it stands after this effect
+  -- the key was asked for, of those asked for then, if it has a request after this effect
   abbrev Then : List (List ℕ) → Effect → Type 0
   Then keys e = Has (queue_by q e h (queue_of q h)) → is_among keys q ≡ true
 
@@ -108,7 +108,7 @@ module _ (h : History) (q : List ℕ) (was : Has (queue_of q h) → is_among (as
   asked_by_event asked.Rest reply = move_case (Then (asked_for h)) was reply (λ phase point. was)
   asked_by_event (asked.Join a b) reply = join_case (Then (asked_for h)) was a b reply was
 
--- a request stands only on a key that was asked for
+-- only a key that was asked for has a request
 pub was_asked : (h : History) (q : List ℕ) → is_empty (queue_of q h) ≡ false → is_among (asked_for h) q ≡ true
 was_asked [] q has = cc
 was_asked (step ∷ h) q has = asked_by_event h q (was_asked h q) step.event step.reply has
@@ -117,7 +117,7 @@ and_asked : (b c : Bool) → (b ≡ false → c ≡ true) → (not b && c) ≡ n
 and_asked true c h = refl
 and_asked false c h = h refl
 
--- the keys on which a request stands are those whose queue is not empty
+-- the keys that have a request are those whose queue is not empty
 requested_is : (h : History) (q : List ℕ) → is_among (requested h) q ≡ not (is_empty (queue_of q h))
 requested_is h q =
     any-filter_same (same_bytes q) (λ key. not (is_empty (queue_of key h))) (not (is_empty (queue_of q h))) (λ k e. ap (λ x. not (is_empty (queue_of x h))) (sym (one_key q k e))) (asked_for h)

@@ -91,7 +91,7 @@ own_own s (c ∷ h) = by_case (own_own s h) (is_call_of s c) refl
     by_case before true e = ap (own_by s c) before
     by_case before false e = before ∙ sym (own_other s (own_of s h) c e)
 
--- its transaction is open where the history says so
+-- its transaction is open if the history says so
 pub own_open : (s : ℕ) (history : History) → (own_of s history).is_open ≡ is_open s history
 own_open s [] = refl
 own_open s (c ∷ h) = ap (open_by s (effect c)) (own_open s h)

@@ -1,4 +1,4 @@
--- What edits of rising pairs do to the database that they stand for.
+-- The effect of edits of ascending pairs on the database that they represent.
 use Rattle.std.proofs.Common.{◌≡◌, ℕ, List, length, refl, sym, ap, subst, T, ◌∙◌, cond, not, None, Some, Bool, true, false, Result, Ok, Err}
 use Rattle.std.specs.Prelude.{IsTrue, OnOk, OnErr}
 use Rattle.std.specs.declared.alloc.AllocError.{AllocError}
@@ -45,13 +45,13 @@ of_without old new key sorted is = record {
 pub of_get : (pairs : List Pair) (q : List ℕ) → find key_cmp q pairs ≡ get {o = key_order} (from_list pairs) q
 of_get pairs q = sym (get-from_list key_order pairs q)
 
--- the same where memory may fail
+-- the same if memory may fail
 pub of_put_on_ok : (old new : List Pair) (key value : List ℕ) (r : Result (Unit {0}) AllocError) → IsTrue (is_sorted key_cmp old) → OnOk r (new ≡ put key_cmp key value old) → OnErr r (new ≡ old) →
     record { sorted : IsTrue (is_sorted key_cmp new); inserts : OnOk r (from_list {o = key_order} new ≡ insert (from_list old) key value) }
 of_put_on_ok old new key value (Ok u) sorted ok err = of_put old new key value sorted ok
 of_put_on_ok old new key value (Err e) sorted ok err = record { sorted = rw err sorted; inserts = tt }
 
--- a map made of rising entries has just these entries
+-- a map made of ascending entries has just these entries
 pub entries_of : {X : Type 0} (es : List (List ℕ × X)) → IsTrue (is_sorted key_cmp es) → (from_list {o = key_order} es).entries ≡ es
 entries_of es sorted = same_entries key_cmp key_order.total key_order.exact _ es (from_list es).rises (computes sorted) (λ q. sym (get-entries (from_list es) q) ∙ get-from_list key_order es q)
 

@@ -1,4 +1,4 @@
--- Where a put into rising entries goes.
+-- Where a put into ascending entries goes.
 use Rattle.std.proofs.Common.{◌≡◌, ℕ, zero, suc, ◌+◌, ◌<◌, ◌≤◌, List, [], ◌∷◌, ◌++◌, length, take, drop, get_or, refl, sym, ap, ◌∙◌, arith, add-one, cond, Bool, true, false, is_some, Option, Some, None}
 use Rattle.std.specs.Prelude.{IsTrue, insert}
 use Rattle.std.specs.declared.cmp.Ordering.{Ordering}
@@ -65,7 +65,7 @@ gap_at_end entries key i ge le behind =
       puts = λ r. behind.puts r ∙ ap (λ j. take j entries ++ put key_cmp key r (drop j entries)) at_end ∙ rw nothing refl;
     }
 
--- the key is behind one more entry that it is greater than
+-- the key is after one more entry that it is greater than
 pub behind_more : {X : Type 0} (entries : List (List ℕ × X)) (key : List ℕ) (i : ℕ) (e : List ℕ × X) → i < length entries → e ≡ get_or entries i e → IsBehind entries key i → key_cmp key e.0 ≡ Greater → IsBehind entries key (i + 1)
 behind_more {X} entries key i e lt is behind greater =
     record {

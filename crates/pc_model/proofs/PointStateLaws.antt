@@ -32,7 +32,7 @@ no phase other is idle taking = absurd (apart (is_taking phase) (ap is_taking is
     apart false f t = cc
 
 module _ (st : Setting) (h : History) (legal : HasLegalEffects st h) (taking : is_taking (phase_of h) ≡ true) where
-  -- what is logged behind the point's token leaves its state
+  -- what is logged after the point's token leaves its state
   kept : (more : List Entry) → state_at st.base (log_of h ++ more) (point_of h) ≡ state_at st.base (log_of h) (point_of h)
   kept more = state_at_kept st.base (point_of h) (log_of h) more (inr (past_token st h legal (past_of (phase_of h) taking)))
 

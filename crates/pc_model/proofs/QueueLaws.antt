@@ -140,7 +140,7 @@ pub and_true : (a b : Bool) → (a && b) ≡ true → (a ≡ true) × (b ≡ tru
 and_true true b e = (refl, e)
 and_true false b e = absurd cc
 
--- a transaction that is new stands once
+-- a new transaction occurs once
 pub once_push : (rs : Queue) (n : Request) → AreOnce rs → stands_in rs n.transaction ≡ false → AreOnce (rs ++ n ∷ [])
 once_push [] n o e = (refl, tt)
 once_push (r ∷ rs) n o e =
@@ -163,7 +163,7 @@ shared_fit r q e f = rw (e, f) (by (r.transaction == q.transaction))
     by true = refl
     by false = refl
 
--- one that is shared fits where another one does
+-- one that is shared fits if another one does
 fits_too : (n r : Request) (before : Queue) → is_exclusive r.mode ≡ false → stands_in before n.transaction ≡ false → list_all (are_compatible n) before ≡ true → list_all (are_compatible r) before ≡ true
 fits_too n r [] e s c = refl
 fits_too n r (q ∷ qs) e s c =
@@ -189,7 +189,7 @@ settled_grant before (r ∷ rs) n s e c g = by (settled_grant (before ++ r ∷ [
         let f = fits_too n r before (both_shared n r e2.0 c2.0).1 e1.0 c1.0 in
         absurd (let k = h.0 in cc)
 
--- where the transaction has none, its request goes to the end
+-- if the transaction has none, its request goes to the end
 pub with_new : (queue : Queue) (n : Request) → stands_in queue n.transaction ≡ false → with_request queue n ≡ queue ++ n ∷ []
 with_new [] n e = refl
 with_new (r ∷ rs) n e =
@@ -233,7 +233,7 @@ never : (b : Bool) → ((not b && false) && true) ≡ false
 never true = refl
 never false = refl
 
--- those behind a lock that becomes exclusive still wait
+-- those after a lock that becomes exclusive still wait
 waiting_behind : (r : Request) (t : ℕ) (rs : Queue) → (r.transaction == t) ≡ true → stands_in rs r.transaction ≡ false → list_any (λ q. q.granted && not (q.transaction == t)) rs ≡ false →
     IsSettledBehind (r ∷ []) rs → IsSettledBehind (record r { mode = Exclusive } ∷ []) rs
 waiting_behind r t [] e o n s = tt
@@ -270,7 +270,7 @@ where_false : (P Q : Type 0) (b : Bool) → b ≡ false → MatchBool b P Q → 
 where_false P Q true e h = absurd cc
 where_false P Q false e h = h
 
--- where an upgrade is granted, the own lock stands in front
+-- if an upgrade is granted, its own lock is in front
 pub upgraded : (queue : Queue) (t : ℕ) (own : Request) → IsSettledBehind [] queue → AreOnce queue → request_in queue t ≡ Some own → own.granted ≡ true → is_exclusive own.mode ≡ false →
     list_any (λ q. q.granted && not (q.transaction == t)) queue ≡ false →
     (0 < length queue) × (with_request queue (record { transaction = t; mode = Exclusive; granted = true }) ≡ set queue 0 (record own { mode = Exclusive }))

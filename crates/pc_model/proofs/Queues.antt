@@ -1,4 +1,4 @@
--- Granted requests stand in front and never conflict, and the six rules keep it so.
+-- Granted requests are in front and never conflict, and the six rules keep it so.
 use Rattle.std.proofs.Common.{◌≡◌, List, [], ◌∷◌, ◌++◌, refl, sym, subst, cond, Bool, true, false}
 use Rattle.std.specs.Prelude.{MatchBool}
 use Rattle.std.specs.List.{list_all}

@@ -74,7 +74,7 @@ module _ (base : Database) (log : List Entry) (s : ℕ) (rs : List Receipt) wher
             (at_end log (logged.Commit s o.writes) front (logged.Commit s ws) behind is);
       }
 
--- what is read of a key that was not written is what stands there
+-- what is read of a key that was not written is its content
 module _ (db : Database) (s : ℕ) where
   one_right : (own : Option Change) (b : Bool) (reads : List Read) (key : List ℕ) (answer : Option (List ℕ)) → AreRight db reads → answer ≡ seen own (get db key)
       → AreRight db (cond (is_some own || b) reads (reads ++ (key, answer) ∷ []))

@@ -26,12 +26,12 @@ use Rattle.pc_model.specs.Replies.{Setting, first_refusal, or_else, no_session, 
 use Rattle.pc_model.specs.ReplyKinds.{IsBeginReply, IsGetReply, IsWriteReply, IsCommitReply, IsAbortReply, IsMoveReply, IsTakeReply, IsDoneReply, IsJoinReply, IsReplyTo, IsAddReply}
 use Rattle.pc_model.proofs.CertainReplies.{answer_or_kind, by_either, by_causes, by_phase, by_count, by_held}
 
--- where what is certain is of the kind, and so are the answer and a refusal, a legal reply is
+-- if what is certain is of the kind, and so are the answer and a refusal, a legal reply is
 by_due : (Kind : Reply → Type 0) → Kind (told.Refused why.OutOfMemory) → (o : Option Reply) → IfSome o Kind → (Answer : Type 0) (reply : Reply) → (Answer → Kind reply)
     → MatchOption o (Answer ⊎ (reply ≡ told.Refused why.OutOfMemory)) (λ due. reply ≡ due) → Kind reply
 by_due Kind out o is Answer reply fits legal = ⊎_elim (λ answered. fits answered.1) (λ kind. kind) (answer_or_kind Kind out o is Answer reply legal)
 
--- an answer that is this one is of the kind where this one is
+-- an answer that is this one is of the kind if this one is
 as_told : (Kind : Reply → Type 0) (answer reply : Reply) → Kind answer → reply ≡ answer → Kind reply
 as_told Kind answer reply fits is = subst Kind (sym is) fits
 

@@ -1,5 +1,5 @@
--- In a legal history each committed transaction has read right: while it is open, no other commit changes what it has
--- read, since it holds a lock there.
+-- In a legal history each committed transaction has read correctly: while it is open, no other commit changes what it
+-- has read, since it holds a lock there.
 use Rattle.pc_types.specs.Changes.{added}
 use Rattle.std.proofs.Common.{◌≡◌, ℕ, List, [], ◌∷◌, ◌++◌, append-nil, eqb, not, ◌||◌, Option, Some, None, is_some, refl, sym, ap, subst, ◌∙◌, cond, Bool, true, false, ◌⊎◌, inl, inr, arith}
 use Rattle.std.specs.Prelude.{⊤, MatchOption, IfSome, MatchBool, ℤ}
@@ -40,7 +40,7 @@ use Rattle.pc_model.specs.SessionLocks.{read_by, keys_read, Locked}
 itself : (key : List ℕ) → same_bytes key key ≡ true
 itself key = (eq_by_cmp_equiv key_order.total).refl key
 
--- what a legal effect says: what locking allows, that a read gave what stands there, and an add the sum with it
+-- what a legal effect says: what locking allows, that a read gave the content, and an add the sum with it
 abbrev IsAnswer : Database → History → Effect → Type 0
 IsAnswer base history (Reads s key answer) = answer ≡ seen (written (writes_of s history) key) (get (contents base history) key)
 IsAnswer base history (Adds s key delta sum) = added delta (seen (written (writes_of s history) key) (get (contents base history) key)) ≡ Some sum
@@ -54,7 +54,7 @@ refused_sound : (base : Database) (history : History) (event : Event) (reply : R
 refused_sound base history event reply refused = let P : Effect → Type 0 = IsSound base history in subst P (sym (ap (effect_of event) refused.1 ∙ refused_does_nothing event refused.0)) (tt, tt)
 
 module _ (st : Setting) (history : History) where
-  -- where no cause of a transaction's refusals stands, it may ask
+  -- if no cause of a transaction's refusals applies, it may ask
   may_ask : (s : ℕ) (causes : List (Bool × Refusal)) → first_refusal (transaction_causes st s history ++ causes) ≡ None → MayAsk s history
   may_ask s causes none =
       let died = (has_died s history, why.MustAbort) ∷ causes in
@@ -174,7 +174,7 @@ or_second : (a b : Bool) → b ≡ true → (a || b) ≡ true
 or_second true b e = refl
 or_second false b e = e
 
--- reads stay right where the keys read have what they had
+-- reads stay correct if the keys read have what they had
 reads_stay : (old new : Database) (s : ℕ) (history : History) → ((key : List ℕ) → is_among (keys_read s history) key ≡ true → get old key ≡ get new key) → HasReadFrom old s history → HasReadFrom new s history
 reads_stay old new s [] same reads = tt
 reads_stay old new s (step ∷ history) same reads = by_effect (effect step) same reads (reads_stay old new s history)
@@ -217,7 +217,7 @@ reads_stay old new s (step ∷ history) same reads = by_effect (effect step) sam
     by_effect (Joins a b) same reads later = later same reads
     by_effect Nothing same reads later = later same reads
 
--- what another session commits it has written beside no lock of this one
+-- what another session commits it has written while this one had no lock of it
 commit_leaves : (h : History) (s t : ℕ) (key : List ℕ) → Locked h → is_open s h ≡ true → is_open t h ≡ true → eqb t s ≡ false → is_among (keys_read s h) key ≡ true → is_some (written (writes_of t h) key) ≡ false
 commit_leaves h s t key l is_s is_t other read = by_test (is_some (written (writes_of t h) key)) refl
   where
@@ -225,7 +225,7 @@ commit_leaves h s t key l is_s is_t other read = by_test (is_some (written (writ
     by_test false e = refl
     by_test true e = sym (alone (queue_of key h) (number_of t h) (number_of s h) (l.settled key) (l.writes t key is_t e) (l.reads s key is_s read)) ∙ l.apart t s is_t is_s other
 
--- the reads so far are still right after one more effect
+-- the reads so far are still correct after one more effect
 still_right : (base : Database) (s : ℕ) (history : History) (e : Effect) → IsSound base history e → Locked history → (is_open s history ≡ true → HasReadFrom (contents base history) s history) → open_by s e (is_open s history) ≡ true →
     ReadBy s (after base (log_of history ++ entries_by e history)) e history (HasReadFrom (after base (log_of history ++ entries_by e history)) s history)
 still_right base s history (Begins t) sound l before is = elim (eqb t s) as (λ b. cond b true (is_open s history) ≡ true → MatchBool b ⊤ (HasReadFrom (after base (log_of history ++ [])) s history)) [ true ↦ λ e. tt | false ↦ λ e. rw append-nil (before e) ] is
@@ -259,7 +259,7 @@ module _ (st : Setting) where
   right_by history (Commits s) sound legal = has_read s history legal sound.0
   right_by history other sound legal = tt
 
--- in a history with legal effects the reads of each committed transaction are right
+-- in a history with legal effects the reads of each committed transaction are correct
 pub effects_read_right : (st : Setting) (history : History) → HasLegalEffects st history → HasRightReads st.base history
 effects_read_right st [] legal = tt
 effects_read_right st (step ∷ history) legal = (right_by st history (effect step) (effect_sound st history step legal.0) legal.1, effects_read_right st history legal.1)

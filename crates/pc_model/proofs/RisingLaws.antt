@@ -1,4 +1,4 @@
--- Entries that rise by key.
+-- Entries that ascend by key.
 use Rattle.std.proofs.Common.{◌≡◌, ℕ, List, [], ◌∷◌, Some, None, refl, sym, ap, ◌∙◌, cond, Bool, true, false, ◌&&◌, ◌||◌}
 use Rattle.std.specs.Prelude.{IsTrue}
 use Rattle.std.specs.List.{list_any}
@@ -29,7 +29,7 @@ is_less Greater e = cc
 abbrev pub Below : {X : Type 0} → List ℕ → List (List ℕ × X) → Type 0
 Below key es = below_all key_cmp key es ≡ true
 
--- the entries rise by key
+-- the entries ascend by key
 abbrev pub Rise : {X : Type 0} → List (List ℕ × X) → Type 0
 Rise es = is_sorted key_cmp es ≡ true
 

@@ -1,4 +1,4 @@
--- A binary search among entries that rise by key.
+-- A binary search among entries that ascend by key.
 use Rattle.std.proofs.Common.{◌≡◌, ℕ, zero, suc, ◌+◌, ◌<◌, ◌≤◌, List, [], ◌∷◌, length, get_or, Result, Ok, Err, IfOk, IfErr, HoldsAt, refl, sym, ap, ◌∙◌, arith, add-one, Bool, true, false, ltb, ltb-true, ltb-false, subst}
 use Rattle.std.specs.declared.cmp.Ordering.{Ordering}
 use Rattle.std.specs.declared.cmp.Ordering.TheVariants.{Less, Equal, Greater}
@@ -21,7 +21,7 @@ is_less Greater h = cc
 pub turned : (k l : List ℕ) (o : Ordering) → key_cmp k l ≡ o → key_cmp l k ≡ ordering_reverse o
 turned k l o is = key_order.total.antisymm l k ∙ ap ordering_reverse is
 
--- how the key of an entry stands to this one
+-- how the key of an entry compares to this one
 abbrev pub against : {X : Type 0} → List ℕ → List ℕ × X → Ordering
 against key e = key_cmp e.0 key
 
@@ -31,7 +31,7 @@ module _ {X : Type 0} where
   below_far key (x ∷ xs) zero d below lt = is_less (key_cmp key x.0) (both _ _ below).0
   below_far key (x ∷ xs) (suc j) d below lt = below_far key xs j d (both (is_lt (key_cmp key x.0)) _ below).1 (omega (arith, lt))
 
-  -- each key is less than all behind it
+  -- each key is less than all after it
   rise_far : (es : List (List ℕ × X)) (i j : ℕ) (d : List ℕ × X) → KeysRise es → i < j → j < length es → key_cmp (get_or es i d).0 (get_or es j d).0 ≡ Less
   rise_far [] i j d rise before lt = absurd (omega (arith, lt))
   rise_far (x ∷ xs) i zero d rise before lt = absurd (omega (arith, before))

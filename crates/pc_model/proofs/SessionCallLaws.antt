@@ -73,7 +73,7 @@ begun_own st n before after ks t is x =
     let o : Own = own_of n before in
     (λ i. own (own_case n true o.is_open i) (own_case n [] o.writes i) (own_case n [] o.reads i) (is i)) ∙ after_call st n before after o.is_open o.writes o.reads o.receipts refl (asked.Begin n) (told.Begun t) refl x
 
--- the second cause is told where the first doesn't stand
+-- the second cause is the reply if the first doesn't apply
 second : (a b : Bool) (more : List (Bool × Refusal)) → a ≡ false → b ≡ false → first_refusal ((a, why.NoSession) ∷ (not b, why.NoTransaction) ∷ more) ≡ Some (told.Refused why.NoTransaction)
 second false false more known idle = refl
 second false true more known idle = absurd (true≢false idle)
@@ -86,7 +86,7 @@ module _ (st : Setting) (s : ℕ) (h : History) (known : no_session st s ≡ fal
   abbrev waiting : List (Bool × Refusal)
   waiting = (is_waiting s h, why.StillWaiting) ∷ (has_died s h, why.MustAbort) ∷ []
 
-  -- where a session that is known has no transaction open, it is told so
+  -- if an existing session has no open transaction, the reply says so
   pub idle_is_told : (e : Event) → AsksOpen s e → IsLegal st h e (told.Refused why.NoTransaction)
   idle_is_told e (Gets key) = due (certain st h e) (Answers st h e (told.Refused why.NoTransaction)) (second (no_session st s) (is_open s h) (waiting ++ (is_full st key h, why.Full) ∷ []) known idle)
   idle_is_told e (Puts key value) =

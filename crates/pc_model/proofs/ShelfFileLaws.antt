@@ -187,7 +187,7 @@ module _ (st : Setting) (h : History) (legal : HasLegalEffects st h) (values : T
   pub made_join_well : (a b : File) → IsMade (shelf st.run h) a → IsMade (shelf st.run h) b → JoinsWell st.run st.base (log_of h) a b
   made_join_well a b made other = join_well st.run st.base (log_of h) a b (made_is_of_points a made) (made_is_of_points b other)
 
-  -- the base with a file of the points 1 to n laid on it is the state of n
+  -- the base with a file of the points 1 to n applied to it is the state of n
   laid_is_state : (f : File) (n : ℕ) → IsOfItsPoints st.run st.base (log_of h) f → set.items f.points ≡ numbers_to n → laid st.base 0 f.triples ≡ state_at st.base (log_of h) n
   laid_is_state f n of covers =
       ap (laid st.base 0) (ap (λ g. g.triples) of.is ∙ ap (content st.base (log_of h)) covers)

@@ -1,4 +1,4 @@
--- What stands after every history with legal effects: tokens in order, and each key once.
+-- The invariant of every history with legal effects: tokens in order, and each key once.
 use Rattle.std.proofs.Common.{◌≡◌, ℕ, zero, suc, ◌+◌, List, [], ◌∷◌, ◌++◌, append-nil, map, refl, sym, ap, subst, ◌∙◌, true, false, ◌≤◌, ◌&&◌, arith, Option}
 use Rattle.std.specs.Prelude.{nat_lt, nat_le}
 use Rattle.std.proofs.lemmas.Bool.Decides.{nat_tests}
@@ -25,7 +25,7 @@ use Rattle.pc_model.proofs.Tokens.{TokensStand, left_of, at_first, stands_commit
 abbrev pub keys_taken : History → List (List ℕ)
 keys_taken h = map (λ t. t.0) (taken h)
 
--- what stands after a history
+-- the invariant of a history
 abbrev pub HasStanding : History → Type 0
 HasStanding h = TokensStand (phase_of h) (point_of h) (log_of h) (open_set h) (keys_taken h)
 
@@ -73,7 +73,7 @@ module _ (h : History) (s : HasStanding h) where
   stands_by st (Shelves n) fits = rw fits.1 (by_done fits.0 fits.2)
   stands_by st other fits = same_log
 
--- what stands after a history with legal effects
+-- the invariant of a history with legal effects
 pub has_standing : (st : Setting) (h : History) → HasLegalEffects st h → HasStanding h
 has_standing st [] legal = at_first
 has_standing st (step ∷ h) legal = stands_by h (has_standing st h legal.1) st (effect step) (effect_fits st h step.event step.reply legal.0)
@@ -118,12 +118,12 @@ past_token st h legal past = by_phase (phase_of h) past (has_standing st h legal
 pub written_is : (st : Setting) (h : History) → HasLegalEffects st h → open_set h ≡ touched (last_sealed h + 1) (log_of h)
 written_is st h legal = (has_standing st h legal).open_keys
 
--- the log behind the token of the last sealed point: all of it where there is none
+-- the log after the token of the last sealed point: all of it if there is none
 abbrev pub behind_last : ℕ → List Entry → List Entry
 behind_last zero log = log
 behind_last (suc n) log = behind (suc n) log
 
--- they are the keys of the log behind the last token
+-- they are the keys of the log after the last token
 pub written_behind : (st : Setting) (h : History) → HasLegalEffects st h → open_set h ≡ with_written [] (behind_last (last_sealed h) (log_of h))
 written_behind st h legal = written_is st h legal ∙ ap (with_written []) (by_last (last_sealed h) (none_next (phase_of h) (point_of h) (log_of h) (open_set h) (keys_taken h) (has_standing st h legal)))
   where

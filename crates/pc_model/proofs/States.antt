@@ -11,7 +11,7 @@ use Rattle.pc_model.specs.Standing.{PrecedesNext}
 use Rattle.pc_model.specs.Points.{is_among, cycle, touched, part_of, laid, triples_of}
 use Rattle.pc_model.proofs.JoinLaws.{one_piece, after_other, is_among-with_written}
 
--- where m's token stands before n's, replay up to n's is replay up to m's and on from there
+-- if m's token is before n's, replay up to n's is replay up to m's and on from there
 pub after_behind : (base : Database) (log : List Entry) (m n : ℕ) → has_token m (front n log) ≡ true → after (after base (front m log)) (front n (behind m log)) ≡ after base (front n log)
 after_behind base [] m n there = cc
 after_behind base (Commit s ws ∷ log) m n there = after_behind (applied_all base ws) log m n there
@@ -62,7 +62,7 @@ untouched_stays base log point key there none =
     ap (λ db. get db key) (sym (cycle_makes base log point there))
     ∙ after_other (state_at base log point) (cycle (point + 1) log) key (sym (is_among-with_written [] (cycle (point + 1) log) key) ∙ none)
 
--- the state of this point with the next point's part laid on it is the state of the next point
+-- the state of this point with the next point's part applied to it is the state of the next point
 pub part_makes : (base : Database) (log : List Entry) (point : ℕ) → PrecedesNext point log → laid (state_at base log point) point (part_of base log (point + 1)) ≡ state_at base log (point + 1)
 part_makes base log point there =
     ap (λ db. laid (state_at base log point) point (triples_of (point + 1) db (touched (point + 1) log))) (sym (cycle_makes base log point there))

@@ -1,4 +1,4 @@
--- What was taken, where each Take carried its key's content at the point: the part of the point.
+-- What was taken, if each Take carried its key's content at the point: the part of the point.
 use Rattle.std.proofs.Common.{◌≡◌, ℕ, List, [], ◌∷◌, ◌++◌, append-nil, map, refl, sym, ap, subst, ◌∙◌, true, inr, Option}
 use Rattle.std.specs.List.{AllByRecursion}
 use Rattle.pc_types.specs.declared.Entry.{Entry}

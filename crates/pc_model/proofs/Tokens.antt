@@ -36,8 +36,8 @@ no_token to n plain p = ap (λ b. if (b && eqb n p) then true else false) plain
 token_writes_none : (keys : List (List ℕ)) (p : ℕ) (to : Phase) (n : ℕ) → with_written keys (front p (Token to n ∷ [])) ≡ keys
 token_writes_none keys p to n = elim (is_token_of p to n) as (λ b. with_written keys (if b then [] else Token to n ∷ []) ≡ keys) [ true ↦ refl | false ↦ refl ]
 
--- What stands after a history: the log has the tokens of 1 to the last sealed point, in this order; the keys written since
--- are those of the next point's cycle; the keys taken and those left are the touched ones, and none is left where none may be.
+-- The invariant of a history: the log has the tokens of 1 to the last sealed point, in this order; the keys written since are
+-- those of the next point's cycle; the keys taken and those left are the touched ones, and none is left if none may be.
 pub record TokensStand (phase : Phase) (point : ℕ) (log : List Entry) (written gone : List (List ℕ)) : Type 0 where
   pub has : (p : ℕ) → has_token p log ≡ (nat_lt 0 p && nat_le p (sealed_in phase point))
   pub in_order : (p : ℕ) → has_token (p + 1) log ≡ true → PrecedesNext p log
@@ -242,7 +242,7 @@ module _ (point : ℕ) (log : List Entry) (written gone : List (List ℕ)) (s : 
     idle = λ e. cc;
   }
 
--- keys that may be taken are left only where the point has its token
+-- keys that may be taken are left only if the point has its token
 some_left : (point : ℕ) (log : List Entry) (gone : List (List ℕ)) (key : List ℕ) (keys : List (List ℕ)) → left_of point log gone ≡ key ∷ keys → has_token point log ≡ true
 some_left point log gone key keys = elim (has_token point log) as (λ b. (if b then without (touched point log) gone else []) ≡ key ∷ keys → b ≡ true) [ true ↦ λ is. refl | false ↦ λ is. cc ]
 

@@ -1,4 +1,4 @@
--- Touched keys stand once each, and what is left of them after the first ones.
+-- Touched keys occur once each, and what is left of them after the first ones.
 use Rattle.std.proofs.Common.{◌≡◌, ℕ, List, [], ◌∷◌, ◌++◌, refl, ap, ◌∙◌, cond, not, Bool, true, false, ◌||◌}
 use Rattle.std.specs.List.{IsDistinct, AllByRecursion}
 use Rattle.std.proofs.lemmas.Cmp.{eq_by_cmp_equiv}
@@ -87,7 +87,7 @@ unfolding IsDistinct
 all_out [] keys once = none_gone keys
 all_out (g ∷ gone) keys once = one_more_out g gone gone keys once.0 (all_out gone keys once.1)
 
--- keys that stand once each, without the first ones, are the others
+-- keys that occur once each, without the first ones, are the others
 pub without_first : (gone keys : List (List ℕ)) → IsDistinct same_bytes (gone ++ keys) → without (gone ++ keys) gone ≡ keys
 without_first gone keys once =
     filter-append (λ k. not (is_among gone k)) gone keys

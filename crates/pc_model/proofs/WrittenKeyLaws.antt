@@ -8,7 +8,7 @@ use Rattle.pc_model.specs.Database.{Database, applied, applied_all, key_order, s
 use Rattle.pc_model.proofs.JoinLaws.{one_key, get_put}
 use Rattle.std.proofs.lemmas.Cmp.{eq_by_cmp_equiv}
 
--- a change behind the earlier one, if there is one
+-- a change after the earlier one, if there is one
 abbrev pub merged_if : Option Change → Change → Change
 merged_if None change = change
 merged_if (Some before) change = merged before change

@@ -1,4 +1,4 @@
--- Sessions' calls in a history: which steps are a session's own, and what a session that has seen a beginning of a history
+-- Sessions' calls in a history: which steps are a session's own, and what a session that has seen a prefix of a history
 -- knows of it.
 use Rattle.std.specs.Prelude.{◌≡◌, ◌==◌, ◌&&◌, ℕ, ℤ, Bool, true, false, List, [], ◌∷◌, ◌++◌}
 use Rattle.std.specs.List.{filter}
@@ -14,7 +14,7 @@ use Rattle.pc_model.specs.Replies.{Setting, IsLegal, IsLegalHistory}
 abbrev pub step_of : Event → Reply → Step
 step_of event reply = record { event = event; reply = reply }
 
--- the session that asks, or 0 where the checkpointer does
+-- the session that asks, or 0 if the checkpointer does
 abbrev pub session_of : Event → ℕ
 session_of (asked.Begin s) = s
 session_of (asked.Get s key) = s
@@ -39,7 +39,7 @@ is_call_of s step = counts step.reply && (session_of step.event == s)
 abbrev pub calls_of : ℕ → History → History
 calls_of s history = filter (is_call_of s) history
 
--- the first history is a beginning of the second
+-- the first history is a prefix of the second
 abbrev pub IsBeginning : History → History → Type 0
 IsBeginning early late = (since : History) × (late ≡ since ++ early)
 

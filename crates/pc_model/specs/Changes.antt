@@ -9,7 +9,7 @@ use Rattle.pc_model.specs.Database.{Database, applied, applied_all, with_write, 
 use Rattle.pc_types.specs.declared.Entry.{Entry}
 use Rattle.pc_types.specs.declared.Entry.TheVariants.{Commit, Token}
 
--- An add applies where its key has a number and the sum fits; the other changes always do.
+-- An add applies if its key has a number and the sum fits; the other changes always do.
 abbrev pub Applies : Change → Option (List ℕ) → Type 0
 Applies (Add d) there = is_some (added d there) ≡ true
 Applies other there = Unit {0}

@@ -27,7 +27,7 @@ same_bytes k l = eq_by_cmp key_cmp k l
 abbrev pub Database : Type 0
 Database = Map key_order (List ℕ)
 
--- the keys of the entries strictly rise
+-- the keys of the entries strictly ascend
 abbrev pub KeysRise : {X : Type 0} → List (List ℕ × X) → Type 0
 KeysRise entries = IsTrue (is_sorted key_cmp entries)
 

@@ -1,4 +1,4 @@
--- How many writes a commit of a run has.
+-- The number of writes that a commit of a run has.
 use Rattle.std.specs.Prelude.{◌≤◌, length, ⊤}
 use Rattle.pc_types.specs.declared.Entry.{Entry}
 use Rattle.pc_types.specs.declared.Entry.TheVariants.{Commit, Token}

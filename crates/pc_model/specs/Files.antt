@@ -28,7 +28,7 @@ joined_file a b = record { run = a.run; points = set.union a.points b.points; tr
 abbrev pub file_at : List File → ℕ → Option File
 file_at shelf number = if number == 0 then None else slice_get shelf (number - 1)
 
--- the join, where both files are there
+-- the join, if both files are there
 abbrev pub join_of : Option File → Option File → List File
 join_of (Some a) (Some b) = joined_file a b ∷ []
 join_of a b = []

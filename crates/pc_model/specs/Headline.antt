@@ -1,4 +1,4 @@
--- What a whole history promises: the tokens of points in order, each touched key taken once, and files that are worth
+-- The promises of a whole history: the tokens of points in order, each touched key taken once, and files that represent
 -- the states of their points.
 use Rattle.std.specs.Prelude.{◌≡◌, ℕ, Bool, true, false, List, [], ◌∷◌, ◌++◌, map, ⊤, IsTrue, IsFalse}
 use Rattle.std.specs.List.{IsDistinct, Contains}
@@ -20,7 +20,7 @@ is_taking Resolve = true
 is_taking Capture = true
 is_taking other = false
 
--- Each key once: behind the point's token the keys taken and those left are together the touched ones, in their order, and
+-- Each key once: after the point's token the keys taken and those left are together the touched ones, in their order, and
 -- outside resolve and capture none is left, so all were taken. No touched key is there twice.
 pub record TakesEachKeyOnce (history : History) : Type 0 where
   pub taken_and_left : IsTrue (has_token (point_of history) (log_of history)) → map (λ t. t.0) (taken history) ++ closed_set history ≡ touched (point_of history) (log_of history)
@@ -28,7 +28,7 @@ pub record TakesEachKeyOnce (history : History) : Type 0 where
   pub all_taken : IsTrue (has_token (point_of history) (log_of history)) → IsFalse (is_taking (phase_of history)) → map (λ t. t.0) (taken history) ≡ touched (point_of history) (log_of history)
   pub once : IsDistinct same_bytes (touched (point_of history) (log_of history))
 
--- where this effect is a Take, its content is what the key has in the state of the point
+-- if this effect is a Take, its content is what the key has in the state of the point
 abbrev pub ValueBy : Database → Effect → History → Type 0
 ValueBy base (Takes key content) history = content ≡ get (state_at base (log_of history) (point_of history)) key
 ValueBy base other history = ⊤
@@ -45,7 +45,8 @@ pub data IsMade (shelf : List File) : File → Type 0 where
 
 -- The headline, of the files made of the shelf: each of their points has its token in the log; any two are of one run and
 -- don't conflict; those of the same points are one file, in whatever order and however often they were joined; and the
--- base with one of the points 1 to n laid on it is the state of n: the database after what was committed before n's token.
+-- base with one of the points 1 to n applied to it is the state of n: the database after what was committed before n's
+-- token.
 pub record HasHeadline (st : Setting) (history : History) : Type 0 where
   pub has_tokens : (file : File) (point : ℕ) → IsMade (shelf st.run history) file → IsTrue (set.contains file.points point) → IsTrue (has_token point (log_of history))
   pub any_two_join : (a b : File) → IsMade (shelf st.run history) a → IsMade (shelf st.run history) b → (a.run ≡ b.run) × IsFalse (conflict a.triples b.triples)

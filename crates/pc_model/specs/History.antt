@@ -27,7 +27,7 @@ History = List Step
 pub data Effect : Type 0 where
   -- the session begins a transaction
   Begins : ℕ → Effect
-  -- the session reads the key, and is told this
+  -- the session reads the key, and gets this reply
   Reads : ℕ → List ℕ → Option (List ℕ) → Effect
   -- the session sets or removes the key
   Writes : ℕ → List ℕ → Option (List ℕ) → Effect

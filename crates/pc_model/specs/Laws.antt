@@ -34,7 +34,7 @@ NumbersAreRead = (z : ℤ) → FitsSigned w64 z → number_of (Some (number_text
 abbrev pub ChangesMerge : Type 0
 ChangesMerge = (a b : Change) (there : Option (List ℕ)) → Applies a there → Applies b (changed a there) → (changed (merged a b) there ≡ changed b (changed a there)) × Applies (merged a b) there
 
--- The final writes of a transaction, one for each key, do what its writes did one after the other, where each applied.
+-- The final writes of a transaction, one for each key, do what its writes did in order, if each applied.
 abbrev pub FinalWritesAgree : Type 0
 FinalWritesAgree = (db : Database) (ws : List Write) → AllApplyInTurn db ws → applied_all db (merged_writes [] ws) ≡ applied_all db ws
 
@@ -55,11 +55,12 @@ abbrev pub UntouchedKeysStay : Type 0
 UntouchedKeysStay = (base : Database) (log : List Entry) (point : ℕ) (key : List ℕ) → PrecedesNext point log → IsFalse (is_among (touched (point + 1) log) key) →
     get (state_at base log (point + 1)) key ≡ get (state_at base log point) key
 
--- The state of the next point is the state of this point with the next point's part laid on it.
+-- The state of the next point is the state of this point with the next point's part applied to it.
 abbrev pub PartsMakeStates : Type 0
 PartsMakeStates = (base : Database) (log : List Entry) (point : ℕ) → PrecedesNext point log → laid (state_at base log point) point (part_of base log (point + 1)) ≡ state_at base log (point + 1)
 
--- The content of a set of points, all from b + 1 to n among them and none above n, laid on the state of b, is the state of n.
+-- The content of a set of points, all from b + 1 to n among them and none above n, applied to the state of b, is the state of
+-- n.
 abbrev pub ContentsMakeStates : Type 0
 ContentsMakeStates = (base : Database) (log : List Entry) (b n : ℕ) (points : Set number_order) → b ≤ n → ((p : ℕ) → p < n → PrecedesNext p log) →
     ((p : ℕ) → IsTrue (set.contains points p) → p ≤ n) → ((p : ℕ) → b < p → p ≤ n → IsTrue (set.contains points p)) →
@@ -69,7 +70,8 @@ ContentsMakeStates = (base : Database) (log : List Entry) (b n : ℕ) (points : 
 abbrev pub EveryEventHasALegalReply : Type 0
 EveryEventHasALegalReply = (st : Setting) (history : History) (event : Event) → (reply : Reply) × IsLegal st history event reply
 
--- Serial truth: in a legal history, of however many sessions, the reads and the sums of each committed transaction are right.
+-- Serial truth: in a legal history, of however many sessions, the reads and the sums of each committed transaction are
+-- correct.
 abbrev pub CommittedReadsAreRight : Type 0
 CommittedReadsAreRight = (st : Setting) (history : History) → IsLegalHistory st history → HasRightReads st.base history
 
@@ -85,7 +87,7 @@ LocksNeverConflict = (st : Setting) (history : History) (key : List ℕ) → IsL
 abbrev pub LegalHistoriesHaveLegalEffects : Type 0
 LegalHistoriesHaveLegalEffects = (st : Setting) (history : History) → IsLegalHistory st history → HasLegalEffects st history
 
--- The tokens of points stand in the log in order, and none is left out.
+-- The tokens of points are in the log in order, and none is left out.
 abbrev pub TokensStandInOrder : Type 0
 TokensStandInOrder = (st : Setting) (history : History) → HasLegalEffects st history → HasTokensInOrder history
 
@@ -109,7 +111,7 @@ abbrev pub JoinsAreContents : Type 0
 JoinsAreContents = (base : Database) (log : List Entry) (points others : Set number_order) →
     joined (content base log (set.items points)) (content base log (set.items others)) ≡ content base log (set.items (set.union points others))
 
--- Where each Take carried its key's content at the point, each file of the shelf is that of its points.
+-- If each Take carried its key's content at the point, each file of the shelf is that of its points.
 abbrev pub FilesAreOfTheirPoints : Type 0
 FilesAreOfTheirPoints = (st : Setting) (history : History) → HasLegalEffects st history → TakesPointValue st.base history →
     (file : File) → Contains (shelf st.run history) file → IsOfItsPoints st.run st.base (log_of history) file
@@ -119,6 +121,6 @@ abbrev pub FilesJoinWell : Type 0
 FilesJoinWell = (st : Setting) (history : History) → HasLegalEffects st history → TakesPointValue st.base history →
     (a b : File) → IsMade (shelf st.run history) a → IsMade (shelf st.run history) b → JoinsWell st.run st.base (log_of history) a b
 
--- The headline: files made of the shelf by joins are worth the states of their points.
+-- The headline: files made of the shelf by joins represent the states of their points.
 abbrev pub FilesAreStates : Type 0
 FilesAreStates = (st : Setting) (history : History) → HasLegalEffects st history → TakesPointValue st.base history → HasHeadline st history

@@ -1,4 +1,4 @@
--- What a legal effect says of the history before it, and which replies have no effect.
+-- The requirements of a legal effect on the history before it, and the replies without effect.
 use Rattle.std.specs.Prelude.{◌≡◌, ℕ, ◌+◌, ⊤, true, List, [], ◌∷◌, Option, IfSome, Bool, false}
 use Rattle.pc_types.specs.declared.Phase.{Phase}
 use Rattle.pc_types.specs.declared.Phase.TheVariants.{Rest, Prepare, Resolve, Capture, Complete}
@@ -18,7 +18,7 @@ use Rattle.pc_model.specs.Files.{numbers_to}
 abbrev pub some_active : Setting → History → Bool
 some_active st history = list_any (λ s. is_open s history) (numbers_to st.sessions)
 
--- a legal change of the phase: which phase stood before, and the point
+-- a legal change of the phase: the phase before, and the point
 abbrev pub FitsMove : History → Phase → ℕ → Type 0
 FitsMove h Rest n = (phase_of h ≡ Complete) × (n ≡ point_of h)
 FitsMove h Prepare n = (phase_of h ≡ Rest) × (n ≡ point_of h + 1)

@@ -1,7 +1,7 @@
--- Strict two-phase locking with wait-die. Each key has a queue of requests: a get asks for a shared lock, a put, a removal
--- or an add for an exclusive one, and what was granted stands until its transaction commits or aborts. Of two transactions the one with
--- the smaller number is the older. The rules:
--- (1) who asks for no more than its lock allows already is granted that at once;
+-- Strict two-phase locking with wait-die. Each key has a queue of requests: a get asks for a shared lock, a put, a removal or an add
+-- for an exclusive one, and what was granted is held until its transaction commits or aborts. Of two transactions the one with the
+-- smaller number is the older. The rules:
+-- (1) who asks for no more than its lock allows already is granted that immediately;
 -- (2) who has no request in the queue gets one at its end, granted if it conflicts with no other, be that granted or waiting;
 -- (3) if it conflicts, it waits there, as long as all the others are of younger transactions;
 -- (4) if one of them is of an older one, its transaction dies, and nothing of the request stays;
@@ -34,7 +34,7 @@ abbrev pub stronger : Mode → Mode → Mode
 stronger Shared mode = mode
 stronger Exclusive mode = Exclusive
 
--- two requests may stand granted together: they are of one transaction, or both shared
+-- two requests may be granted together: they are of one transaction, or both shared
 abbrev pub are_compatible : Request → Request → Bool
 are_compatible r q = (r.transaction == q.transaction) || (not (is_exclusive r.mode) && not (is_exclusive q.mode))
 
@@ -52,12 +52,12 @@ outcome_of_new queue t mode =
 abbrev pub outcome_of_upgrade : Queue → ℕ → Outcome
 outcome_of_upgrade queue t = if list_any (λ r. r.granted && not (r.transaction == t)) queue then Died else Granted
 
--- rule 1, and else 5, where the transaction has a request; rules 2 to 4 where it has none
+-- rule 1, and otherwise 5, if the transaction has a request; rules 2 to 4 if it has none
 abbrev pub outcome_beside : Queue → ℕ → Mode → Option Request → Outcome
 outcome_beside queue t mode None = outcome_of_new queue t mode
 outcome_beside queue t mode (Some own) = if is_exclusive own.mode || not (is_exclusive mode) then Granted else outcome_of_upgrade queue t
 
--- how a request of the transaction is answered, asked only where none of its requests waits
+-- how a request of the transaction is answered, asked only if none of its requests waits
 abbrev pub outcome : Queue → ℕ → Mode → Outcome
 outcome queue t mode = outcome_beside queue t mode (request_in queue t)
 

@@ -27,7 +27,7 @@ front point [] = []
 front point (Commit session writes ∷ log) = Commit session writes ∷ front point log
 front point (Token phase m ∷ log) = if is_token_of point phase m then [] else Token phase m ∷ front point log
 
--- the log behind the point's token, or nothing where it has none
+-- the log after the point's token, or nothing if it has none
 abbrev pub behind : ℕ → List Entry → List Entry
 behind point [] = []
 behind point (Commit session writes ∷ log) = behind point log

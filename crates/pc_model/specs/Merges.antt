@@ -1,4 +1,4 @@
--- Two lists of entries that rise by key, gone through together.
+-- Two lists of entries that ascend by key, gone through together.
 use denote.Ref.{Bor}
 use Rattle.std.specs.Prelude.{◌≡◌, ⊤, ℕ, List, [], ◌∷◌, Option, Some, None}
 use Rattle.itertools.specs.EitherOrBoth.{map_any}
@@ -7,7 +7,7 @@ use Rattle.itertools.specs.declared.either_or_both.EitherOrBoth.{EitherOrBoth}
 use Rattle.itertools.specs.declared.either_or_both.EitherOrBoth.TheVariants.{Both, Left, Right}
 use Rattle.pc_model.specs.Database.{key_cmp}
 
--- the entries with one more in front, where there is something for its key
+-- the entries with one more in front, if there is something for its key
 abbrev pub with_content : {X : Type 0} → List ℕ → Option X → List (List ℕ × X) → List (List ℕ × X)
 with_content key None entries = entries
 with_content key (Some content) entries = (key, content) ∷ entries
@@ -24,11 +24,11 @@ module _ {A B C : Type 0} (rule : Option A → Option B → Option C) where
   gathered [] = []
   gathered (item ∷ items) = with_item item (gathered items)
 
-  -- two rising lists as one: at each key what the rule makes of what both have there
+  -- two ascending lists as one: at each key what the rule makes of what both have there
   unfoldable pub merged : List (List ℕ × A) → List (List ℕ × B) → List (List ℕ × C)
   merged a b = gathered (merge_join_by (λ x y. key_cmp x.0 y.0) a b)
 
--- an item of references as one of the entries that they stand for
+-- an item of references as one of the entries that they represent
 abbrev pub item_of : {A B X Y : Type 0} → (A → X) → (B → Y) → EitherOrBoth (Bor A) (Bor B) → EitherOrBoth X Y
 item_of first second = map_any (λ a. first a.now) (λ b. second b.now)
 

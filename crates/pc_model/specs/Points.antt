@@ -1,4 +1,4 @@
--- What a point's checkpoint is made of: the touched keys, the part, the join of parts, and laying on a database.
+-- The parts of a point's checkpoint: the touched keys, the part, the join of parts, and laying on a database.
 use Rattle.std.specs.Prelude.{ℕ, ◌-◌, ◌==◌, nat_lt, Bool, List, [], ◌∷◌, ◌++◌, Option, Some, None, if◌then◌else◌}
 use Rattle.std.specs.List.{list_any}
 use Rattle.pc_model.specs.Maps.{Map, get, insert, empty}
@@ -14,7 +14,7 @@ use Rattle.pc_model.specs.History.Effect.{Moves, Takes}
 abbrev pub is_among : List (List ℕ) → List ℕ → Bool
 is_among keys key = list_any (same_bytes key) keys
 
--- the keys with one more at the end, where it isn't among them
+-- the keys with one more at the end, if it isn't among them
 abbrev pub with_key : List (List ℕ) → List ℕ → List (List ℕ)
 with_key keys key = if is_among keys key then keys else keys ++ key ∷ []
 
@@ -23,7 +23,7 @@ abbrev pub with_keys : List (List ℕ) → List Write → List (List ℕ)
 with_keys keys [] = keys
 with_keys keys (w ∷ ws) = with_keys (with_key keys w.key) ws
 
--- the keys, and behind them each other one that the log's commits wrote, once, as they were first written
+-- the keys, and after them each other one that the log's commits wrote, once, as they were first written
 abbrev pub with_written : List (List ℕ) → List Entry → List (List ℕ)
 with_written keys [] = keys
 with_written keys (Commit session writes ∷ log) = with_written (with_keys keys writes) log
@@ -37,7 +37,7 @@ cycle point log = if point == 1 then front 1 log else front point (behind (point
 abbrev pub touched : ℕ → List Entry → List (List ℕ)
 touched point log = with_written [] (cycle point log)
 
--- the rest of a triple, beside its key: the point, and what the key had there, a value or a tombstone
+-- the rest of a triple, besides its key: the point, and what the key had there, a value or a tombstone
 pub record AtPoint : Type 0 where
   pub point : ℕ
   pub content : Option (List ℕ)
@@ -60,7 +60,7 @@ abbrev pub newer : Option AtPoint → AtPoint → AtPoint
 newer None b = b
 newer (Some a) b = if nat_lt a.point b.point then b else a
 
--- the same where the second may be missing
+-- the same if the second may be missing
 abbrev pub later : Option AtPoint → Option AtPoint → Option AtPoint
 later a None = a
 later a (Some b) = Some (newer a b)
@@ -79,17 +79,17 @@ abbrev pub content : Database → List Entry → List ℕ → Triples
 content base log [] = empty
 content base log (point ∷ points) = joined (part_of base log point) (content base log points)
 
--- what a key has once a triple is laid on a database at a point: the triple's content where its point is above, else what was there
+-- what a key has once a triple is applied to a database at a point: the triple's content if its point is above, else what was there
 abbrev pub laid_at : Option (List ℕ) → ℕ → Option AtPoint → Option (List ℕ)
 laid_at there point None = there
 laid_at there point (Some t) = if nat_lt point t.point then t.content else there
 
--- the database with these entries laid on it
+-- the database with these entries applied to it
 abbrev pub laid_entries : Database → ℕ → List (List ℕ × AtPoint) → Database
 laid_entries db point [] = db
 laid_entries db point (e ∷ es) = put (laid_entries db point es) e.0 (laid_at (get db e.0) point (Some e.1))
 
--- triples laid on a database that stands at a point: a key with a triple of a later point is set or removed, others stay
+-- triples applied to a database that is at a point: a key with a triple of a later point is set or removed, others stay
 abbrev pub laid : Database → ℕ → Triples → Database
 laid db point m = laid_entries db point m.entries
 

@@ -1,4 +1,4 @@
--- What a queue of lock requests keeps, and who holds a lock.
+-- The invariant of a queue of lock requests, and the holders of a lock.
 use Rattle.std.specs.Prelude.{IsTrue, AllPairs, ◌≡◌, ℕ, ◌==◌, ◌&&◌, ◌||◌, not, ⊤, Bool, true, false, MatchBool, [], ◌∷◌, ◌++◌, Option, Some, None}
 use Rattle.std.specs.List.{list_any, list_all}
 use Rattle.pc_types.specs.declared.Mode.{Mode}
@@ -10,7 +10,7 @@ abbrev pub AllWait : Queue → Type 0
 AllWait [] = ⊤
 AllWait (r ∷ rs) = (r.granted ≡ false) × AllWait rs
 
--- behind these requests: first granted ones, each of which fits all before it, and then waiting ones, of which the first
+-- after these requests: first granted ones, each of which fits all before it, and then waiting ones, of which the first
 -- doesn't fit
 abbrev pub IsSettledBehind : Queue → Queue → Type 0
 IsSettledBehind before [] = ⊤
@@ -38,7 +38,7 @@ is_granted_as mode (Some r) = r.granted && (is_exclusive r.mode || not (is_exclu
 abbrev pub holds : Queue → ℕ → Mode → Bool
 holds queue t mode = is_granted_as mode (request_in queue t)
 
--- behind these requests: first granted ones, each of which fits all before it, and then only waiting ones
+-- after these requests: first granted ones, each of which fits all before it, and then only waiting ones
 abbrev pub IsSoundBehind : Queue → Queue → Type 0
 IsSoundBehind before [] = ⊤
 IsSoundBehind before (r ∷ rs) = MatchBool r.granted ((list_all (are_compatible r) before ≡ true) × IsSoundBehind (before ++ r ∷ []) rs) (AllWait rs)
@@ -47,7 +47,7 @@ IsSoundBehind before (r ∷ rs) = MatchBool r.granted ((list_all (are_compatible
 abbrev pub grant : Request → Request
 grant r = record r { granted = true }
 
--- two requests conflict: they may not stand granted together
+-- two requests conflict: they may not be granted together
 abbrev pub Conflicts : Request → Request → Type 0
 Conflicts r q = ¬ IsTrue (are_compatible r q)
 

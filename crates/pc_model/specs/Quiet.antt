@@ -1,4 +1,4 @@
--- Quiet histories: no transaction is open beside a checkpoint.
+-- Quiet histories: no transaction is open during a checkpoint.
 use Rattle.std.specs.Prelude.{◌&&◌, ◌||◌, not, Bool, true, [], ◌∷◌, IsTrue}
 use Rattle.pc_types.specs.declared.Phase.TheVariants as phase
 use Rattle.pc_model.specs.History.{History}

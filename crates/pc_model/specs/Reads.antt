@@ -1,4 +1,4 @@
--- Right reads, and right sums.
+-- Correct reads, and correct sums.
 use Rattle.std.specs.Prelude.{◌≡◌, ℕ, ◌==◌, [], ◌∷◌, ⊤, MatchBool, Some}
 use Rattle.pc_types.specs.Changes.{added}
 use Rattle.pc_model.specs.Maps.{get}
@@ -19,12 +19,12 @@ abbrev pub HasReadFrom : Database → ℕ → History → Type 0
 HasReadFrom db s [] = ⊤
 HasReadFrom db s (step ∷ history) = ReadBy s db (effect step) history (HasReadFrom db s history)
 
--- where this effect is a commit, its transaction has read from and added to the database right before it
+-- if this effect is a commit, its transaction has read from and added to the database right before it
 abbrev pub RightBy : Database → Effect → History → Type 0
 RightBy base (Commits s) history = HasReadFrom (contents base history) s history
 RightBy base other history = ⊤
 
--- the reads and the sums of each committed transaction are right
+-- the reads and the sums of each committed transaction are correct
 abbrev pub HasRightReads : Database → History → Type 0
 HasRightReads base [] = ⊤
 HasRightReads base (step ∷ history) = RightBy base (effect step) history × HasRightReads base history

@@ -1,4 +1,4 @@
--- What a session keeps of its own calls: whether its transaction is open, what that has written and read, and a receipt for
+-- A session's notes of its own calls: whether its transaction is open, what that has written and read, and a receipt for
 -- each commit. All of it is read off the history; and when receipts are exact by a log.
 use Rattle.std.specs.Prelude.{◌≡◌, ℕ, ◌+◌, ◌<◌, ◌==◌, ◌||◌, Bool, false, List, [], ◌∷◌, ◌++◌, length, Option, is_some, if◌then◌else◌, All}
 use Rattle.std.specs.List.{list_any, AllPairs}
@@ -25,7 +25,7 @@ Read = List ℕ × Option (List ℕ)
 abbrev pub is_read : List Read → List ℕ → Bool
 is_read reads key = list_any (λ r. same_bytes r.0 key) reads
 
--- the reads with one more, where the transaction has neither written nor read the key before
+-- the reads with one more, if the transaction has neither written nor read the key before
 abbrev pub with_read : List Write → List Read → List ℕ → Option (List ℕ) → List Read
 with_read writes reads key answer = if is_some (written writes key) || is_read reads key then reads else reads ++ (key, answer) ∷ []
 
@@ -73,7 +73,7 @@ own_of s (step ∷ history) = own_by s step (own_of s history)
 abbrev pub AreRight : Database → List Read → Type 0
 AreRight db reads = All (λ r. r.1 ≡ get db r.0) reads
 
--- The receipt is that of the session's commit right behind these entries of the log: its number is the entry's, and its reads
+-- The receipt is that of the session's commit right after these entries of the log: its number is the entry's, and its reads
 -- answered what their keys have in the database before it.
 pub record IsReceiptAt (base : Database) (s : ℕ) (front : List Entry) (r : Receipt) : Type 0 where
   pub number : r.number ≡ length front + 1
@@ -84,7 +84,7 @@ pub record IsReceiptAt (base : Database) (s : ℕ) (front : List Entry) (r : Rec
 abbrev pub IsReceipt : Database → List Entry → ℕ → Receipt → Type 0
 IsReceipt base log s r = (front behind : List Entry) × (log ≡ front ++ logged.Commit s r.writes ∷ behind) × IsReceiptAt base s front r
 
--- the first receipt's entry stands before the second one's
+-- the first receipt's entry is before the second one's
 abbrev pub IsEarlier : Receipt → Receipt → Type 0
 IsEarlier a b = a.number < b.number
 
@@ -92,8 +92,8 @@ IsEarlier a b = a.number < b.number
 abbrev pub HasNumber : List Receipt → ℕ → Type 0
 HasNumber rs number = (earlier : List Receipt) × (r : Receipt) × (later : List Receipt) × (rs ≡ earlier ++ r ∷ later) × (r.number ≡ number)
 
--- Exact receipts: each is that of a commit of the session in the log, their numbers rise, and each commit of the session has
--- one.
+-- Exact receipts: each is that of a commit of the session in the log, their numbers ascend, and each commit of the session
+-- has one.
 pub record AreExact (base : Database) (log : List Entry) (s : ℕ) (rs : List Receipt) : Type 0 where
   pub each : All (IsReceipt base log s) rs
   pub rise : AllPairs IsEarlier rs

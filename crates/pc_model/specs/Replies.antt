@@ -1,4 +1,4 @@
--- Which reply to an event is legal after a history: first the refusals in their order, then the answer.
+-- The legal replies to an event after a history: first the refusals in their order, then the answer.
 use Rattle.std.specs.Prelude.{◌≡◌, ℕ, ◌+◌, ◌==◌, ◌&&◌, ◌||◌, not, nat_lt, Bool, true, false, List, [], ◌∷◌, ◌++◌, Option, Some, None, if◌then◌else◌, map, filter, length, MatchOption, ◌⊎◌, ⊤, is_some, is_none, ℤ}
 use Rattle.pc_types.specs.Changes.{added, can_add}
 use Rattle.pc_types.specs.Changes as change
@@ -27,7 +27,7 @@ use Rattle.pc_types.specs.declared.limits.TheConstants.{MOST_FILES, MOST_FILE_EN
 use Rattle.pc_model.specs.Points.{is_among, with_key, with_keys, touched, taken}
 use Rattle.pc_model.specs.Files.{File, shelf, file_at, joined_file, join_of, conflict, numbers_to}
 
--- what a run starts from; the base stands at point 0
+-- the start of a run; the base is at point 0
 pub record Setting : Type 0 where
   pub run : ℕ
   pub base : Database
@@ -46,7 +46,7 @@ active_in st class history = length (filter (λ s. is_open s history && same_cla
 abbrev pub without : List (List ℕ) → List (List ℕ) → List (List ℕ)
 without keys gone = filter (λ key. not (is_among gone key)) keys
 
--- the closed set: the keys touched in the point's cycle less those taken since its token, and none where its token isn't in the log
+-- the closed set: the keys touched in the point's cycle less those taken since its token, and none if its token isn't in the log
 abbrev pub closed_set : History → List (List ℕ)
 closed_set history =
     let point = point_of history in
@@ -81,7 +81,7 @@ abbrev pub is_empty : {X : Type 0} → List X → Bool
 is_empty [] = true
 is_empty (x ∷ xs) = false
 
--- the keys on which a request stands, granted or waiting
+-- the keys that have a request, granted or waiting
 abbrev pub requested : History → List (List ℕ)
 requested history = filter (λ key. not (is_empty (queue_of key history))) (asked_for history)
 
@@ -93,7 +93,7 @@ occupied st history = set.from_list (map_of.keys (contents st.base history) ++ r
 abbrev pub is_full : Setting → List ℕ → History → Bool
 is_full st key history = not (set.contains (occupied st history) key) && (set.len (occupied st history) == st.capacity)
 
--- the first refusal whose cause stands
+-- the first refusal whose cause applies
 abbrev pub first_refusal : List (Bool × Refusal) → Option Reply
 first_refusal [] = None
 first_refusal (c ∷ causes) = if c.0 then Some (told.Refused c.1) else first_refusal causes
@@ -146,12 +146,12 @@ no_number st s key history = is_none (change.number_of (seen_by st s key history
 abbrev pub out_of_range : Setting → ℕ → List ℕ → ℤ → History → Bool
 out_of_range st s key delta history = is_none (added delta (seen_by st s key history)) || not (can_add (written (writes_of s history) key) delta)
 
--- those that Add has behind them, only where its lock would be granted
+-- those that Add has after them, only if its lock would be granted
 abbrev pub add_causes : Setting → ℕ → List ℕ → ℤ → History → List (Bool × Refusal)
 add_causes st s key delta history =
     (may_write s key history && no_number st s key history, why.NotNumber) ∷ (may_write s key history && out_of_range st s key delta history, why.OutOfRange) ∷ []
 
--- NotYet, where some are left
+-- NotYet, if some are left
 abbrev pub not_yet : ℕ → Option Reply
 not_yet count = if count == 0 then None else Some (told.NotYet count)
 
@@ -175,7 +175,8 @@ abbrev pub join_refusal : List File → Option File → Option File → Option R
 join_refusal shelf a b =
     first_refusal ((is_none a || is_none b, why.NoFile) ∷ (length shelf == MOST_FILES, why.ShelfFull) ∷ join_causes a b)
 
--- The reply that is certain whatever memory there is: the first refusal whose cause stands, or NotYet, NoneLeft or Aborted.
+-- The reply that is certain whether or not allocations succeed: the first refusal whose cause applies, or NotYet, NoneLeft or
+-- Aborted.
 abbrev pub certain : Setting → History → Event → Option Reply
 certain st history (asked.Begin s) =
     first_refusal ((no_session st s, why.NoSession) ∷ (is_open s history, why.AlreadyBegun) ∷ (begun history == MOST_TRANSACTIONS, why.LogFull) ∷ [])
@@ -202,12 +203,12 @@ abbrev pub read_reply : Option (List ℕ) → Reply
 read_reply None = told.Absent
 read_reply (Some value) = told.Found value
 
--- the reply to an add that gives this; where there is no sum it is refused
+-- the reply to an add that gives this; if there is no sum it is refused
 abbrev pub sum_reply : Option ℤ → Reply
 sum_reply None = told.Refused why.OutOfRange
 sum_reply (Some sum) = told.Sum sum
 
--- the reply by the outcome of the request: this one where it is granted
+-- the reply by the outcome of the request: this one if it is granted
 abbrev pub by_outcome : Outcome → Reply → Reply
 by_outcome Granted reply = reply
 by_outcome Queued reply = told.Wait
@@ -223,7 +224,7 @@ abbrev pub IsFileReply : List File → ℕ → Reply → Type 0
 IsFileReply [] number reply = ⊥
 IsFileReply (f ∷ fs) number reply = reply ≡ told.File number (set.items f.points) (map_of.len f.triples)
 
--- The reply where none is certain and memory suffices. What a Take carries is left open.
+-- The reply if none is certain and no allocation fails. What a Take carries is left open.
 abbrev pub Answers : Setting → History → Event → Reply → Type 0
 Answers st history (asked.Begin s) reply = reply ≡ told.Begun (begun history + 1)
 Answers st history (asked.Get s key) reply =
@@ -243,7 +244,7 @@ Answers st history asked.Rest reply = reply ≡ told.Phase phase.Rest (point_of 
 Answers st history (asked.Join a b) reply =
     IsFileReply (join_of (file_at (shelf st.run history) a) (file_at (shelf st.run history) b)) (length (shelf st.run history) + 1) reply
 
--- The reply is legal: the certain one, or else the answer, or that memory ran out.
+-- The reply is legal: the certain one, or else the answer, or that an allocation failed.
 abbrev pub IsLegal : Setting → History → Event → Reply → Type 0
 IsLegal st history event reply =
     MatchOption (certain st history event) (Answers st history event reply ⊎ (reply ≡ told.Refused why.OutOfMemory)) (λ due. reply ≡ due)

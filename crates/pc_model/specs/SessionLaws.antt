@@ -1,4 +1,4 @@
--- Laws of sessions' calls and receipts, and of beginnings of histories.
+-- Laws of sessions' calls and receipts, and of prefixes of histories.
 use Rattle.std.specs.Prelude.{◌≡◌, ℕ, List, [], ◌∷◌, ◌++◌, Some, ⊤}
 use Rattle.pc_types.specs.declared.Entry.{Entry}
 use Rattle.pc_types.specs.declared.Event.{Event}
@@ -24,19 +24,19 @@ abbrev pub HasNoJoins : History → Type 0
 HasNoJoins [] = ⊤
 HasNoJoins (step ∷ history) = IsNoJoin step.event × HasNoJoins history
 
--- A beginning of a legal history is legal.
+-- A prefix of a legal history is legal.
 abbrev pub BeginningsAreLegal : Type 0
 BeginningsAreLegal = (st : Setting) (early late : History) → IsLegalHistory st late → IsBeginning early late → IsLegalHistory st early
 
--- What a session has written is told by its own calls.
+-- A session's own calls determine what it has written.
 abbrev pub WritesAreOwnCalls : Type 0
 WritesAreOwnCalls = (s : ℕ) (history : History) → writes_of s (calls_of s history) ≡ writes_of s history
 
--- What a session keeps is told by its own calls.
+-- A session's own calls determine what it keeps.
 abbrev pub OwnIsOfOwnCalls : Type 0
 OwnIsOfOwnCalls = (s : ℕ) (history : History) → own_of s (calls_of s history) ≡ own_of s history
 
--- What a session keeps after a call is what the call makes of what it kept before.
+-- A session's notes after a call are those that the call makes of its notes before.
 abbrev pub CallsMakeOwn : Type 0
 CallsMakeOwn = (st : Setting) (before : History) (step : Step) (after : History) → Extends st before step after → own_of (session_of step.event) after ≡ own_by (session_of step.event) step (own_of (session_of step.event) before)
 
@@ -48,11 +48,11 @@ ReceiptsAreExact = (st : Setting) (s : ℕ) (history : History) → IsLegalHisto
 abbrev pub LegalRepliesFit : Type 0
 LegalRepliesFit = (st : Setting) (history : History) (event : Event) (reply : Reply) → IsLegal st history event reply → IsReplyTo event reply
 
--- The log of a beginning is a beginning of the log.
+-- The log of a prefix is a prefix of the log.
 abbrev pub LogsGrow : Type 0
 LogsGrow = (early late : History) → IsBeginning early late → (more : List Entry) × (log_of late ≡ log_of early ++ more)
 
--- What is the file of its points by a beginning of a legal history is so by all of it.
+-- A file that is that of its points by a prefix of a legal history is so by all of it.
 abbrev pub FilesStay : Type 0
 FilesStay = (st : Setting) (early late : History) (file : File) → IsLegalHistory st late → IsBeginning early late →
     IsOfItsPoints st.run st.base (log_of early) file → IsOfItsPoints st.run st.base (log_of late) file

@@ -1,4 +1,4 @@
--- What two-phase locking keeps of the sessions.
+-- The invariants of two-phase locking for the sessions.
 use Rattle.std.specs.Prelude.{◌≡◌, ℕ, ◌==◌, ◌≤◌, Bool, true, false, List, [], ◌∷◌, Option, Some, is_some, if◌then◌else◌}
 use Rattle.pc_types.specs.declared.Mode.TheVariants.{Shared, Exclusive}
 use Rattle.pc_types.specs.declared.Write.{Write}

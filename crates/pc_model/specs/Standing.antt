@@ -1,4 +1,4 @@
--- What laws say of a history: its effects, its tokens and its files.
+-- The premises of laws about a history: its effects, its tokens and its files.
 use Rattle.std.specs.Prelude.{◌≡◌, ℕ, ◌+◌, ◌-◌, nat_lt, nat_le, Bool, true, false, ◌&&◌, ◌⊎◌, List, [], ◌∷◌, ⊤, IsTrue, IsFalse}
 use Rattle.pc_types.specs.declared.Phase.{Phase}
 use Rattle.pc_types.specs.declared.Phase.TheVariants.{Prepare, Resolve, Capture, Complete}
@@ -13,7 +13,7 @@ use Rattle.pc_model.specs.Points.{content}
 use Rattle.pc_model.specs.Files.{File, joined_file, conflict}
 use Rattle.pc_model.specs.Replies.{Setting, IsLegal}
 
--- the point is 0, or its token stands before that of the next point in the log
+-- the point is 0, or its token is before that of the next point in the log
 abbrev pub PrecedesNext : ℕ → List Entry → Type 0
 PrecedesNext point log = (point ≡ 0) ⊎ IsTrue (has_token point (front (point + 1) log))
 

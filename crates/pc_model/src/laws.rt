@@ -11,7 +11,7 @@ pub fn changes_merge()
     ensures { ChangesMerge }
 {}
 
-/// The final writes of a transaction do what its writes did one after the other, where each applied.
+/// The final writes of a transaction do what its writes did in order, if each applied.
 pub fn final_writes_agree()
     ensures { FinalWritesAgree }
 {}
@@ -36,12 +36,12 @@ pub fn untouched_keys_stay()
     ensures { UntouchedKeysStay }
 {}
 
-/// The state of a point is the state of the point before with its part laid on it.
+/// The state of a point is the state of the point before with its part applied to it.
 pub fn parts_make_states()
     ensures { PartsMakeStates }
 {}
 
-/// The state of a point is that of an earlier one with the content of points laid on it, where all points between are
+/// The state of a point is that of an earlier one with the content of points applied to it, if all points between are
 /// among them and none is later.
 pub fn contents_make_states()
     ensures { ContentsMakeStates }
@@ -52,7 +52,7 @@ pub fn every_event_has_a_legal_reply()
     ensures { EveryEventHasALegalReply }
 {}
 
-/// Serial truth: in a legal history, of however many sessions, the reads of each committed transaction are right.
+/// Serial truth: in a legal history, of however many sessions, the reads of each committed transaction are correct.
 pub fn committed_reads_are_right()
     ensures { CommittedReadsAreRight }
 {}
@@ -72,7 +72,7 @@ pub fn legal_histories_have_legal_effects()
     ensures { LegalHistoriesHaveLegalEffects }
 {}
 
-/// The tokens of points stand in the log in order, and none is left out.
+/// The tokens of points are in the log in order, and none is left out.
 pub fn tokens_stand_in_order()
     ensures { TokensStandInOrder }
 {}
@@ -97,7 +97,7 @@ pub fn joins_are_contents()
     ensures { JoinsAreContents }
 {}
 
-/// Where each Take carried its key's content at the point, each file of the shelf is that of its points.
+/// If each Take carried its key's content at the point, each file of the shelf is that of its points.
 pub fn files_are_of_their_points()
     ensures { FilesAreOfTheirPoints }
 {}
@@ -108,7 +108,7 @@ pub fn files_join_well()
 {}
 
 /// The headline: files of the same points are one, in whatever order they were joined, and the base with one of the
-/// points 1 to n laid on it is the state of n.
+/// points 1 to n applied to it is the state of n.
 pub fn files_are_states()
     ensures { FilesAreStates }
 {}

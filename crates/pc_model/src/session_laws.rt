@@ -1,12 +1,12 @@
-//! Laws of sessions' calls and receipts, and of beginnings of histories. Each function does nothing, and its contract is a law.
+//! Laws of sessions' calls and receipts, and of prefixes of histories. Each function does nothing, and its contract is a law.
 ghost use Rattle.pc_model.specs.SessionLaws.{BeginningsAreLegal, WritesAreOwnCalls, OwnIsOfOwnCalls, CallsMakeOwn, ReceiptsAreExact, LegalRepliesFit, LogsGrow, FilesStay, FilesAreNumbered};
 
-/// A beginning of a legal history is legal.
+/// A prefix of a legal history is legal.
 pub fn beginnings_are_legal()
     ensures { BeginningsAreLegal }
 {}
 
-/// What a session has written is told by its own calls.
+/// A session's own calls determine what it has written.
 pub fn writes_are_own_calls()
     ensures { WritesAreOwnCalls }
 {}
@@ -16,7 +16,7 @@ pub fn own_is_of_own_calls()
     ensures { OwnIsOfOwnCalls }
 {}
 
-/// What a session keeps after a call is what the call makes of what it kept before, whatever others asked between.
+/// A session's notes after a call are those that the call makes of its notes before, whatever others asked between.
 pub fn calls_make_own()
     ensures { CallsMakeOwn }
 {}
@@ -31,12 +31,12 @@ pub fn legal_replies_fit()
     ensures { LegalRepliesFit }
 {}
 
-/// The log of a beginning of a history is a beginning of its log.
+/// The log of a prefix of a history is a prefix of its log.
 pub fn logs_grow()
     ensures { LogsGrow }
 {}
 
-/// What is the file of its points by a beginning of a legal history is so by all of it.
+/// A file that is that of its points by a prefix of a legal history is so by all of it.
 pub fn files_stay()
     ensures { FilesStay }
 {}

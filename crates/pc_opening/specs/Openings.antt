@@ -1,11 +1,11 @@
--- What stands in the folders once a store is opened, or where that is cut off.
+-- The contents of the folders once a store is opened, or if that is interrupted.
 use Rattle.std.specs.Prelude.{◌⊎◌, ◌≢◌, ◌≤◌, ◌+◌, ℕ, List, Option}
 use Rattle.pc_model.specs.Files.{BaseFile}
 use Rattle.pc_log.specs.Texts.{header_text}
 use Rattle.pc_part.specs.Texts.{base_text}
 use Rattle.pc_generations.specs.Folders.{Counts, IsUnbegun, StaysAt, next_of}
 
--- the generation behind the one that counted counts, with the text of this base and a log of its run without entries
+-- the generation after the one that counted counts, with the text of this base and a log of its run without entries
 abbrev pub CountsWith : (ℕ → List ℕ → Option (List ℕ) → Type 0) → Option ℕ → BaseFile → Type 0
 CountsWith stands latest base = Counts stands (next_of latest) (base_text base) (header_text base.run)
 

@@ -1,4 +1,4 @@
-//! A store is opened over the base that it starts from, and the generation begins in which its log will stand.
+//! A store is opened over the base that it starts from, and the generation begins that will have its log.
 ghost use Rattle.std.specs.Prelude.{◌≡◌, ◌⊎◌, ◌≤◌, ◌<◌, ◌+◌, [], Err, IfOk, IfErr, IfSome, OnOk, OnErr};
 ghost use Rattle.pc_types.specs.declared.limits.TheConstants.{MOST_KEYS, MOST_SESSIONS};
 ghost use Rattle.pc_types.specs.declared.refusal.Refusal.{Refusal};
@@ -30,7 +30,7 @@ pub struct StoreSize {
     ghost in_range: { (1 ≤ capacity) × (capacity ≤ MOST_KEYS) },
 }
 
-/// Where the next generation begins among those that are there.
+/// The folders among which the next generation begins.
 #[derive(Clone, Copy, Debug)]
 pub struct Succession {
     /// The generation that counts, if one does.
@@ -50,12 +50,12 @@ pub struct OpenedStore {
     pub removal: Result<(), Refusal>,
 }
 
-/// Opens a store that starts from this base, and begins the generation behind the one that counts, if one does, as
-/// `begin_generation` does, with the text of the base and a log of its run without entries. Nothing was asked of the store. Once the
-/// generation counts, and never before, older ones are removed as far as that succeeds, but for as many before it as are to be kept.
+/// Opens a store that starts from this base, and begins the generation after the one that counts, if one does, as `begin_generation`
+/// does, with the text of the base and a log of its run without entries. Nothing was asked of the store. Once the generation counts,
+/// and never before, older ones are removed as far as that succeeds, but for as many before it as are to be kept.
 ///
-/// Where it refuses, and so wherever a process is killed in it, either the new generation counts, with both texts, or the one that
-/// counted still does, and of it and of all before it nothing is gone. Refuses with `Full` where the base has more pairs than there is
+/// If it refuses, or the process is killed at any moment in it, either the new generation counts, with both texts, or the one that
+/// counted still does, and of it and of all before it nothing is gone. Refuses with `Full` if the base has more pairs than there is
 /// room for, and then changes nothing; with `OutOfMemory`; and as `begin_generation` refuses.
 pub fn open_store<G: Generations>(
     alloc: Global,
@@ -94,9 +94,9 @@ pub fn open_store<G: Generations>(
     }
 }
 
-/// The base of the run behind that of this store: the number of its run is one higher, and it has the pairs that are committed, which
+/// The base of the run after that of this store: the number of its run is one higher, and it has the pairs that are committed, which
 /// are those of the log replayed on the base from which the store started. Refuses with `Full` if and only if the run has the number
-/// 2^64 - 1 or a base can't have the pairs, and else only with `OutOfMemory`.
+/// 2^64 - 1 or a base can't have the pairs; otherwise the only error is `OutOfMemory`.
 pub fn next_base(world: &World) -> Result<Base, Refusal>
     ensures start { IfOk result (λ base. (base.point ≡ 0) × (base.run ≡ world.now.base.run + 1)) }
     ensures pairs { (history : History) → Stands world.now history → IfOk result (λ base. base.pairs ≡ after world.now.base.pairs world.now.log) }
@@ -119,7 +119,7 @@ struct Begun {
     removal: Result<(), Refusal>,
 }
 
-// Begins the generation behind the one that counts, and then removes those that aren't kept.
+// Begins the generation after the one that counts, and then removes those that aren't kept.
 fn begin_with<G: Generations>(
     alloc: Global,
     folders: &mut G,
@@ -141,7 +141,7 @@ fn begin_with<G: Generations>(
     }
 }
 
-// Begins the generation behind the one that counts with the text of the base and a log of its run without entries.
+// Begins the generation after the one that counts with the text of the base and a log of its run without entries.
 fn begin_texts<G: Generations>(
     alloc: Global,
     folders: &mut G,
@@ -179,7 +179,7 @@ fn texts_of(alloc: Global, base: &Base) -> Result<BeginningTexts, Refusal>
     }
 }
 
-// The text of the base; none where memory ran out.
+// The text of the base; `None` if an allocation failed.
 fn base_bytes(alloc: Global, base: &Base) -> Option<Vec<u8>>
     ensures { IfSome result (λ bytes. bytes.items ≡ base_text base.now) }
 {
@@ -190,7 +190,7 @@ fn base_bytes(alloc: Global, base: &Base) -> Option<Vec<u8>>
     }
 }
 
-// What stands before the entries in a log of the run; none where memory ran out.
+// The header of a log of the run; `None` if an allocation failed.
 fn header_bytes(alloc: Global, run: u64) -> Option<Vec<u8>>
     ensures { IfSome result (λ bytes. bytes.items ≡ header_text run) }
 {

@@ -1,4 +1,4 @@
-//! The words of a command line, and what they ask for.
+//! The words of a command line, and the tasks that they ask for.
 #![tactic(auto)]
 
 mod looking;

@@ -4,7 +4,7 @@ use crate::said::{Said, command_of};
 use clap::{ArgMatches, Command, Error};
 use std::alloc::{AllocError, Global};
 
-/// What `pcalc log` is asked to do.
+/// The options of `pcalc log`.
 #[derive(Drop)]
 pub struct LogOptions<'a> {
     /// The file of the log.
@@ -13,11 +13,11 @@ pub struct LogOptions<'a> {
     pub low: u32,
     /// The number of the last one, 1 to 16,777,216.
     pub high: u32,
-    /// Whether faults are explained also where standard error is no terminal.
+    /// Whether faults are explained even if standard error is no terminal.
     pub is_explained: bool,
 }
 
-/// What is said of `pcalc log` in a command line.
+/// The arguments and options of `pcalc log` in a command line.
 pub(crate) fn log_command<'a>(alloc: Global) -> Result<Command<'a>, Error> {
     let low = "The number of the first entry that is printed, 1 to 16777216";
     let high = "The number of the last entry that is printed, 1 to 16777216";
@@ -30,7 +30,7 @@ pub(crate) fn log_command<'a>(alloc: Global) -> Result<Command<'a>, Error> {
     command_of(alloc, "log", "Prints the entries of a log", &said)
 }
 
-/// What the words of `pcalc log` ask for.
+/// The options in the words of `pcalc log`.
 pub(crate) fn log_options_of<'a>(matches: &ArgMatches<'a>) -> Option<LogOptions<'a>> {
     Some(LogOptions {
         file: matches.get_str("FILE")?,
@@ -40,16 +40,16 @@ pub(crate) fn log_options_of<'a>(matches: &ArgMatches<'a>) -> Option<LogOptions<
     })
 }
 
-/// What `pcalc verify` is asked to do.
+/// The options of `pcalc verify`.
 #[derive(Drop)]
 pub struct VerifyOptions<'a> {
     /// The files and folders, in the order in which they are read.
     pub paths: Vec<&'a str>,
-    /// Whether faults are explained also where standard error is no terminal.
+    /// Whether faults are explained even if standard error is no terminal.
     pub is_explained: bool,
 }
 
-/// What is said of `pcalc verify` in a command line.
+/// The arguments and options of `pcalc verify` in a command line.
 pub(crate) fn verify_command<'a>(alloc: Global) -> Result<Command<'a>, Error> {
     let said = [
         Said::words(
@@ -66,7 +66,7 @@ pub(crate) fn verify_command<'a>(alloc: Global) -> Result<Command<'a>, Error> {
     )
 }
 
-/// What the words of `pcalc verify` ask for.
+/// The options in the words of `pcalc verify`.
 pub(crate) fn verify_options_of<'a>(
     alloc: Global,
     matches: &ArgMatches<'a>,

@@ -4,7 +4,7 @@ use crate::said::{Said, command_of};
 use clap::{ArgMatches, Command, Error};
 use std::alloc::Global;
 
-/// What `pcalc dump` is asked to do.
+/// The options of `pcalc dump`.
 #[derive(Drop)]
 pub struct DumpOptions<'a> {
     /// The folder.
@@ -19,11 +19,11 @@ pub struct DumpOptions<'a> {
     pub point: Option<u16>,
     /// Whether the folder may be damaged.
     pub accepts_damage: bool,
-    /// Whether faults are explained also where standard error is no terminal.
+    /// Whether faults are explained even if standard error is no terminal.
     pub is_explained: bool,
 }
 
-/// What is said of `pcalc dump` in a command line.
+/// The arguments and options of `pcalc dump` in a command line.
 pub(crate) fn dump_command<'a>(alloc: Global) -> Result<Command<'a>, Error> {
     let space = "Prints the pairs of this key space alone, 0 to 65535";
     let prefix =
@@ -47,7 +47,7 @@ fn json_option() -> Said {
     Said::flag("json", "The lines are objects of JSON")
 }
 
-/// What the words of `pcalc dump` ask for.
+/// The options in the words of `pcalc dump`.
 pub(crate) fn dump_options_of<'a>(matches: &ArgMatches<'a>) -> Option<DumpOptions<'a>> {
     Some(DumpOptions {
         dir: matches.get_str("DIR")?,
@@ -60,7 +60,7 @@ pub(crate) fn dump_options_of<'a>(matches: &ArgMatches<'a>) -> Option<DumpOption
     })
 }
 
-/// What `pcalc load` is asked to do.
+/// The options of `pcalc load`.
 #[derive(Drop)]
 pub struct LoadOptions<'a> {
     /// The folder that gets the pairs.
@@ -71,11 +71,11 @@ pub struct LoadOptions<'a> {
     pub run: u32,
     /// Whether the lines are JSON.
     pub is_json: bool,
-    /// Whether faults are explained also where standard error is no terminal.
+    /// Whether faults are explained even if standard error is no terminal.
     pub is_explained: bool,
 }
 
-/// What is said of `pcalc load` in a command line.
+/// The arguments and options of `pcalc load` in a command line.
 pub(crate) fn load_command<'a>(alloc: Global) -> Result<Command<'a>, Error> {
     let about = "Makes the files of a run that has the pairs of these lines, as dump prints them";
     let said = [
@@ -88,7 +88,7 @@ pub(crate) fn load_command<'a>(alloc: Global) -> Result<Command<'a>, Error> {
     command_of(alloc, "load", about, &said)
 }
 
-/// What the words of `pcalc load` ask for.
+/// The options in the words of `pcalc load`.
 pub(crate) fn load_options_of<'a>(matches: &ArgMatches<'a>) -> Option<LoadOptions<'a>> {
     Some(LoadOptions {
         dir: matches.get_str("DIR")?,

@@ -18,120 +18,120 @@ use pc_jobs::MOST_WORKERS;
 use pc_types::{MOST_KEYS, MOST_SESSIONS};
 use std::alloc::{AllocError, Global};
 
-/// What `pcalc --version` prints behind the program's name.
+/// The text that `pcalc --version` prints after the program's name.
 const VERSION: &str = "1.0.0, formats 01 and 02";
 
-/// What `pcalc step` is asked to do.
+/// The options of `pcalc step`.
 #[derive(Drop)]
 pub struct StepOptions<'a> {
     /// The file of the script.
     pub script: &'a str,
     /// The run's number, 1 to 2,147,483,647.
     pub run: u32,
-    /// How many sessions the store has, 1 to 64.
+    /// The number of the store's sessions, 1 to 64.
     pub sessions: u8,
-    /// How many keys it has room for, 1 to 1,048,576.
+    /// The number of keys that the store has room for, 1 to 1,048,576.
     pub capacity: u32,
-    /// Whether faults are explained also where standard error is no terminal.
+    /// Whether faults are explained even if standard error is no terminal.
     pub is_explained: bool,
     ghost has_sessions: { (1 ≤ sessions) × (sessions ≤ MOST_SESSIONS) },
     ghost has_room: { (1 ≤ capacity) × (capacity ≤ MOST_KEYS) },
 }
 
-/// What `pcalc collapse` is asked to do.
+/// The options of `pcalc collapse`.
 #[derive(Drop)]
 pub struct CollapseOptions<'a> {
     /// The file that is written.
     pub target: &'a str,
     /// The part files, in the order in which they are read.
     pub inputs: Vec<&'a str>,
-    /// Whether faults are explained also where standard error is no terminal.
+    /// Whether faults are explained even if standard error is no terminal.
     pub is_explained: bool,
 }
 
-/// What `pcalc recover` is asked to do.
+/// The options of `pcalc recover`.
 #[derive(Drop)]
 pub struct RecoverOptions<'a> {
     /// The folder of the files.
     pub dir: &'a str,
-    /// Whether a folder that lacks something has a status of its own.
+    /// Whether a folder with gaps has a status of its own.
     pub is_strict: bool,
-    /// Whether faults are explained also where standard error is no terminal.
+    /// Whether faults are explained even if standard error is no terminal.
     pub is_explained: bool,
 }
 
-/// What `pcalc run` is asked to do.
+/// The options of `pcalc run`.
 #[derive(Drop)]
 pub struct RunOptions<'a> {
     /// The file of the workload.
     pub workload: &'a str,
-    /// How many workers run the clients, 1 to 64.
+    /// The number of workers that run the clients, 1 to 64.
     pub workers: u8,
-    /// How many collapsers join the points' files, 1 to 64.
+    /// The number of collapsers that join the points' files, 1 to 64.
     pub collapsers: u8,
     /// The folder to which the files are written, if any.
     pub folder: Option<&'a str>,
-    /// How many entries of the log may wait to be written, at most 16,777,216.
+    /// The number of log entries that may wait to be written, at most 16,777,216.
     pub lag: u32,
-    /// Whether what is written to the files is to reach their device.
+    /// Whether the files' bytes must reach their device.
     pub is_synced: bool,
-    /// After how many commits a further point begins, 1 to 1,000,000,000, if that is said.
+    /// The number of commits after which a further point begins, 1 to 1,000,000,000, if one is given.
     pub every: Option<u32>,
     /// The folder from whose state it starts, if any.
     pub from: Option<&'a str>,
     /// Whether that folder may be damaged.
     pub accepts_damage: bool,
-    /// The run's number, 1 to 2,147,483,647, where it starts from nothing.
+    /// The run's number, 1 to 2,147,483,647, if it starts from nothing.
     pub run: u32,
-    /// How many keys the store has room for, 1 to 1,048,576.
+    /// The number of keys that the store has room for, 1 to 1,048,576.
     pub capacity: u32,
-    /// Whether nothing is to be shown while it runs.
+    /// Whether nothing is shown while it runs.
     pub is_quiet: bool,
-    /// Whether a report is to be printed in the end.
+    /// Whether a report is printed in the end.
     pub is_reported: bool,
     /// The file to which the times of commits are written, if any.
     pub times: Option<&'a str>,
-    /// Whether faults are explained also where standard error is no terminal.
+    /// Whether faults are explained even if standard error is no terminal.
     pub is_explained: bool,
     ghost in_range: { (1 ≤ workers) × (workers ≤ MOST_WORKERS) × (1 ≤ collapsers) × (collapsers ≤ MOST_COLLAPSERS) },
     ghost has_room: { (1 ≤ capacity) × (capacity ≤ MOST_KEYS) },
 }
 
-/// What `pcalc serve` is asked to do.
+/// The options of `pcalc serve`.
 #[derive(Drop)]
 pub struct ServeOptions<'a> {
     /// The folder of the store's generations.
     pub dir: &'a str,
-    /// Whether the folder and a first generation are made where there are none.
+    /// Whether the folder and a first generation are made if there are none.
     pub creates: bool,
-    /// The number of the run of a first generation, 1 to 2,147,483,647, if that is said.
+    /// The number of the run of a first generation, 1 to 2,147,483,647, if one is given.
     pub run: Option<u32>,
     /// The folder from whose state a first generation starts, if any.
     pub import: Option<&'a str>,
-    /// Whether what it starts from may be damaged.
+    /// Whether the folder that it starts from may be damaged.
     pub accepts_damage: bool,
-    /// How many sessions the store has, 1 to 64.
+    /// The number of the store's sessions, 1 to 64.
     pub sessions: u8,
-    /// How many keys it has room for, 1 to 1,048,576.
+    /// The number of keys that the store has room for, 1 to 1,048,576.
     pub capacity: u32,
     /// A point begins after this many commits; none does with 0.
     pub every: u32,
-    /// The next generation begins where the log has this many entries and no transaction is open, 1 to 16,777,216.
+    /// The next generation begins once the log has this many entries and no transaction is open, 1 to 16,777,216.
     pub roll: u32,
-    /// How many generations before the one that counts are kept, 1 to 9,999,999.
+    /// The number of generations before the current one that are kept, 1 to 9,999,999.
     pub keep: u32,
-    /// How many entries of the log may be answered and not written, at most 16,777,216.
+    /// The number of log entries that may be answered and not written, at most 16,777,216.
     pub lag: u32,
-    /// Whether the log is to be on its disk before answers go out.
+    /// Whether the log must be on its disk before answers go out.
     pub is_synced: bool,
-    /// Whether faults are explained also where standard error is no terminal.
+    /// Whether faults are explained even if standard error is no terminal.
     pub is_explained: bool,
     ghost has_sessions: { (1 ≤ sessions) × (sessions ≤ MOST_SESSIONS) },
     ghost has_room: { (1 ≤ capacity) × (capacity ≤ MOST_KEYS) },
     ghost keeps_one: { 1 ≤ keep },
 }
 
-/// What the program is asked to do.
+/// The task of the program.
 #[derive(Drop)]
 pub enum Task<'a> {
     /// `pcalc step`.
@@ -154,7 +154,7 @@ pub enum Task<'a> {
     Serve(ServeOptions<'a>),
 }
 
-/// What the command line asks for, or what is to be told: a fault, or the help that was asked for.
+/// The task of the command line, or the error to print: a fault, or the help that was asked for.
 pub fn task_of<'a>(alloc: Global, words: &'a [&'a str]) -> Result<Option<Task<'a>>, Error> {
     let matches = command(alloc)?.try_get_matches_from(words)?;
     if let Some(matches) = matches.subcommand_matches("step") {
@@ -187,7 +187,7 @@ pub fn task_of<'a>(alloc: Global, words: &'a [&'a str]) -> Result<Option<Task<'a
     }
 }
 
-/// What is told of a command line of which a word is no UTF-8.
+/// The error for a command line of which a word isn't UTF-8.
 pub fn unreadable(alloc: Global) -> Result<Error, Error> {
     let mut command = command(alloc)?;
     Ok(command.error(ErrorKind::InvalidValue, "a word is no UTF-8")?)
@@ -213,7 +213,7 @@ fn with_command<'a>(command: Command<'a>, inner: Command<'a>) -> Result<Command<
     Ok(command.subcommand(inner)?)
 }
 
-/// The option that has faults explained.
+/// The option that explains faults.
 pub(crate) fn explain_option() -> Said {
     Said::flag(
         "explain",
@@ -287,7 +287,7 @@ fn threads_options() -> [Said; 2] {
     ]
 }
 
-// Of when points begin, and what a run starts from.
+// The options for the begin of points, and for the state that a run starts from.
 fn start_options() -> [Said; 3] {
     let every =
         "After how many commits a further point begins, 1 to 1000000000; else the points are spread over the run";
@@ -302,7 +302,7 @@ fn start_options() -> [Said; 3] {
     ]
 }
 
-// Of the files that a run leaves.
+// The options for the files that a run leaves.
 fn file_options() -> [Said; 3] {
     let dir =
         "A folder without such files, to which base.pcb, the points' part files and log.pcl are written";
@@ -316,7 +316,7 @@ fn file_options() -> [Said; 3] {
     ]
 }
 
-// Of what a run shows and tells.
+// The options for the output of a run.
 fn telling_options() -> [Said; 3] {
     let quiet = "Shows nothing on a terminal while it runs";
     let report =
@@ -388,7 +388,7 @@ fn serve_command<'a>(alloc: Global) -> Result<Command<'a>, Error> {
     )
 }
 
-// Of a store that is made where there is none.
+// The options for a store that is made if there is none.
 fn making_options() -> [Said; 3] {
     let create = "Makes the folder and a store in it, where there is none";
     let run =
@@ -404,7 +404,7 @@ fn making_options() -> [Said; 3] {
     ]
 }
 
-// Of points and generations.
+// The options for points and generations.
 fn generation_options() -> [Said; 3] {
     let every = "A point is taken after this many commits; none is with 0";
     let roll = "A new generation begins once the log has this many entries, 1 to 16777216";

@@ -3,7 +3,7 @@ use clap::builder::ValueParser;
 use clap::{Arg, ArgAction, Command, Error};
 use std::alloc::{AllocError, Global};
 
-/// Where the help of each command points to.
+/// The page that the help of each command refers to.
 const FAULTS: &str = "What each fault means: docs/MANUAL.md";
 
 /// An argument or an option of a command.
@@ -21,7 +21,7 @@ pub(crate) struct Said {
     excludes: Option<&'static str>,
 }
 
-// What an argument or an option takes.
+// The values of an argument or an option.
 #[derive(Clone, Copy)]
 enum Takes {
     // A word by its place. It is required unless it has a default.
@@ -108,7 +108,7 @@ impl Said {
     }
 }
 
-/// The command of this name, with a line of what it does.
+/// The command of this name, with a line that says what it does.
 pub(crate) fn command_of<'a>(
     alloc: Global,
     name: &'static str,
@@ -135,7 +135,7 @@ fn arg_of<'a>(alloc: Global, said: Said) -> Result<Arg<'a>, AllocError> {
     with_excluded(with_needed(arg, said)?, said)
 }
 
-// The argument with its help and what it takes.
+// The argument with its help and its values.
 fn taking<'a>(alloc: Global, said: Said) -> Arg<'a> {
     let arg = Arg::new(alloc, said.name).help(said.help);
     match said.takes {

@@ -1,4 +1,4 @@
--- How many writes each commit of a legal history has.
+-- The number of writes that each commit of a legal history has.
 use Rattle.std.proofs.Common.{◌≡◌, ℕ, ◌+◌, ◌≤◌, ◌⊎◌, inl, inr, eqb, not, ◌&&◌, Bool, true, false, cond, List, [], ◌∷◌, ◌++◌, length, Option, Some, None, is_some, All, refl, sym, subst, arith}
 use Rattle.std.proofs.lemmas.Bool.Decides.{nat_tests}
 use Rattle.std.proofs.lemmas.List.Elements.{All-nil, All-cons, All-append}
@@ -22,7 +22,7 @@ use Rattle.pc_model.proofs.EffectCases.{begin_case, get_case, write_case, add_ca
 use Rattle.pc_model.proofs.EffectLaws.{no_first, no_firsts, no_others}
 use Rattle.pc_model.proofs.LegalEffectLaws.{causes_idle, settled}
 
--- one write more, where its key is new
+-- one write more, if its key is new
 one_more : (ws : List Write) (w : Write) → length (with_write ws w) ≡ cond (is_some (written ws w.key)) (length ws) (length ws + 1)
 one_more [] w = refl
 one_more (v ∷ ws) w = by (same_bytes v.key w.key) (is_some (written ws w.key)) refl (one_more ws w)

@@ -1,4 +1,4 @@
--- How many keys a set or a map has, by those of another.
+-- The number of keys that a set or a map has, by those of another.
 use Rattle.std.proofs.Common.{◌≡◌, ℕ, ◌+◌, ◌≤◌, ◌||◌, Bool, true, false, cond, List, [], ◌∷◌, length, map, is_some, refl, sym, ap, ◌∙◌, arith}
 use Rattle.std.specs.FinMap.Entries.{is_some-find}
 use Rattle.pc_model.specs.Database.{key_cmp, key_order, same_bytes}

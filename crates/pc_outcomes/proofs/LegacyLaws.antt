@@ -1,4 +1,4 @@
--- What is left after a legal history is right.
+-- The files left after a legal history are correct.
 use Rattle.std.proofs.Common.{ℕ, List, [], ◌∷◌, Option, Some, None, Ok, All, drop, sym, subst}
 use Rattle.std.proofs.lemmas.List.Elements.{All-contains, All-drop, All-push}
 use Rattle.pc_types.specs.declared.Entry.{Entry}
@@ -19,7 +19,7 @@ of_all well base log [] (Some file) worth folded = cc
 of_all well base log (first ∷ others) (Some file) worth folded = well base.run base.pairs log first others (Ok file) (λ f. All-contains (IsOfItsPoints base.run base.pairs log) (first ∷ others) f worth) folded
 
 module _ (well : FilesFoldWell) (are_right : FilesOfTheirPointsAreRight) (st : Setting) (history : History) (base : BaseFile) (log : List Entry) (files : List File) (after : AreLeftAfter st history base log files) where
-  -- a file of its points is right
+  -- a file of its points is correct
   right_file : (file : File) → IsOfItsPoints base.run base.pairs log file → IsFileRight base.pairs log file
   right_file file =
       subst (λ (b : BaseFile). IsOfItsPoints b.run b.pairs log file → IsFileRight b.pairs log file) (sym after.start)
@@ -41,6 +41,6 @@ module _ (well : FilesFoldWell) (are_right : FilesOfTheirPointsAreRight) (st : S
       let of = of_all well base log some is.collapsed parts is.folded in
       record { collapsed = is.collapsed; of_all = of; summary = is.summary; right = is.right.1 (right_with some is.collapsed of) }
 
-  -- where some of the files were folded
+  -- if some of the files were folded
   pub legacy_of : (n : ℕ) (left : StoreReport) → IsStoreReport base log files (drop n files) left → IsLegacy base log (drop n files) left
   legacy_of n left = legacy (drop n files) left (All-drop (IsOfItsPoints base.run base.pairs log) n files worth)

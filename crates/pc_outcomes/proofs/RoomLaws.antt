@@ -95,7 +95,7 @@ module _ (st : Setting) (h : History) where
   by_closed : (q : List ℕ) → is_among (closed_set h) q ≡ true → Was q
   by_closed q is = occupied_is st h q ∙ or_right (is_some (get (contents st.base h) q)) _ (or_right (not (is_empty (queue_of q h))) _ (or_right (is_among (open_set h) q) _ is))
 
-  -- what lets the effect stand: there is room for the key that is asked for, and a commit is of an open transaction
+  -- what allows the effect: there is room for the key that is asked for, and a commit is of an open transaction
   abbrev May : Effect → Type 0
   May (Reads s key answer) = is_full st key h ≡ false
   May (Writes s key value) = is_full st key h ≡ false
@@ -255,7 +255,7 @@ module _ (st : Setting) (h : History) where
     fitting (Waits s key mode) room sub = one_key_more key room sub
     fitting other room sub = no_key sub
 
--- no more keys are occupied than there is room for, where the base has no more
+-- no more keys are occupied than there is room for, if the base has no more
 pub occupied_within : (st : Setting) (h : History) → len st.base ≤ st.capacity → IsLegalHistory st h → set.len (occupied st h) ≤ st.capacity
 occupied_within st [] few legal = let less = len_below (occupied st []) (keys_of st.base) (λ q is. has_keys st.base q ∙ of_base q (sym (occupied_is st [] q) ∙ is)) in let same = keys_len st.base in omega (arith, less, same, few)
   where

@@ -1,5 +1,5 @@
--- A file of points of a legal history has fewer entries than a file may have, and the base with it laid on no more pairs than there is
--- room for.
+-- A file of points of a legal history has fewer entries than a file may have, and the base with it applied has no more pairs than
+-- there is room for.
 use Rattle.std.proofs.Common.{◌≡◌, ℕ, ◌+◌, ◌≤◌, ◌<◌, ◌||◌, ◌&&◌, not, Bool, true, false, cond, List, [], ◌∷◌, Some, None, refl, sym, ap, ◌∙◌, arith}
 use Rattle.std.specs.Prelude.{nat_le, nat_lt}
 use Rattle.std.specs.List.{find}
@@ -35,7 +35,7 @@ some_point points some = by (set.items points) refl
         let first : is_one_of n (n ∷ items) ≡ true = grind (arith, nat_tests) in
         (n, contains-items points n ∙ ap (is_one_of n) is ∙ first)
 
--- where none of some numbers is found, the test fails at each
+-- if none of some numbers is found, the test fails at each
 none_found : (test : ℕ → Bool) (xs : List ℕ) → find test xs ≡ None → (n : ℕ) → is_one_of n xs ≡ true → test n ≡ false
 none_found test [] none n there = absurd (let bad : false ≡ true = there in cc)
 none_found test (x ∷ xs) none n there = by (test x) (same_number n x) refl refl none there (none_found test xs)
@@ -49,7 +49,7 @@ is_true : (b : Bool) → not b ≡ false → b ≡ true
 is_true true is = refl
 is_true false is = absurd (let bad : true ≡ false = is in cc)
 
--- where there is no gap, each point up to the greatest is there
+-- if there is no gap, each point up to the greatest is there
 no_gap : (points : Set number_order) → gap_above 0 points ≡ None → (n : ℕ) → 1 ≤ n → n ≤ greatest points → set.contains points n ≡ true
 no_gap points none n low high = is_true (set.contains points n) (none_found (λ p. not (set.contains points p)) (numbers_to (greatest points)) none n (one_of_numbers (greatest points) n ∙ inside))
   where

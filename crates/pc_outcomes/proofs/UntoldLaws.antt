@@ -1,4 +1,4 @@
--- Why nothing is told of files that a legal history leaves.
+-- Why nothing is reported of files that a legal history leaves.
 use Rattle.std.proofs.Common.{◌≡◌, ◌⊎◌, inl, inr, ℕ, zero, suc, ◌≤◌, ◌<◌, eqb, not, Bool, true, false, cond, List, [], ◌∷◌, ◌++◌, Option, Some, None, Err, All, drop, refl, ap, sym, subst, ◌∙◌, arith}
 use Rattle.std.specs.Prelude.{MatchBool, Result, nat_lt}
 use Rattle.std.specs.List.{find}
@@ -155,7 +155,7 @@ module _ (well : FilesFoldWell) (st : Setting) (history : History) (base : BaseF
   not_folded (inl memory) = memory_untold memory
   not_folded (inr cause) = unfolded well st history after.legal (drop n files) given parts cause
 
-  -- or the base can't have it laid on it
+  -- or it can't be applied to the base
   pub not_laid : (file : Option File) → Folded (drop n files) file → (given ≡ OutOfMemory) ⊎ IsUnlaid base file given → IsUntoldAfter st (drop n files) given
   not_laid file fold (inl memory) = memory_untold memory
   not_laid file fold (inr cause) = unlaid well st history after.legal (drop n files) file given parts fold (subst (λ (b : BaseFile). IsUnlaid b file given) after.start cause)

@@ -1,4 +1,4 @@
--- How many keys a log has written, and how many a file of its points has.
+-- The number of keys that a log has written, and how many a file of its points has.
 use Rattle.std.proofs.Common.{◌≡◌, ℕ, ◌+◌, ◌-◌, ◌*◌, ◌≤◌, ◌||◌, eqb, Bool, true, false, cond, List, [], ◌∷◌, ◌++◌, length, length-append, Option, Some, None, is_some, All, refl, sym, ap, ◌∙◌, arith}
 use Rattle.std.proofs.lemmas.List.Elements.{All-head, All-tail}
 use Rattle.pc_types.specs.declared.Entry.{Entry}
@@ -36,7 +36,7 @@ written_more keys (Commit s ws ∷ log) few =
     omega (arith, own, one, rest)
 written_more keys (Token phase point ∷ log) few = let rest = written_more keys log (All-tail HasFewWrites (Token phase point) log few) in omega (arith, rest)
 
--- and fewer where one of them is a token
+-- and fewer if one of them is a token
 pub token_writes_none : (n : ℕ) (keys : List (List ℕ)) (log : List Entry) → All HasFewWrites log → has_token n log ≡ true → length (with_written keys log) + MOST_WRITES ≤ length keys + MOST_WRITES * length log
 token_writes_none n keys [] few there = absurd (let bad : false ≡ true = there in cc)
 token_writes_none n keys (Commit s ws ∷ log) few there =

@@ -1,4 +1,4 @@
--- What a closed store leaves: how many commits its log has, the file of all points, and whether its files are right.
+-- The report of a closed store: the number of commits in its log, the file of all points, and whether its files are correct.
 use Rattle.std.specs.Prelude.{◌≡◌, ◌≤◌, ◌<◌, ◌↔◌, ◌⊎◌, ⊤, ℕ, Bool, true, false, List, [], ◌∷◌, ◌++◌, Option, Some, None, Ok, Err, All, IsTrue, IsFalse, length, filter}
 use Rattle.std.specs.List.{list_any}
 use Rattle.pc_types.specs.declared.Entry.{Entry}
@@ -40,21 +40,21 @@ abbrev pub Folded : List File → Option File → Type 0
 Folded files None = files ≡ []
 Folded files (Some file) = Folds files (Ok file)
 
--- what is told of a file: its points, how many entries it has, and how many pairs the base has with it laid on
+-- the report of a file: its points, the number of its entries, and the number of the base's pairs with it applied
 abbrev pub summary_of : BaseFile → File → Collapsed
 summary_of base file = record { points = set.items file.points; entries = len file.triples; pairs = len (laid_file base file).pairs }
 
--- the same where there may be none
+-- the same if there may be none
 abbrev pub summary_if_any : BaseFile → Option File → Option Collapsed
 summary_if_any base None = None
 summary_if_any base (Some file) = Some (summary_of base file)
 
--- the files, and behind them another one, if there is one
+-- the files, and after them another one, if there is one
 abbrev pub with_file : List File → Option File → List File
 with_file files None = files
 with_file files (Some file) = files ++ file ∷ []
 
--- Some of a store's files were folded to one, of which this is told; and this is whether they and it are right by the log.
+-- Some of a store's files were folded to one, with this report; and this is whether they and it are correct by the log.
 pub record IsStoreReport (base : BaseFile) (log : List Entry) (files some : List File) (left : StoreReport) : Type 0 where
   pub collapsed : Option File
   pub folded : Folded some collapsed
@@ -65,12 +65,12 @@ pub record IsStoreReport (base : BaseFile) (log : List Entry) (files some : List
 abbrev pub IsUnfolded : List File → Refusal → Type 0
 IsUnfolded files why = ¬ (files ≡ []) × Folds files (Err why)
 
--- there is a file, and this is why the base can't have it laid on it
+-- there is a file, and this is why the base can't have it applied to it
 abbrev pub IsUnlaid : BaseFile → Option File → Refusal → Type 0
 IsUnlaid base None why = ⊥
 IsUnlaid base (Some file) why = first_cause (lay_causes base file) ≡ Some why
 
--- Why nothing is told of what is left: memory ran out, or the files have no fold, or the base can't have it laid on it.
+-- Why nothing is reported of what is left: an allocation failed, or the files have no fold, or it can't be applied to the base.
 abbrev pub IsReportUntold : BaseFile → List File → Refusal → Type 0
 IsReportUntold base files why = (why ≡ OutOfMemory) ⊎ IsUnfolded files why ⊎ ((file : Option File) × Folded files file × IsUnlaid base file why)
 
@@ -85,8 +85,8 @@ pub record AreLeftAfter (st : Setting) (history : History) (base : BaseFile) (lo
 abbrev pub IsMissing : List File → ℕ → Type 0
 IsMissing files point = (1 ≤ point) × IsFalse (has_point files point) × ((later : ℕ) × (point ≤ later) × IsTrue (has_point files later))
 
--- Why nothing is told of such files: memory ran out; there are some, and the store began with more pairs than it has room for, or has
--- room for more than a file may have; or a point is missing.
+-- Why nothing is reported of such files: an allocation failed; there are some, and the store began with more pairs than it has room
+-- for, or has room for more than a file may have; or a point is missing.
 abbrev pub IsUntoldAfter : Setting → List File → Refusal → Type 0
 IsUntoldAfter st files refusal.OutOfMemory = ⊤
 IsUntoldAfter st files refusal.Full = ¬ (files ≡ []) × ((st.capacity < len st.base) ⊎ (MOST_FILE_ENTRIES < st.capacity))
@@ -98,7 +98,7 @@ abbrev pub IsOfAll : BaseFile → List Entry → List File → Option File → T
 IsOfAll base log files None = files ≡ []
 IsOfAll base log files (Some file) = IsOfAllPoints base.run base.pairs log files file
 
--- What is told of a store that a legal history left: of one file of the points of all these, and that everything is right.
+-- The report of a store that a legal history left: one file of the points of all these, and that everything is correct.
 pub record IsLegacy (base : BaseFile) (log : List Entry) (files : List File) (left : StoreReport) : Type 0 where
   pub collapsed : Option File
   pub of_all : IsOfAll base log files collapsed

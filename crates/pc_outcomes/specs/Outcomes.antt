@@ -1,4 +1,4 @@
--- What is printed of a run, and the status.
+-- The output of a run, and the status.
 use Rattle.std.specs.Prelude.{ℕ, List, ◌++◌, Option, Some, None, codes, decimal}
 use Rattle.pc_texts.specs.Texts.{collapsed_line, check_line}
 use Rattle.pc_outcomes.specs.declared.run_report.Collapsed.{Collapsed}

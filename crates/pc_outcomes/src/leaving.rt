@@ -1,4 +1,4 @@
-//! What a closed store leaves: the file of all points, and whether its files are right by its log.
+//! The report of a closed store: the file of all points, and whether its files are correct by its log.
 ghost use Rattle.std.specs.Prelude.{◌≡◌, ◌≤◌, ◌⊎◌, Some, IfOk, IfErr, drop, length};
 ghost use Rattle.pc_types.specs.declared.Refusal.TheVariants.{OutOfMemory};
 ghost use Rattle.pc_model.specs.Maps.{len};
@@ -21,7 +21,7 @@ use std::hash::RandomState;
 use std::sync::Wait;
 use std::thread::Threads;
 
-/// How many commits the log has.
+/// The number of commits that the log has.
 pub fn commits_in(log: &Log) -> usize
     ensures { result ≡ commits_in (entries_of log.now) }
 {
@@ -50,7 +50,7 @@ fn copies(alloc: Global, parts: &[SharedPart]) -> Result<Vec<Part>, AllocError>
     Ok(copies)
 }
 
-// The join of the parts, where there are any.
+// The join of the parts, if there are any.
 fn collapsed<G: Gate + Sync, R: Threads + Wait + Sync>(
     rt: &R,
     alloc: Global,
@@ -70,14 +70,14 @@ fn collapsed<G: Gate + Sync, R: Threads + Wait + Sync>(
     Ok(Some(part))
 }
 
-// How many keys the file has.
+// The number of keys that the file has.
 fn keys_in(part: &Part) -> usize
     ensures { result ≡ len part.now.triples }
 {
     part.entries().len()
 }
 
-// How many pairs the base has with the file laid on it.
+// The number of pairs that the base has with the file applied to it.
 fn pairs_with(alloc: Global, base: &Base, part: &Part) -> Result<usize, Refusal>
     ensures pairs { IfOk result (λ pairs. pairs ≡ len (laid_file base.now part.now).pairs) }
     ensures refused { IfErr result (λ why. (why ≡ OutOfMemory) ⊎ IsUnlaid base.now (Some part.now) why) }
@@ -86,7 +86,7 @@ fn pairs_with(alloc: Global, base: &Base, part: &Part) -> Result<usize, Refusal>
     Ok(laid.pairs().len())
 }
 
-// What is told of the file of all points.
+// The report of the file of all points.
 fn summary_of(alloc: Global, base: &Base, part: &Part) -> Result<Collapsed, Refusal>
     ensures summary { IfOk result (λ summary. summary ≡ summary_of base.now part.now) }
     ensures refused { IfErr result (λ why. (why ≡ OutOfMemory) ⊎ IsUnlaid base.now (Some part.now) why) }
@@ -101,7 +101,7 @@ fn summary_of(alloc: Global, base: &Base, part: &Part) -> Result<Collapsed, Refu
     })
 }
 
-// The files, and behind them the part, if there is one.
+// The files, and after them the part, if there is one.
 fn with_file(
     alloc: Global,
     files: Vec<SharedPart>,
@@ -117,7 +117,7 @@ fn with_file(
     Ok(files)
 }
 
-// What is told of the file of all points, where there is one.
+// The report of the file of all points, if there is one.
 fn summary_if_any(
     alloc: Global,
     base: &Base,
@@ -132,7 +132,7 @@ fn summary_if_any(
     }
 }
 
-// The files behind the first so many.
+// The files after the first ones, whose number is given.
 fn behind(files: &[SharedPart], singles: usize) -> &[SharedPart]
     requires { singles ≤ length files.now }
     ensures { result.now ≡ drop singles files.now }
@@ -140,11 +140,11 @@ fn behind(files: &[SharedPart], singles: usize) -> &[SharedPart]
     &files[singles..]
 }
 
-/// What a closed store leaves of its files. Those behind the first so many are folded to one, by so many collapsers, 1 to 64;
-/// that one is audited too. After a legal history all is right. Refuses for what keeps them from being folded, or the base from having
-/// their fold laid on it, and else with `OutOfMemory` alone: after a legal history that is `Gap`, where one of the points up to theirs
-/// is missing, or `Full`, and that only of a store that began with more pairs than it has room for, or has room for more than a file
-/// may have. Keys are hashed under the seed, two words given by chance.
+/// The outcome of a closed store's files. Those after the first `singles` are folded to one, by 1 to 64 collapsers; that one is
+/// audited too. After a legal history everything is correct. Refuses for what keeps them from being folded, or the base from having
+/// their fold applied to it, and otherwise with `OutOfMemory` alone: after a legal history that is `Gap`, if one of the points up to
+/// theirs is missing, or `Full`, and that only of a store that began with more pairs than it has room for, or has room for more than
+/// a file may have. Keys are hashed under the seed, a random 128-bit number.
 pub fn left_by<G: Gate + Sync, R: Threads + Wait + Sync>(
     rt: &R,
     alloc: Global,

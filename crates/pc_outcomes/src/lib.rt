@@ -1,4 +1,4 @@
-//! What a run of a workload leaves, and how it is printed.
+//! The report of a workload's run, and its text.
 #![tactic(auto)]
 
 mod leaving;

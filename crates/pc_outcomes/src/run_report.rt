@@ -1,4 +1,4 @@
-//! What a run leaves, and how it is printed.
+//! The report of a run, and its text.
 ghost use Rattle.std.specs.Prelude.{◌≡◌};
 ghost use Rattle.pc_types.specs.Tallies.{Puts};
 ghost use Rattle.pc_outcomes.specs.Outcomes.{number_line, collapsed_lines, file_lines, left_text, counts_text, outcome_text, printed_text, status_of};
@@ -8,45 +8,45 @@ use pc_texts::{put_check, put_collapsed};
 use pc_types::{Items, Point, Refusal, Tally};
 use std::io::Write;
 
-/// What a run left.
+/// The report of a run.
 #[derive(Drop)]
 pub struct RunReport {
-    /// How many transactions were committed.
+    /// The number of transactions committed.
     pub commits: u64,
     /// How many were given up.
     pub given_up: u64,
-    /// How many points were taken.
+    /// The number of points taken.
     pub points: u32,
-    /// What the store left.
+    /// The report of the store.
     pub left: StoreReport,
 }
 
-/// What a closed store left.
+/// The report of a closed store.
 #[derive(Drop)]
 pub struct StoreReport {
-    /// The file of all points, where there are any.
+    /// The file of all points, if there are any.
     pub collapsed: Option<Collapsed>,
-    /// Whether each file of all points from the first on is right by the log.
+    /// Whether each file of all points from the first on is correct by the log.
     pub is_right: bool,
 }
 
 /// The file of all points.
 #[derive(Drop)]
 pub struct Collapsed {
-    /// Its points, which rise.
+    /// Its points, which ascend.
     pub points: Items<Point>,
-    /// How many entries it has.
+    /// The number of entries that it has.
     pub entries: u64,
-    /// How many pairs the base has with the file laid on it.
+    /// The number of pairs that the base has with the file applied to it.
     pub pairs: usize,
 }
 
-/// What is printed of a workload.
+/// The output of a workload.
 #[derive(Drop)]
 pub enum Printed {
     /// The number of its first bad line, from 1.
     BadLine(usize),
-    /// What its run left.
+    /// The report of its run.
     Whole(RunReport),
 }
 

@@ -1,4 +1,4 @@
--- The text of a base, by its pairs, and that it is lawful.
+-- The text of a base, by its pairs, and that it is valid.
 use Rattle.std.proofs.Common.{◌≡◌, ◌≤◌, ◌<◌, ◌^◌, ℕ, List, ◌++◌, length, refl, sym, ap, subst, ◌∙◌}
 use Rattle.std.specs.List.{All, flat_map}
 use Rattle.pc_types.specs.declared.formats.Format.{Format}
@@ -23,7 +23,7 @@ module _ (base : BaseFile) (run point : ℕ) (pairs : List (List ℕ × List ℕ
   pub base_parts : base_head_text run point (length pairs) ++ flat_map pair_text pairs ≡ base_text base
   base_parts = base_parts_in Second
 
-  -- pairs within their limits make a lawful base
+  -- pairs within their limits make a valid base
   pub base_lawful : run < 2 ^ 64 → point ≤ 65535 → IsWithinLimit pairs → All IsPair pairs → IsBaseFile base
   base_lawful run_fits point_fits limit fit = record {
     run = subst (λ n. n < 2 ^ 64) same_run run_fits;

@@ -49,7 +49,8 @@ module _ (ranges : List Range) (points : Set number_order) (h : AreRanges ranges
   covered_is : (n : ℕ) → 1 ≤ n → set.items points ≡ numbers_to n → bounds_of ranges ≡ (1, n) ∷ []
   covered_is n some covers = sym (ranges_of-points_of ranges h) ∙ ap (λ s. ranges_of (set.items s)) is ∙ ap ranges_of covers ∙ numbers_range n some
 
-  -- the last point, where the ranges are one from 1 on, is the one up to which all are covered, and else there is none
+  -- the last point, if the ranges are one from 1 on, is the one up to which all are covered, and otherwise there is
+  -- none
   pub complete_is : (last : Option ℕ) → last ≡ last_covered (bounds_of ranges) →
       MatchOption last ((n : ℕ) → ¬ ((1 ≤ n) × (set.items points ≡ numbers_to n))) (λ n. (1 ≤ n) × (set.items points ≡ numbers_to n))
   complete_is None none = λ n covers. let found : None ≡ Some n = none ∙ ap last_covered (covered_is n covers.0 covers.1) in cc

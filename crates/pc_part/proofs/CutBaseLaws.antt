@@ -1,4 +1,4 @@
--- The text of a base file that is cut off.
+-- The text of a base file that is truncated.
 use Rattle.std.proofs.Common.{◌≡◌, ℕ, ◌<◌, List, [], ◌∷◌, ◌++◌, length, take, Ok, Err, refl}
 use Rattle.std.specs.Prelude.{nat_le}
 use Rattle.std.specs.Int.{w16, w32, w64}

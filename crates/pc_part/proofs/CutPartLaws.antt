@@ -1,4 +1,4 @@
--- The text of a part file that is cut off.
+-- The text of a part file that is truncated.
 use Rattle.std.proofs.Common.{◌≡◌, ℕ, zero, suc, ◌<◌, ◌≤◌, List, [], ◌∷◌, ◌++◌, length, take, Option, Some, None, Ok, Err, refl, arith}
 use Rattle.std.proofs.lemmas.List.{length-append}
 use Rattle.std.specs.Prelude.{◌==◌}
@@ -24,7 +24,7 @@ entries_behind_cut : (format : Format) (turns fewer : ℕ) (ranges : List Range)
 entries_behind_cut format turns fewer ranges more again None rest = (refl, refl)
 entries_behind_cut format turns fewer ranges more again (Some entry) rest = cut_then _ _ _ _ _ _ (again entry.key rest) (λ others end. (refl, refl))
 
--- a beginning is read in fewer turns
+-- a prefix is read in fewer turns
 entries_cut : (format : Format) (turns fewer : ℕ) (ranges : List Range) (last bytes more : List ℕ) → fewer ≤ turns → IsCut (ReadsAlike more) (entries_at format turns ranges last (bytes ++ more)) (entries_at format fewer ranges last bytes)
 unfolding entries_at
 entries_cut format turns zero ranges last bytes more le = short_is_cut (ReadsAlike more) (entries_at format turns ranges last (bytes ++ more))

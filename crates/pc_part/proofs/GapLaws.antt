@@ -95,7 +95,7 @@ greatest_is ranges h =
     ] in
     omega (arith, up, down)
 
--- the numbers from 1, and those behind the first few
+-- the numbers from 1, and those after the first few
 points_snoc : (p n : ℕ) → points_from p (suc n) ≡ points_from p n ++ (p + n) ∷ []
 points_snoc p zero = ap (λ q. q ∷ []) (omega arith)
 points_snoc p (suc n) = ap (λ ps. p ∷ ps) (points_snoc (p + 1) n ∙ ap (λ q. points_from (p + 1) n ++ q ∷ []) (omega arith))
@@ -109,7 +109,7 @@ drop_points zero p n = let a : p ≡ p + 0 = omega arith in let b : n ≡ n - 0 
 drop_points (suc k) p zero = let none : 0 - suc k ≡ 0 = omega arith in rw none refl
 drop_points (suc k) p (suc n) = drop_points k (p + 1) n ∙ ap (λ q. points_from q (n - k)) (omega arith) ∙ ap (points_from (p + suc k)) (omega arith)
 
--- where the first points fail the test, the search goes on behind them
+-- if the first points fail the test, the search goes on after them
 find_skip : (test : ℕ → Bool) (n p m : ℕ) → ((q : ℕ) → p ≤ q → q < p + n → test q ≡ false) → find test (points_from p (n + m)) ≡ find test (points_from (p + n) m)
 find_skip test zero p m fails = let a : zero + m ≡ m = omega arith in let b : p + zero ≡ p = omega arith in rw (a, b) refl
 find_skip test (suc n) p m fails = let a : suc n + m ≡ suc (n + m) = omega arith in let b : p + suc n ≡ (p + 1) + n = omega arith in

@@ -1,4 +1,4 @@
--- So many items, one after the other: as a loop reads them, what is read of a text, its text read again, and a text cut off.
+-- That many items, in order: as a loop reads them, what is read of a text, its text read again, and a truncated text.
 use Rattle.std.proofs.Common.{◌≡◌, ℕ, zero, suc, ◌+◌, ◌-◌, ◌<◌, ◌≤◌, List, [], ◌∷◌, ◌++◌, length, Result, Ok, Err, refl, sym, ap, subst, ◌∙◌, append_assoc, arith}
 use Rattle.std.specs.List.{flat_map}
 use Rattle.std.proofs.lemmas.List.{append-nil}
@@ -45,7 +45,7 @@ module _ {S X : Type 0} (read : S → List ℕ → Result (X × List ℕ) Refusa
         let one : with_front front (items_at read leaves (count - i) state bytes) ≡ Ok (front, bytes) = rw k (ap (λ (items : List X). Ok (items, bytes)) (append-nil front)) in
         sym so_far ∙ one
 
-  -- so many items were read
+  -- that many items were read
   pub items_count : (count : ℕ) (state : S) (bytes : List ℕ) (x : List X × List ℕ) → items_at read leaves count state bytes ≡ Ok x → length x.0 ≡ count
   unfolding items_at
   items_count zero state bytes x e = ap (λ (y : List X × List ℕ). length y.0) (sym (ok_is ([], bytes) x e))
@@ -58,7 +58,7 @@ module _ {S X : Type 0} (read : S → List ℕ → Result (X × List ℕ) Refusa
   -- ---- the text
 
   module _ (text : X → List ℕ) (From : S → List X → Type 0) where
-    -- where each item is read of its text and may stand there, the bytes are the items' texts, and they are so many
+    -- if each item is read of its text and may be there, the bytes are the items' texts, and they are that many
     pub items_take : ((state : S) → From state [])
         → ((state : S) (bytes : List ℕ) (x : X × List ℕ) → IsBytes bytes → read state bytes ≡ Ok x → TakesText bytes (text x.0) x.1 × ((others : List X) → From (leaves x.0) others → From state (x.0 ∷ others)))
         → (count : ℕ) (state : S) (bytes : List ℕ) (x : List X × List ℕ) → IsBytes bytes → items_at read leaves count state bytes ≡ Ok x → TakesText bytes (flat_map text x.0) x.1 × (length x.0 ≡ count) × From state x.0

@@ -18,7 +18,7 @@ use Rattle.pc_part.specs.Joins.{clash_at, JoinsCommute, JoinsAreIdempotent, Join
 use Rattle.pc_part.proofs.JoinedFiles.{none_differs, some_differs}
 use Rattle.pc_part.proofs.RangeUnions.{contains-union}
 
--- ---- conflict as what stands at each key
+-- ---- conflict as the entries at each key
 
 clash_value : (x y : Option AtPoint) (t : Bool) → (clash_at x y ≡ Some (tt {0}) → t ≡ true) → t ≡ false → clash_at x y ≡ None
 clash_value x y t some none = by (clash_at x y) refl

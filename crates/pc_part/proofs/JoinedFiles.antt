@@ -1,4 +1,4 @@
--- A merge of rising triples is the join of their maps; when it conflicts, and which points it has.
+-- A merge of ascending triples is the join of their maps; when it conflicts, and which points it has.
 use Rattle.std.proofs.Common.{◌≡◌, ℕ, Bool, true, false, cond, ◌||◌, not, List, [], ◌∷◌, map, length, Option, Some, None, Result, Ok, Err, ◌<◌, ◌≤◌, lt-ltb, refl, sym, ap, subst, ◌∙◌, arith}
 use Rattle.std.specs.Prelude.{IsTrue, nat_lt, if◌then◌else◌, ⊤}
 use Rattle.pc_types.specs.declared.Refusal.{Refusal}
@@ -100,7 +100,7 @@ module _ (there : List ℕ → Option AtPoint) where
       by true same h again = ap (λ t. t || list_any (λ e. differs e.1 (there e.0)) es) (ap (λ k. differs e.1 (there k)) (sym (one_key q e.0 same)) ∙ some_clash e.1 (there q) h)
       by false same h again = ap (λ t. differs e.1 (there e.0) || t) (again h) ∙ or_true (differs e.1 (there e.0))
 
--- two files conflict exactly where something clashes
+-- two files conflict if and only if something clashes
 pub conflict_is : (a b : List Triple) → KeysRise (entries_of a) → KeysRise (entries_of b) → conflict (triples_of a) (triples_of b) ≡ not (is_empty (clashes a b))
 conflict_is a b rise_a rise_b =
     ap (list_any (λ e. differs e.1 (map_of.get (triples_of b) e.0))) (pair_maps.entries_of (entries_of a) rise_a) ∙ by (clashes a b) (merges clash_at refl (entries_of a) (entries_of b) rise_a rise_b)

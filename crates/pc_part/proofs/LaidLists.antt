@@ -1,4 +1,4 @@
--- Rising triples laid on rising pairs, from the fronts of both.
+-- Ascending triples applied to ascending pairs, from the fronts of both.
 use Rattle.std.proofs.Common.{◌≡◌, ℕ, ◌≤◌, ◌<◌, nat_lt, false, ◌+◌, List, [], ◌∷◌, ◌++◌, true, length, drop, Option, Some, None, is_some, option_copied, Bor, refl, sym, ap, ◌∙◌, arith, lt-ltb}
 use Rattle.std.proofs.lemmas.Bool.Decides.{nat_tests}
 use Rattle.std.specs.FinMap.{find}

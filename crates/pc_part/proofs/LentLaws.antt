@@ -28,7 +28,7 @@ use Rattle.pc_part.proofs.ReadFields.{next_entry_takes}
 pub rest_within : (bytes text rest : List ℕ) → bytes ≡ text ++ rest → length rest ≤ length bytes
 rest_within bytes text rest is = omega (arith, ap length is, length-append text rest)
 
--- what stands before it
+-- the bytes before it
 front_is : (bytes text rest : List ℕ) → bytes ≡ text ++ rest → take (length bytes - length rest) bytes ≡ text
 front_is bytes text rest is =
     let whole : length bytes ≡ length text + length rest = ap length is ∙ length-append text rest in
@@ -65,7 +65,7 @@ module _ (entry : Triple) where
   key_shown : drop 2 (take (2 + length entry.key) text) ≡ entry.key
   key_shown = ap (drop 2) (take_at front (number ++ content_text entry.content) (2 + length entry.key) front_length) ∙ drop_at len entry.key 2 (wide16.len (length entry.key - 2))
 
-  -- what stands behind the point
+  -- the bytes after the point
   behind : drop (2 + length entry.key + 4) text ≡ content_text entry.content
   behind =
       let parts : text ≡ (front ++ number) ++ content_text entry.content = sym (append_assoc front number (content_text entry.content)) in
@@ -119,7 +119,7 @@ shown text key_end point entry is ends same = rw (is, ends, same) (text_shows en
 pub is_kept : (text : List ℕ) (key_end point : ℕ) (entry : Triple) → text ≡ triple_text entry → key_end ≡ 2 + length entry.key → point ≡ entry.point → HasLimits entry → IsKept text key_end point
 is_kept text key_end point entry is ends same limits = rw (is, ends, same) (kept entry limits)
 
--- the text in format 01, with space 0 behind the length
+-- the text in format 01, with space 0 after the length
 pub widened : (own content : List ℕ) (n : ℕ) → let text : List ℕ = (to_be_bytes w16 n ++ own) ++ content in take 2 text ++ (0 ∷ 0 ∷ drop 2 text) ≡ (to_be_bytes w16 n ++ (0 ∷ 0 ∷ own)) ++ content
 widened own content n =
     let len : List ℕ = to_be_bytes w16 n in
@@ -130,7 +130,7 @@ widened own content n =
 
 -- ---- heads
 
--- where heads differ they tell which key comes first
+-- if heads differ they tell which key comes first
 pub heads_tell : (k l : List ℕ) (h g : ℕ) → IsHead k h → IsHead l g → (g ≡ h → ⊥) → nat_lt h g ≡ is_lt (key_cmp k l)
 heads_tell k l h g first second apart = by (nat_lt h g) refl
   where

@@ -70,7 +70,7 @@ IsLocal_same r s same local = record {
   back = λ bytes y rest is. local.back bytes y rest (same bytes ∙ is);
 }
 
--- what needs so many bytes, and takes them
+-- what needs that many bytes, and takes them
 module _ {X : Type 0} (n : ℕ) (make : List ℕ → X) where
   counted : Read X
   counted bytes = cond (ltb (length bytes) n) (Err Short) (Ok (make (take n bytes), drop n bytes))
@@ -98,12 +98,12 @@ local_number w = local_counted (byte_len w) (from_be_bytes w)
 local_bytes : (count : ℕ) → IsLocal (bytes_at Short count)
 local_bytes count = local_counted count (λ bytes. bytes)
 
--- so many bytes, where that is lawful
+-- that many bytes, if that is valid
 local_lawful : (test : Bool) (count : ℕ) → IsLocal (λ bytes. where_true test BadLength count >>= λ lawful. bytes_at Short lawful bytes)
 local_lawful true count = local_bytes count
 local_lawful false count = local_err BadLength
 
--- behind a test
+-- after a test
 local_where_then : {A X : Type 0} (test : Bool) (fault : Refusal) (x : A) (behind : A → Read X) → IsLocal (behind x) → IsLocal (λ bytes. where_true test fault x >>= λ some. behind some bytes)
 local_where_then true fault x behind local = local
 local_where_then false fault x behind local = local_err fault
@@ -177,7 +177,7 @@ next_entry_local format ranges last = local_bind (number_at Short w16)
 
 -- ---- the header
 
--- so many items, each read so
+-- that many items, each read so
 local_items : {S X : Type 0} (read : S → Read X) (leaves : X → S) → ((state : S) → IsLocal (read state)) → (count : ℕ) (state : S) → IsLocal (items_at read leaves count state)
 unfolding items_at
 local_items read leaves one zero state = local_ok []
@@ -220,7 +220,7 @@ header_local = local_bind (magic_at (part_magic First) (part_magic Second))
 pub steps_are_local : StepsAreLocal
 steps_are_local = (header_local, next_entry_local)
 
--- ---- so what is read of a text that is cut off is what is read of the whole text, or it is short
+-- ---- so what is read of a text that is truncated is what is read of the whole text, or it is short
 
 pub local_cut : {X : Type 0} (read : Read X) → IsLocal read → (bytes more : List ℕ) → IsCut (ReadsAlike more) (read (bytes ++ more)) (read bytes)
 local_cut {X} read local bytes more = by (read (bytes ++ more)) (read bytes) refl refl

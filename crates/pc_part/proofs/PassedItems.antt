@@ -65,7 +65,7 @@ module _ {A B X Y : Type 0} (first : A → List ℕ × X) (second : B → List �
   items_are [] vs = only_seconds vs
   items_are (u ∷ us) vs = items_at u us (items_are us) vs
 
-  -- so an iterator over both gives these, where a loop has taken it over
+  -- so an iterator over both gives these, if a loop has taken it over
   gives_items : {S T U F : Type 0} {steps : U → Option (EitherOrBoth A B) → U → Type 0} {firsts : S → Option A → S → Type 0} {seconds : T → Option B → T → Type 0} {s t : U} {x : S} {y : T} (call : Mut F (Bor A × (Bor B × ⊤)) Ordering) (compare : F)
       → t ≡ s → MergesByOrder steps s firsts x seconds y call compare → ActsAsAtBoth call compare by_key → EachRunBehindBoth steps t firsts x seconds y (λ p a b. GivesOfBoth p a b (merge_join_by by_key))
   gives_items call compare same runs acts = rw same (λ p on at. let r = runs p on at in (r.0, r.1, (r.2.0, r.2.1, r.2.2.1 by_key acts)))
@@ -74,7 +74,7 @@ module _ {A B X Y : Type 0} (first : A → List ℕ × X) (second : B → List �
 pub all_to_come : {s : List Triple} (xs : List Triple) → s ≡ xs → YieldsList (YieldsFirst (λ s. s)) (λ t. t) s xs
 all_to_come xs is = YieldsList-from_first (λ t. t) (λ s. s) xs is
 
--- one over pairs that are lent and a pass gives the items of the pairs and of the triples
+-- one over borrowed pairs and a pass gives the items of the pairs and of the triples
 pub items_of_pairs : {S T U F : Type 0} {steps : U → Option (EitherOrBoth (Bor (List ℕ × List ℕ)) Triple) → U → Type 0} {firsts : S → Option (Bor (List ℕ × List ℕ)) → S → Type 0} {seconds : T → Option Triple → T → Type 0} {s t : U} {x : S} {y : T} {xs : List (List ℕ × List ℕ)} {ys : List Triple}
     (call : Mut F (Bor (Bor (List ℕ × List ℕ)) × (Bor Triple × ⊤)) Ordering) (compare : F) → t ≡ s → MergesByOrder steps s firsts x seconds y call compare → ActsAsAtBoth call compare (by_key (λ pair. pair.now) entry_of)
     → YieldsList firsts (λ a. a.now) x xs → YieldsList seconds (λ b. b) y ys → YieldsList steps (entries_in (λ pair. pair.now) entry_of) t (items xs (entries_of ys))

@@ -1,4 +1,4 @@
--- The texts of triples go out one after the other, as a pass gives them.
+-- The texts of triples go out in order, as a pass gives them.
 use Rattle.std.proofs.Common.{◌≡◌, ℕ, List, ◌∷◌, ◌++◌, Option, Ok, Err, sym, subst}
 use Rattle.std.proofs.lemmas.List.Concat.{flat_map-append}
 use Rattle.std.specs.List.{flat_map}

@@ -1,4 +1,4 @@
--- The points of ranges: they rise, they give the ranges back, and a range has each of them.
+-- The points of ranges: they ascend, they give the ranges back, and a range has each of them.
 use Rattle.std.proofs.Common.{◌≡◌, ℕ, zero, suc, ◌+◌, ◌-◌, ◌<◌, ◌≤◌, ◌&&◌, ◌||◌, nat_le, nat_lt, T, Bool, true, false, List, [], ◌∷◌, ◌++◌, append_assoc, map, refl, sym, ap, subst, ◌∙◌, arith}
 use Rattle.std.specs.Prelude.{⊤}
 use Rattle.std.specs.List.{list_any}
@@ -29,12 +29,12 @@ both false b p q = p
 is_less : (p q : ℕ) → p < q → T (is_lt (nat_cmp p q))
 is_less p q lt = subst (λ o. T (is_lt o)) (nat_cmp_is p q Less lt) tt
 
--- a point below the first of some points is below them, and below what it is below behind them
+-- a point below the first of some points is below them, and below what it is below after them
 below_run : (x p n : ℕ) (rest : List ℕ) → x < p → T (below_all nat_cmp x (units rest)) → T (below_all nat_cmp x (units (points_from p n ++ rest)))
 below_run x p zero rest lt h = h
 below_run x p (suc n) rest lt h = both _ _ (is_less x p lt) (below_run x (p + 1) n rest (omega arith) h)
 
--- points one after the other rise, and before points that rise above them
+-- points in order ascend, also before points that ascend above them
 run_rises : (p n : ℕ) (rest : List ℕ) → ((x : ℕ) → x < p + n → T (below_all nat_cmp x (units rest))) → T (is_sorted nat_cmp (units rest)) → T (is_sorted nat_cmp (units (points_from p n ++ rest)))
 run_rises p zero rest below h = h
 run_rises p (suc n) rest below h = both _ _ (below_run p (p + 1) n rest (omega arith) (below p (omega arith))) (run_rises (p + 1) n rest (λ x lt. below x (omega arith)) h)
@@ -58,7 +58,7 @@ as_map : (ks : List ℕ) → set.from_list {o = number_order} ks ≡ map_of.from
 as_map [] = refl
 as_map (k ∷ ks) = ap (λ s. set.insert s k) (as_map ks)
 
--- the numbers of a set are what it was made of, where that rises
+-- the numbers of a set are what it was made of, if that ascends
 items_of : (ks : List ℕ) → T (is_sorted nat_cmp (units ks)) → set.items {o = number_order} (set.from_list ks) ≡ ks
 items_of ks rise =
     let made = map_of.from_list {o = number_order} (units ks) in
@@ -68,7 +68,7 @@ items_of ks rise =
     firsts [] = refl
     firsts (k ∷ ks) = ap (λ rest. k ∷ rest) (firsts ks)
 
--- points one after the other are one range
+-- points in order are one range
 pub one_range : (p n : ℕ) (rest : List ℕ) → ranges_of (points_from p (suc n) ++ rest) ≡ with_range p (p + n) (ranges_of rest)
 one_range p zero rest = ap (λ high. with_range p high (ranges_of rest)) (omega arith)
 one_range p (suc n) rest = ap (with_range p p) (one_range (p + 1) n rest) ∙ wider (ranges_of rest)
@@ -114,7 +114,7 @@ one_pushed old points new low n so_far is = is ∙ ap (λ (ps : List ℕ). ps ++
 pub bounds_known : (inside given : List Range) (points : Set number_order) → AreRanges inside → points_of inside ≡ points → given ≡ inside → bounds_of given ≡ ranges_of (set.items points)
 bounds_known inside given points h is same = ap bounds_of same ∙ sym (ranges_of-points_of inside h) ∙ ap (λ s. ranges_of (set.items s)) is
 
--- a point of these, one after the other, is not below the first, and below the end
+-- a point of these, in order, is not below the first, and below the end
 in_run : (q p n : ℕ) → list_any (eq_by_cmp nat_cmp q) (points_from p n) ≡ (nat_le p q && nat_lt q (p + n))
 in_run q p zero = grind (arith, nat_tests)
 in_run q p (suc n) = ap (λ b. eq_by_cmp nat_cmp q p || b) (in_run q (p + 1) n) ∙ first

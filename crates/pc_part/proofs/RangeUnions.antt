@@ -32,7 +32,7 @@ has_point r q = nat_le r.low q && nat_le q r.high
 abbrev pub have_point : List Range → ℕ → Bool
 have_point ranges q = list_any (λ r. has_point r q) ranges
 
--- ranges that rise from a point rise from each lesser one, and from each that their first is not below
+-- ranges that ascend from a point ascend from each lesser one, and from each that their first is not below
 lower : (least less : ℕ) (ranges : List Range) → less ≤ least → RangesFrom least ranges → RangesFrom less ranges
 lower least less [] le h = tt
 lower least less (r ∷ ranges) le h = let low : least ≤ r.low = h.0 in (omega arith, h.1, h.2, h.3)
@@ -97,12 +97,13 @@ have_by_low : (q : ℕ) (xs ys : List Range) → have_point (by_low xs ys) q ≡
 have_by_low q [] ys = refl
 have_by_low q (x ∷ xs) ys = have_at q x xs (have_by_low q xs) ys
 
--- where the last of the ranges begins, or this point where there are none
+-- where the last of the ranges begins, or this point if there are none
 abbrev pub last_low : ℕ → List Range → ℕ
 last_low least [] = least
 last_low least (r ∷ ranges) = last_low r.low ranges
 
--- ranges with one more that begins no lower than the last: they rise, none begins above it, and they have its points too
+-- ranges with one more that begins no lower than the last: they ascend, none begins above it, and they have its points
+-- too
 record IsWith (least : ℕ) (ranges : List Range) (range : Range) (all : List Range) : Type 0 where
   rise : RangesFrom least all
   lows : last_low least all ≤ range.low
@@ -141,7 +142,8 @@ with_more least (first ∷ second ∷ ranges) range rise after ends limit =
     lows_of [] not_none le = absurd (not_none refl)
     lows_of (r ∷ rs) not_none le = le
 
--- What the loop that unites keeps: the ranges so far rise, those to come begin no lower than the last of them, and together they have the points of both lists.
+-- What the loop that unites keeps: the ranges so far ascend, those to come begin no lower than the last of them, and
+-- together they have the points of both lists.
 pub record Uniting (a b out rest : List Range) : Type 0 where
   pub rise : RangesFrom 1 out
   pub from : BeginFrom (last_low 1 out) rest
@@ -180,7 +182,7 @@ contains-union s t q = contains-insert_all s (set.items t) q ∙ ap (λ b. b || 
     or_comm false true = refl
     or_comm false false = refl
 
--- ranges that have the points of two lists of ranges stand for the union
+-- ranges that have the points of two lists of ranges represent the union
 pub is_union : (a b out : List Range) → ((q : ℕ) → have_point out q ≡ (have_point a q || have_point b q)) → points_of out ≡ set.union (points_of a) (points_of b)
 is_union a b out same = same_set (points_of out) (set.union (points_of a) (points_of b)) (λ q. contains-points_of out q ∙ same q
     ∙ ap (λ t. t || have_point b q) (sym (contains-points_of a q)) ∙ ap (λ t. set.contains (points_of a) q || t) (sym (contains-points_of b q))
@@ -201,7 +203,7 @@ all_united a b out in_a before = ((some a out in_a before.same, before.rise), is
         no (rw has at all)
     some (r ∷ rs) (o ∷ out) in_a same = omega arith
 
--- what is added behind the last range
+-- what is added after the last range
 with_last : (front : List Range) (last range : Range) → with_range (front ++ last ∷ []) range ≡ front ++ (if meets last range then widened last range ∷ [] else last ∷ range ∷ [])
 with_last [] last range = refl
 with_last (f ∷ []) last range = refl
@@ -218,11 +220,11 @@ module _ (old front new : List Range) (last range : Range) (parted : old ≡ fro
       same : (r s : Range) → r.low ≡ s.low → r.high ≡ s.high → r ≡ s
       same r s low high = ap (λ l. range_of l r.high) low ∙ ap (range_of s.low) high
 
-  -- the range stands behind it
+  -- the range comes after it
   pub stands_behind : (all : List Range) → meets last range ≡ false → all ≡ front ++ last ∷ [] → new ≡ all ++ range ∷ [] → new ≡ with_range old range
   stands_behind all met put put_too = rw (put_too, put, parted, with_last front last range, met) (append_assoc front (last ∷ []) (range ∷ []))
 
--- an iterator over both lists by the first points gives the ranges, one after the other
+-- an iterator over both lists by the first points gives the ranges, in order
 abbrev pub is_first_of : Bor Range → Bor Range → Bool
 is_first_of x y = is_first x.now y.now
 

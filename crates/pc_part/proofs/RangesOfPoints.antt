@@ -25,7 +25,7 @@ pub by_recursion : {X : Type 0} (P : X → Type 0) (xs : List X) → All P xs �
 by_recursion P [] h = tt
 by_recursion P (x ∷ xs) h = (h 0 x (omega arith), by_recursion P xs (λ k d lt. h (suc k) d (omega (arith, lt))))
 
--- points that rise from this one on, up to 65,535
+-- points that ascend from this one on, up to 65,535
 abbrev PointsFrom : ℕ → List ℕ → Type 0
 PointsFrom least [] = Unit {0}
 PointsFrom least (p ∷ points) = (least ≤ p) × (p ≤ 65535) × PointsFrom (p + 1) points
@@ -36,7 +36,7 @@ above point (e ∷ es) below sorted fit =
     let lt = ranked point e.0 Less (sym (less (nat_cmp point e.0) (first _ _ below))) in
     (omega (arith, lt), fit.0.1, above e.0 es (first _ _ sorted) (second _ _ sorted) fit.1)
 
--- the points of a set rise
+-- the points of a set ascend
 from_one : (es : List (ℕ × ⊤)) → T (is_sorted nat_cmp es) → AllByRecursion IsPoint (map (λ e. e.0) es) → PointsFrom 1 (map (λ e. e.0) es)
 from_one [] sorted fit = tt
 from_one (e ∷ es) sorted fit = (fit.0.0, fit.0.1, above e.0 es (first _ _ sorted) (second _ _ sorted) fit.1)

@@ -45,7 +45,7 @@ range_again least r rest from ends limit =
     let lawful : (nat_le least r.low && nat_le r.low r.high && nat_le r.high 65535) ≡ true = grind (arith, nat_tests) in
     rw (low, number_again Short w32 (2 ^ 32) wide32 r.high rest (omega arith), lawful) refl
 
--- ranges that were read are those of the text, as many as asked for, and rise with gaps between them
+-- ranges that were read are those of the text, as many as asked for, and ascend with gaps between them
 pub ranges_take : (count least : ℕ) (bytes : List ℕ) (x : List Range × List ℕ) → IsBytes bytes → ranges_at count least bytes ≡ Ok x → TakesText bytes (flat_map bounds_text x.0) x.1 × (length x.0 ≡ count) × RangesFrom least x.0
 ranges_take = items_take _ _ bounds_text RangesFrom (λ least. tt) (λ least bytes x fits e. let taken = range_takes least bytes x fits e in (taken.0, λ others rise. (taken.1, taken.2, taken.3, rise)))
 
@@ -73,7 +73,7 @@ key_again : (format : Format) (last key rest : List ℕ) → IsKey key → HasKe
 unfolding next_key_at
 key_again format last key rest is_key has above = rw (sized_key_again format Short key rest is_key has, above) refl
 
--- what stands in an entry after its key
+-- the bytes of an entry after its key
 abbrev there_text : AtPoint → List ℕ
 there_text there = to_be_bytes w32 there.point ++ content_text there.content
 
@@ -98,7 +98,7 @@ entry_again ranges there rest limit covered is_value =
     let point : number_at Short w32 (there_text there ++ rest) ≡ Ok (there.point, content_text there.content ++ rest) = ap (number_at Short w32) parts ∙ number_again Short w32 (2 ^ 32) wide32 there.point (content_text there.content ++ rest) (omega arith) in
     rw (point, covered, content_again Short there.content rest is_value) refl
 
--- entries of the ranges' points, whose keys rise, the first above this one, and each of which the format has a text
+-- entries of the ranges' points, whose keys ascend, the first above this one, and each of which the format has a text
 abbrev pub EntriesFrom : Format → List Range → List ℕ → List Triple → Type 0
 EntriesFrom format ranges last [] = Unit {0}
 EntriesFrom format ranges last (t ∷ triples) = (is_lt (key_cmp last t.key) ≡ true) × HasLimits t × (covers ranges t.point ≡ true) × HasKey format t.key × EntriesFrom format ranges t.key triples
@@ -107,7 +107,7 @@ EntriesFrom format ranges last (t ∷ triples) = (is_lt (key_cmp last t.key) ≡
 abbrev pub end_mark : List ℕ
 end_mark = to_be_bytes w16 0
 
--- what the next entry takes of the bytes: the end mark, or the text of an entry that may stand there
+-- what the next entry takes of the bytes: the end mark, or the text of an entry that may be there
 abbrev pub NextTakes : Format → List Range → List ℕ → List ℕ → Option Triple → List ℕ → Type 0
 NextTakes format ranges last bytes None rest = TakesText bytes end_mark rest
 NextTakes format ranges last bytes (Some entry) rest = TakesText bytes (triple_text_in format entry) rest × (is_lt (key_cmp last entry.key) ≡ true) × HasLimits entry × (covers ranges entry.point ≡ true) × HasKey format entry.key
@@ -136,7 +136,7 @@ next_entry_takes format ranges last bytes x fits e =
           subst (λ (y : Option Triple × List ℕ). NextTakes format ranges last bytes y.0 y.1) {x = made} (ok_is made x t.2) (all, key.4, (key.2, there.2), there.1, key.3)
     ] refl a.2
 
--- the bytes are the texts of entries that may stand there, and the end mark
+-- the bytes are the texts of entries that may be there, and the end mark
 abbrev pub EntriesTake : Format → List Range → List ℕ → List ℕ → List Triple × List ℕ → Type 0
 EntriesTake format ranges last bytes x = TakesText bytes (flat_map (triple_text_in format) x.0 ++ end_mark) x.1 × EntriesFrom format ranges last x.0
 
@@ -204,7 +204,7 @@ entries_again format (suc turns) least ranges apart last (t ∷ triples) rest h 
     regrouped : (first others mark rest : List ℕ) → (((first ++ others) ++ mark) ++ rest) ≡ first ++ ((others ++ mark) ++ rest)
     regrouped first others mark rest = simp append_assoc
 
--- pairs within their limits, whose keys rise, the first above this one, and each of which the format has a text
+-- pairs within their limits, whose keys ascend, the first above this one, and each of which the format has a text
 abbrev pub PairsFrom : Format → List ℕ → List Pair → Type 0
 PairsFrom format last [] = Unit {0}
 PairsFrom format last (p ∷ pairs) = (is_lt (key_cmp last p.0) ≡ true) × IsPair p × HasKey format p.0 × PairsFrom format p.0 pairs

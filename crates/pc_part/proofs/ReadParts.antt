@@ -44,7 +44,7 @@ after_total run ranges entries total = where_true (eqb total.0 (length entries))
 abbrev after_entries : ℕ → List Range → List Triple × List ℕ → Result PartFields Refusal
 after_entries run ranges entries = number_at Short w32 entries.1 >>= after_total run ranges entries.0
 
--- what stands before the entries, and the bytes behind it
+-- the header before the entries, and the bytes after it
 abbrev Header : Type 0
 Header = (Format × (ℕ × List Range)) × List ℕ
 

@@ -17,7 +17,7 @@ lacks_memory due e r is err want = rw (is, err) want
 pub succeeds : {X : Type 0} (due : Option Refusal) (x : X) → due ≡ None → (let given : Result X Refusal = Ok x in IsRefusedBy due given)
 succeeds due x is = rw is tt
 
--- the same as a reply: that of the first refusal whose cause stands
+-- the same as a reply: that of the first refusal whose cause applies
 pub first_refusal_is : (causes : List (Bool × Refusal)) → first_refusal causes ≡ option_map told.Refused (first_cause causes)
 first_refusal_is [] = refl
 first_refusal_is (c ∷ causes) = by c.0 (first_refusal_is causes)

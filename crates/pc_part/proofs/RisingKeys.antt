@@ -1,4 +1,4 @@
--- Keys that rise one after the other are sorted.
+-- Keys that ascend in order are sorted.
 use Rattle.std.proofs.Common.{◌≡◌, ℕ, ◌&&◌, T, Bool, true, false, List, [], ◌∷◌, refl, sym, subst, arith}
 use Rattle.std.specs.List.{AllByRecursion}
 use Rattle.std.specs.declared.cmp.Ordering.{Ordering}
@@ -35,7 +35,7 @@ empty_less [] h = absurd (omega (arith, h.0))
 empty_less (b ∷ key) h = tt
 
 module _ {X : Type 0} where
-  -- the keys rise, the first above this one
+  -- the keys ascend, the first above this one
   abbrev pub RisesFrom : List ℕ → List (List ℕ × X) → Type 0
   RisesFrom last [] = Unit {0}
   RisesFrom last (e ∷ es) = (is_lt (key_cmp last e.0) ≡ true) × RisesFrom e.0 es
@@ -63,6 +63,6 @@ module _ {X : Type 0} where
   empty_below [] h = tt
   empty_below (e ∷ es) h = both _ _ (empty_less e.0 h.0) (empty_below es h.1)
 
-  -- keys that rise come after the empty one, since no key is empty
+  -- keys that ascend come after the empty one, since no key is empty
   pub rises_from_empty : (es : List (List ℕ × X)) → AllByRecursion (λ e. IsKey e.0) es → KeysRise es → RisesFrom [] es
   rises_from_empty es keys h = rises [] es (empty_below es keys) (computes h)

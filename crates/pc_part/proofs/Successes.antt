@@ -1,4 +1,4 @@
--- What is so where a call succeeds.
+-- What is so if a call succeeds.
 use Rattle.std.proofs.Common.{Result, Ok, Err}
 use Rattle.std.specs.Prelude.{OnOk}
 use Rattle.pc_types.specs.declared.Refusal.{Refusal}

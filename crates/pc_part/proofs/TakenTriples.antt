@@ -32,7 +32,7 @@ rise_same : (point : ℕ) (taken : Taken) → is_sorted key_cmp (entries_of (map
 rise_same point [] = refl
 rise_same point (t ∷ taken) = ap (λ b. b && is_sorted key_cmp (entries_of (map (triple_at point) taken))) (below_same point t.0 taken) ∙ ap (λ b. below_all key_cmp t.0 taken && b) (rise_same point taken)
 
--- the keys rise as they rose
+-- the keys ascend as they did before
 pub taken_rise : (point : ℕ) (taken : Taken) (triples : List Triple) → triples ≡ map (triple_at point) taken → KeysRise taken → KeysRise (entries_of triples)
 taken_rise point taken triples is rise = rw is (rise_same point taken ∙ rise)
 
@@ -44,7 +44,7 @@ one_point point ranges is = let one : point + 1 - point ≡ 1 = omega arith in r
 pub taken_covered : (point : ℕ) (taken : Taken) (triples : List Triple) (ranges : List Range) → triples ≡ map (triple_at point) taken → ranges ≡ record { low = point; high = point } ∷ [] → AreCovered (points_of ranges) triples
 taken_covered point taken triples ranges is one = rw (is, one) (All-map (λ triple. IsTrue (set.contains (points_of (record { low = point; high = point } ∷ [])) triple.point)) (triple_at point) taken (λ k d lt. contains-points_of (record { low = point; high = point } ∷ []) point ∙ grind (arith, nat_tests)))
 
--- they are of the points where that is one
+-- they are of the points if that is one
 pub taken_among : (point : ℕ) (taken : Taken) (triples : List Triple) (points : Set number_order) → triples ≡ map (triple_at point) taken → IsTrue (set.contains points point) → AreCovered points triples
 taken_among point taken triples points is among = rw is (All-map (λ triple. IsTrue (set.contains points triple.point)) (triple_at point) taken (λ k d lt. among))
 
@@ -60,6 +60,6 @@ triples_same point (t ∷ taken) = ap (λ m. map_of.insert m t.0 (record { point
 pub taken_triples : (point : ℕ) (taken : Taken) (triples : List Triple) → triples ≡ map (triple_at point) taken → triples_of triples ≡ triples_taken point taken
 taken_triples point taken triples is = rw is (triples_same point taken)
 
--- rising triples are the entries of their map
+-- ascending triples are the entries of their map
 pub entries_known : (inside given : List Triple) (triples : Triples) → KeysRise (entries_of inside) → triples_of inside ≡ triples → given ≡ inside → entries_of given ≡ triples.entries
 entries_known inside given triples rise is same = ap entries_of same ∙ sym (pairs.entries_of (entries_of inside) rise) ∙ ap (λ m. m.entries) is

@@ -7,12 +7,12 @@ use Rattle.pc_model.specs.Maps as map_of
 use Rattle.pc_model.specs.Points.{AtPoint, Triples, joined}
 use Rattle.pc_model.specs.Files.{File, joined_file, conflict, differs}
 
--- the first refusal whose cause stands
+-- the first refusal whose cause applies
 abbrev pub first_cause : List (Bool × Refusal) → Option Refusal
 first_cause [] = None
 first_cause (c ∷ causes) = if c.0 then Some c.1 else first_cause causes
 
--- the result is the refusal that is due; where none is due, it can only fail for want of memory
+-- the result is the refusal that is due; if none is due, it can only fail for an allocation failure
 abbrev pub IsRefusedBy : {X : Type 0} → Option Refusal → Result X Refusal → Type 0
 IsRefusedBy due result = MatchOption due (IfErr result (λ e. e ≡ OutOfMemory)) (λ refusal. result ≡ Err refusal)
 

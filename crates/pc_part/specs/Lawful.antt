@@ -1,5 +1,5 @@
--- Which files have a text: numbers, keys and values are within their limits, and entries are of the file's points. In format 01
--- their keys are all of space 0.
+-- The files that have a text: numbers, keys and values are within their limits, and entries are of the file's points. In format
+-- 01 their keys are all of space 0.
 use Rattle.std.specs.Prelude.{◌≡◌, ℕ, ◌≤◌, ◌<◌, ◌^◌, List, IfSome, IsTrue}
 use Rattle.std.specs.List.{All}
 use Rattle.pc_types.specs.Limits.{IsKey, IsValue}
@@ -28,7 +28,7 @@ pub record IsPartEntry (points : Set number_order) (entry : List ℕ × AtPoint)
 abbrev pub HasLimits : Triple → Type 0
 HasLimits triple = IsKey triple.key × IfSome triple.content IsValue
 
--- a part file: its run fits, it stands for at least one point, and it has at most 4,294,967,295 entries
+-- a part file: its run is within the limits, it covers at least one point, and it has at most 4,294,967,295 entries
 pub record IsPartFile (file : File) : Type 0 where
   pub run : file.run < 2 ^ 64
   pub some : 1 ≤ set.len file.points

@@ -13,7 +13,7 @@ use Rattle.pc_model.specs.LaidFiles.{gap_above}
 abbrev pub laid_there : ℕ → Option (List ℕ) → Option AtPoint → Option (List ℕ)
 laid_there point there triple = laid_at there point triple
 
--- why triples can't be laid on a database at a point: what is made of them passes the entry limit
+-- why triples can't be applied to a database at a point: what is made of them passes the entry limit
 abbrev pub limit_causes : Database → ℕ → Triples → List (Bool × Refusal)
 limit_causes db point triples = (nat_lt MOST_FILE_ENTRIES (map_of.len (laid db point triples)), Full) ∷ []
 
@@ -22,7 +22,7 @@ abbrev pub gap_causes : Option ℕ → List (Bool × Refusal)
 gap_causes None = []
 gap_causes (Some point) = (true, Gap point) ∷ []
 
--- why a file can't be laid on a base: it is of another run, it leaves a gap, or too many pairs would be left
+-- why a file can't be applied to a base: it is of another run, it leaves a gap, or too many pairs would be left
 abbrev pub lay_causes : BaseFile → File → List (Bool × Refusal)
 lay_causes base file =
     (not (base.run == file.run), OtherRun) ∷ gap_causes (gap_above base.point file.points) ++ limit_causes base.pairs base.point file.triples

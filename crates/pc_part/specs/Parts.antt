@@ -1,4 +1,4 @@
--- Part files: the points and the triples that a part stands for, and how both are stored.
+-- Part files: the points and the triples that a part covers, and how both are stored.
 use Rattle.std.specs.Prelude.{◌≡◌, ℕ, zero, suc, ◌+◌, ◌-◌, ◌≤◌, ◌==◌, nat_le, ◌&&◌, Bool, List, [], ◌∷◌, ◌++◌, Option, Some, None, if◌then◌else◌, length, map, IsTrue}
 use Rattle.std.specs.List.{All, list_any}
 use Rattle.std.specs.Coded.{Coded, code_by, coded×, coded_ℕ, coded_list, coded_option}
@@ -13,7 +13,7 @@ use Rattle.pc_types.specs.declared.Triple.{Triple}
 use Rattle.pc_types.specs.declared.limits.TheConstants.{MOST_POINTS}
 use Rattle.pc_part.specs.declared.ranges.Range.{Range}
 
--- so many points, from this one on
+-- that many points, from this one on
 abbrev pub points_from : ℕ → ℕ → List ℕ
 points_from point zero = []
 points_from point (suc count) = point ∷ points_from (point + 1) count
@@ -32,7 +32,7 @@ abbrev pub RangesFrom : ℕ → List Range → Type 0
 RangesFrom least [] = Unit {0}
 RangesFrom least (r ∷ ranges) = (least ≤ r.low) × (r.low ≤ r.high) × (r.high ≤ MOST_POINTS) × RangesFrom (r.high + 2) ranges
 
--- the ranges of a part: there is one, and they rise with gaps between them
+-- the ranges of a part: there is one, and they ascend with gaps between them
 abbrev pub AreRanges : List Range → Type 0
 AreRanges ranges = (1 ≤ length ranges) × RangesFrom 1 ranges
 
@@ -52,7 +52,7 @@ bounds_of ranges = map bounds ranges
 abbrev pub CoversTo : File → ℕ → Type 0
 CoversTo file n = (1 ≤ n) × (set.items file.points ≡ numbers_to n)
 
--- the last point, where the ranges are one from 1 on
+-- the last point, if the ranges are one from 1 on
 abbrev pub last_covered : List (ℕ × ℕ) → Option ℕ
 last_covered (r ∷ []) = if r.0 == 1 then Some r.1 else None
 last_covered ranges = None

@@ -1,4 +1,4 @@
--- How part files and base files are read: field by field, from left to right, with the first fault that is met. The magic tells
+-- Reading part files and base files: field by field, from left to right, with the first fault that is met. The magic determines
 -- the format of the text.
 use Rattle.std.specs.Prelude.{ℕ, zero, suc, ◌+◌, ◌-◌, ◌==◌, ◌&&◌, nat_lt, nat_le, if◌then◌else◌, List, [], ◌∷◌, length, slice_get, Option, Some, None, Result, Ok, Err}
 use Rattle.std.specs.Int.{w16, w32, w64}
@@ -18,7 +18,7 @@ use Rattle.pc_part.specs.Parts.{covers, points_of}
 use Rattle.pc_model.specs.TripleLists.{triples_of}
 use Rattle.pc_part.specs.Texts.{part_magic, base_magic}
 
--- so many items, one after the other, each read with what the one before it leaves
+-- that many items, in order, each read with what the one before it leaves
 unfoldable pub items_at : {S X : Type 0} → (S → List ℕ → Result (X × List ℕ) Refusal) → (X → S) → ℕ → S → List ℕ → Result (List X × List ℕ) Refusal
 items_at read leaves zero state bytes = Ok ([], bytes)
 items_at read leaves (suc count) state bytes = do
@@ -33,11 +33,11 @@ range_at least bytes = do
   high ← number_at Short w32 low.1
   where_true (nat_le least low.0 && nat_le low.0 high.0 && nat_le high.0 MOST_POINTS) BadRanges (record { low = low.0; high = high.0 }, high.1)
 
--- so many ranges, each with at least one point left out before the next, and the first from this point on
+-- that many ranges, each with at least one point left out before the next, and the first from this point on
 abbrev pub ranges_at : ℕ → ℕ → List ℕ → Result (List Range × List ℕ) Refusal
 ranges_at = items_at range_at (λ (r : Range). r.high + 2)
 
--- a key of so many bytes of its own that comes after the last one
+-- a key of that many bytes of its own that comes after the last one
 unfoldable pub next_key_at : Format → List ℕ → ℕ → List ℕ → Result (List ℕ × List ℕ) Refusal
 next_key_at format last count bytes = do
   key ← sized_key_at format Short count bytes
@@ -56,14 +56,14 @@ entry_at ranges bytes = do
   content ← content_at Short point.1
   Ok (record { point = point.0; content = content.0 }, content.1)
 
--- the entry whose key comes after the last one, or None at the end mark, which is a length of 0 where a key's would stand
+-- the entry whose key comes after the last one, or None at the end mark, which is a length of 0 in place of a key's
 unfoldable pub next_entry_at : Format → List Range → List ℕ → List ℕ → Result (Option Triple × List ℕ) Refusal
 next_entry_at format ranges last bytes =
     number_at Short w16 bytes >>= λ count. if count.0 == 0 then Ok (None, count.1) else
     (next_key_at format last count.0 count.1 >>= λ key. entry_at ranges key.1 >>= λ there.
     Ok (Some (record { key = key.0; point = there.0.point; content = there.0.content }), there.1))
 
--- none at the end mark, else the entry and those that are read behind its key
+-- none at the end mark, else the entry and those that are read after its key
 abbrev pub entries_from : (List ℕ → List ℕ → Result (List Triple × List ℕ) Refusal) → Option Triple → List ℕ → Result (List Triple × List ℕ) Refusal
 entries_from others None bytes = Ok ([], bytes)
 entries_from others (Some entry) bytes = others entry.key bytes >>= λ behind. Ok (entry ∷ behind.0, behind.1)
@@ -76,13 +76,13 @@ key_or_empty (Some entry) = entry.key
 abbrev pub last_key : List Triple → List ℕ
 last_key entries = key_or_empty (slice_get entries (length entries - 1))
 
--- The entries up to the end mark. Keys rise, the first above this one. Each entry takes more than one of the bytes, so that no more
--- turns are needed than there are bytes.
+-- The entries up to the end mark. Keys ascend, the first above this one. Each entry takes more than one of the bytes, so that no
+-- more turns are needed than there are bytes.
 unfoldable pub entries_at : Format → ℕ → List Range → List ℕ → List ℕ → Result (List Triple × List ℕ) Refusal
 entries_at format zero ranges last bytes = Err Short
 entries_at format (suc turns) ranges last bytes = next_entry_at format ranges last bytes >>= λ next. entries_from (entries_at format turns ranges) next.0 next.1
 
--- what stands before the entries: the format, and the run and the ranges
+-- the header before the entries: the format, and the run and the ranges
 unfoldable pub header_at : List ℕ → Result ((Format × (ℕ × List Range)) × List ℕ) Refusal
 header_at bytes = do
   start ← magic_at (part_magic First) (part_magic Second) bytes
@@ -134,7 +134,7 @@ pair_key_or_empty (Some pair) = pair.0
 abbrev pub last_pair_key : List (List ℕ × List ℕ) → List ℕ
 last_pair_key pairs = pair_key_or_empty (slice_get pairs (length pairs - 1))
 
--- so many pairs, whose keys rise, the first above this one
+-- that many pairs, whose keys ascend, the first above this one
 abbrev pub pairs_at : Format → ℕ → List ℕ → List ℕ → Result (List (List ℕ × List ℕ) × List ℕ) Refusal
 pairs_at format = items_at (pair_at format) (λ (pair : List ℕ × List ℕ). pair.0)
 

@@ -18,12 +18,12 @@ PartTextsAreRead = (format : Format) (file : File) → IsPartFile file → HasPa
 abbrev pub ReadPartsAreTexts : Type 0
 ReadPartsAreTexts = (bytes : List ℕ) (file : File) → All (λ byte. byte < 256) bytes → part_at bytes ≡ Ok file → IsPartFile file × IsPartText bytes file
 
--- The text of a part file that is cut off anywhere is short.
+-- The text of a part file that is truncated anywhere is short.
 abbrev pub CutPartTextsAreShort : Type 0
 CutPartTextsAreShort = (format : Format) (file : File) (n : ℕ) → IsPartFile file → HasPart format file → n < length (part_text_in format file) → part_at (take n (part_text_in format file)) ≡ Err Short
 
 -- What is read from the front of bytes, with what is left of them: it is read of longer bytes too, and so is each fault but that of
--- bytes that end too soon. What is left stands at the end of the bytes.
+-- bytes that end too soon. The rest is at the end of the bytes.
 pub record IsLocal {X : Type 0} (read : List ℕ → Result (X × List ℕ) Refusal) : Type 0 where
   pub ok : (bytes more : List ℕ) (x : X) (rest : List ℕ) → read bytes ≡ Ok (x, rest) → read (bytes ++ more) ≡ Ok (x, rest ++ more)
   pub err : (bytes more : List ℕ) (fault : Refusal) → read bytes ≡ Err fault → (fault ≡ Short) ⊎ (read (bytes ++ more) ≡ Err fault)
@@ -41,6 +41,6 @@ BaseTextsAreRead = (format : Format) (base : BaseFile) → IsBaseFile base → H
 abbrev pub ReadBasesAreTexts : Type 0
 ReadBasesAreTexts = (bytes : List ℕ) (base : BaseFile) → All (λ byte. byte < 256) bytes → base_at bytes ≡ Ok base → IsBaseFile base × IsBaseText bytes base
 
--- The text of a base file that is cut off anywhere is short.
+-- The text of a base file that is truncated anywhere is short.
 abbrev pub CutBaseTextsAreShort : Type 0
 CutBaseTextsAreShort = (format : Format) (base : BaseFile) (n : ℕ) → IsBaseFile base → HasBase format base → n < length (base_text_in format base) → base_at (take n (base_text_in format base)) ≡ Err Short

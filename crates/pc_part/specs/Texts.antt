@@ -1,5 +1,5 @@
--- The texts of part files and base files: the bytes that stand for them, in each of the two formats. Numbers stand with their
--- highest byte first. Format 02 is written: a word without a format is that of it.
+-- The texts of part files and base files: the bytes that represent them, in each of the two formats. Numbers are big-endian.
+-- Format 02 is written: a word without a format is that of it.
 use Rattle.std.specs.Prelude.{ℕ, List, ◌++◌, length, codes}
 use Rattle.std.specs.List.{flat_map}
 use Rattle.std.specs.Int.{w16, w32, w64, to_be_bytes}
@@ -16,12 +16,12 @@ use Rattle.pc_types.specs.declared.Triple.{Triple}
 use Rattle.pc_part.specs.declared.ranges.Range.{Range}
 use Rattle.pc_part.specs.Parts.{bounds}
 
--- the bytes that tell a part file
+-- the magic of a part file
 abbrev pub part_magic : Format → List ℕ
 part_magic First = codes "PCALCP01"
 part_magic Second = codes "PCALCP02"
 
--- what stands first: the magic, the run, and how many ranges there are
+-- the start: the magic, the run, and how many ranges there are
 abbrev pub head_text_in : Format → ℕ → ℕ → List ℕ
 head_text_in format run count = part_magic format ++ (to_be_bytes w64 run ++ to_be_bytes w32 count)
 
@@ -53,7 +53,7 @@ triple_text_in format triple = entry_text_in format (entry_of triple)
 abbrev pub triple_text : Triple → List ℕ
 triple_text triple = triple_text_in Second triple
 
--- what stands last: an end mark, which is the length of no key, and how many entries there are
+-- the end: an end mark, which is the length of no key, and how many entries there are
 abbrev pub end_text : ℕ → List ℕ
 end_text count = to_be_bytes w16 0 ++ to_be_bytes w32 count
 
@@ -73,12 +73,12 @@ part_text_in format file = text_of_in format file.run (ranges_of (set.items file
 abbrev pub part_text : File → List ℕ
 part_text file = part_text_in Second file
 
--- the bytes that tell a base file
+-- the magic of a base file
 abbrev pub base_magic : Format → List ℕ
 base_magic First = codes "PCALCB01"
 base_magic Second = codes "PCALCB02"
 
--- what stands first in a base file: the magic, the run, the point, and how many pairs there are
+-- the header of a base file: the magic, the run, the point, and how many pairs there are
 abbrev pub base_head_text_in : Format → ℕ → ℕ → ℕ → List ℕ
 base_head_text_in format run point count = base_magic format ++ (to_be_bytes w64 run ++ (to_be_bytes w32 point ++ to_be_bytes w32 count))
 

@@ -1,4 +1,4 @@
--- The union of ranges, which are added one after the other, by their first points.
+-- The union of ranges, which are added in order, by their first points.
 use Rattle.std.specs.Prelude.{◌+◌, nat_le, max, Bool, List, [], ◌∷◌, if◌then◌else◌}
 use Rattle.pc_part.specs.declared.ranges.Range.{Range}
 
@@ -10,7 +10,7 @@ meets last next = nat_le next.low (last.high + 1)
 abbrev pub widened : Range → Range → Range
 widened last next = record { low = last.low; high = max last.high next.high }
 
--- the ranges with one more behind them, by which the last one is widened where they meet
+-- the ranges with one more after them, by which the last one is widened if they meet
 abbrev pub with_range : List Range → Range → List Range
 with_range [] range = range ∷ []
 with_range (last ∷ []) range = if meets last range then widened last range ∷ [] else last ∷ range ∷ []

@@ -6,7 +6,7 @@ ghost use Rattle.pc_part.specs.Bases.{IsWithinLimit};
 use pc_types::{Key, Point, Value};
 use std::marker::Model;
 
-/// A base file: a run, a point of consistency, and the pairs of the database at that point, which rise strictly by
+/// A base file: a run, a point of consistency, and the pairs of the database at that point, which ascend strictly by
 /// key. It has at most 4,294,967,295 pairs. A contract sees it as its run, its point and its database.
 #[derive(Drop)]
 pub struct Base {
@@ -30,8 +30,8 @@ impl Model for Base {
 }
 
 impl Base {
-    /// The base of a run that starts from these pairs: it stands at point 0, since no point was taken yet. A restart
-    /// starts a new run, under a run number of its own, from the pairs that were recovered.
+    /// The base of a run that starts from these pairs: it is at point 0, since no point was taken yet. A restart starts
+    /// a new run, under a run number of its own, from the pairs that were recovered.
     pub fn start(run: u64, pairs: Vec<(Key, Value)>) -> Base
         requires rise { KeysRise pairs.items }
         requires limit { IsWithinLimit pairs.items }
@@ -61,14 +61,14 @@ impl Base {
         self.run
     }
 
-    /// The point that it stands at: 0 before the first, and at most 65,535.
+    /// The point that it is at: 0 before the first, and at most 65,535.
     pub fn point(&self) -> Point
         ensures { result ≡ self.now.point }
     {
         self.point
     }
 
-    /// The pairs, rising strictly by key; at most 4,294,967,295.
+    /// The pairs, ascending strictly by key; at most 4,294,967,295.
     pub fn pairs(&self) -> &[(Key, Value)]
         ensures rise { KeysRise result.now }
         ensures limit { IsWithinLimit result.now }
@@ -77,7 +77,7 @@ impl Base {
         self.pairs.as_slice()
     }
 
-    /// The pairs, rising strictly by key; at most 4,294,967,295.
+    /// The pairs, ascending strictly by key; at most 4,294,967,295.
     pub fn into_pairs(self) -> Vec<(Key, Value)>
         ensures rise { KeysRise result.items }
         ensures limit { IsWithinLimit result.items }

@@ -18,16 +18,16 @@ const FIRST: [u8; 8] = *b"PCALCB01";
 const SECOND: [u8; 8] = *b"PCALCB02";
 
 impl Base {
-    /// The base whose text is all of the bytes, in format 02, or in format 01, whose keys are all of space 0. It takes memory
-    /// for the pairs and for long keys and values alone. Refuses with `OutOfMemory` only where memory ran out, else with the
-    /// first fault from the left:
+    /// The base whose text is all of the bytes, in format 02, or in format 01, whose keys are all of space 0. It allocates
+    /// memory for the pairs and for long keys and values alone. Refuses with `OutOfMemory` only if an allocation failed, else
+    /// with the first fault from the left:
     ///
-    /// - `Short` where the bytes end inside a field;
-    /// - `BadMagic` where the first 8 bytes tell neither format;
-    /// - `BadRanges` where the point is above 65,535;
-    /// - `BadLength` where the length of a key or value is not within its limits;
-    /// - `KeyOrder` where a key does not rise;
-    /// - `Trailing` where bytes follow the last pair.
+    /// - `Short` if the bytes end inside a field;
+    /// - `BadMagic` if the first 8 bytes are the magic of neither format;
+    /// - `BadRanges` if the point is above 65,535;
+    /// - `BadLength` if the length of a key or value is not within its limits;
+    /// - `KeyOrder` if a key does not ascend;
+    /// - `Trailing` if bytes follow the last pair.
     pub fn decode(alloc: Global, bytes: &[u8]) -> Result<Base, Refusal>
         ensures found { IfOk result (λ base. IsBaseFile base × IsBaseText bytes.now base) }
         ensures only { (file : BaseFile) → IsBaseFile file → IsBaseText bytes.now file → Gives (λ base. base) result (Ok file) }
@@ -45,7 +45,7 @@ fn read_base(alloc: Global, bytes: &[u8]) -> Result<Base, Refusal>
     Ok(Base::at_point(run, point, pairs))
 }
 
-// What was read of a base.
+// The fields read of a base.
 #[derive(Drop)]
 struct FieldsOfBase {
     run: u64,
@@ -73,7 +73,7 @@ fn read_fields(alloc: Global, bytes: &[u8]) -> Result<FieldsOfBase, Refusal>
     Ok(FieldsOfBase { run, point, pairs })
 }
 
-// So many pairs, one after the other.
+// The given number of pairs, in order.
 fn read_pairs(
     alloc: Global,
     format: Format,

@@ -13,8 +13,8 @@ use std::io::Write;
 const MAGIC: [u8; 8] = *b"PCALCB02";
 
 impl Base {
-    /// Writes the text of the base in format 02, from which `decode` reads the same base. It takes no memory, and refuses with
-    /// `Device` exactly where the device failed; then a beginning of the text went out, and not all of it.
+    /// Writes the text of the base in format 02, from which `decode` reads the same base. It allocates no memory, and refuses
+    /// with `Device` if and only if the device failed; then a prefix of the text went out, and not all of it.
     pub fn encode<W: Write>(&self, out: &mut Tally<W>) -> Result<(), Refusal>
         ensures text { Puts W.contents out.old out.new result (base_text self.now) }
         ensures lawful { OnOk result (IsBaseFile self.now) }
@@ -27,7 +27,7 @@ impl Base {
     }
 }
 
-// What stands before the pairs.
+// The header before the pairs.
 fn put_head<W: Write>(out: &mut Tally<W>, run: u64, point: u32, count: u32) -> Result<(), Refusal>
     ensures { Puts W.contents out.old out.new result (base_head_text run point count) }
 {

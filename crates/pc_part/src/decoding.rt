@@ -22,18 +22,18 @@ const FIRST: [u8; 8] = *b"PCALCP01";
 const SECOND: [u8; 8] = *b"PCALCP02";
 
 impl Part {
-    /// The part whose text is all of the bytes, in format 02, or in format 01, whose keys are all of space 0. It takes memory
-    /// for the ranges, the entries and long keys and values alone. Refuses with `OutOfMemory` only where memory ran out, else
+    /// The part whose text is all of the bytes, in format 02, or in format 01, whose keys are all of space 0. It allocates memory
+    /// for the ranges, the entries and long keys and values alone. Refuses with `OutOfMemory` only if an allocation failed, else
     /// with the first fault from the left:
     ///
-    /// - `Short` where the bytes end inside a field;
-    /// - `BadMagic` where the first 8 bytes tell neither format;
-    /// - `BadRanges` where there are no ranges, or one breaks their rule;
-    /// - `BadLength` where the length of a key or value is not within its limits, or the entry count is wrong;
-    /// - `KeyOrder` where a key does not rise;
-    /// - `NotCovered` where an entry's point is in no range;
-    /// - `BadKind` where an entry's kind is neither 0 nor 1;
-    /// - `Trailing` where bytes follow the entry count.
+    /// - `Short` if the bytes end inside a field;
+    /// - `BadMagic` if the first 8 bytes are the magic of neither format;
+    /// - `BadRanges` if there are no ranges, or one breaks their rule;
+    /// - `BadLength` if the length of a key or value is not within its limits, or the entry count is wrong;
+    /// - `KeyOrder` if a key does not ascend;
+    /// - `NotCovered` if an entry's point is in no range;
+    /// - `BadKind` if an entry's kind is neither 0 nor 1;
+    /// - `Trailing` if bytes follow the entry count.
     pub fn decode(alloc: Global, bytes: &[u8]) -> Result<Part, Refusal>
         ensures found { IfOk result (λ part. IsPartFile part × IsPartText bytes.now part) }
         ensures only { (file : File) → IsPartFile file → IsPartText bytes.now file → Gives (λ part. part) result (Ok file) }
@@ -55,7 +55,7 @@ fn read_part(alloc: Global, bytes: &[u8]) -> Result<Part, Refusal>
     Ok(Part::from_lists(run, ranges, entries))
 }
 
-// What was read of a part.
+// The fields read of a part.
 #[derive(Drop)]
 struct FieldsOfPart {
     run: u64,
@@ -89,7 +89,7 @@ fn read_fields(alloc: Global, bytes: &[u8]) -> Result<FieldsOfPart, Refusal>
     })
 }
 
-/// What stands before the entries of a part: the format of its text, its run, and the points that it stands for as ranges.
+/// The header before the entries of a part: the format of its text, its run, and the points that it covers as ranges.
 #[derive(Drop)]
 pub struct PartHeader {
     pub format: Format,
@@ -97,8 +97,8 @@ pub struct PartHeader {
     pub ranges: Vec<Range>,
 }
 
-/// The header at the front of a part's text, and the bytes behind it. It takes memory for the ranges alone. Refuses with
-/// `OutOfMemory` only where memory ran out, else with `Short`, `BadMagic` or `BadRanges`, the first fault from the left.
+/// The header at the front of a part's text, and the bytes after it. It allocates memory for the ranges alone. Refuses with
+/// `OutOfMemory` only if an allocation failed, else with `Short`, `BadMagic` or `BadRanges`, the first fault from the left.
 #[tactic(auto, unfolding(crate::specs::Reading::header_at))]
 pub fn read_header(alloc: Global, bytes: &[u8]) -> Result<(PartHeader, &[u8]), Refusal>
     ensures read { Gives (λ x. ((x.0.format, (x.0.run, x.0.ranges.items)), x.1.now)) result (header_at bytes.now) }
@@ -119,7 +119,7 @@ pub fn read_header(alloc: Global, bytes: &[u8]) -> Result<(PartHeader, &[u8]), R
     Ok((header, rest))
 }
 
-// So many ranges, one after the other.
+// The given number of ranges, in order.
 fn read_ranges(alloc: Global, count: u32, bytes: &[u8]) -> Result<(Vec<Range>, &[u8]), Refusal>
     ensures read { Gives (λ x. (x.0.items, x.1.now)) result (ranges_at count 1 bytes.now) }
     ensures apart { IfOk result (λ x. RangesFrom 1 x.0.items) }
@@ -184,10 +184,10 @@ fn last_key(entries: &[Triple]) -> &[u8]
     }
 }
 
-/// The entry at the front of the bytes of a text in this format, whose key comes after the last one, or None at the end mark;
-/// and the bytes behind it. The last key is given by its space's two bytes and its own behind them; where it is empty, each key
-/// comes after it. It takes memory for long keys and values alone. Refuses with `OutOfMemory` only where memory ran out, else with
-/// `Short`, `BadLength`, `KeyOrder`, `NotCovered` or `BadKind`, the first fault from the left.
+/// The entry at the front of the bytes of a text in this format, whose key comes after the last one, or `None` at the end mark;
+/// and the bytes after it. The last key is given by its space's two bytes and its own after them; if it is empty, each key comes
+/// after it. It allocates memory for long keys and values alone. Refuses with `OutOfMemory` only if an allocation failed, else
+/// with `Short`, `BadLength`, `KeyOrder`, `NotCovered` or `BadKind`, the first fault from the left.
 #[tactic(auto, unfolding(crate::specs::Reading::next_entry_at))]
 pub fn read_next_entry<'a>(
     alloc: Global,
@@ -214,7 +214,7 @@ pub fn read_next_entry<'a>(
     Ok((Some(entry), rest))
 }
 
-// A key of so many bytes of its own that comes after the last one.
+// A key of the given number of bytes of its own that comes after the last one.
 #[tactic(auto, unfolding(crate::specs::Reading::next_key_at))]
 pub(crate) fn read_next_key<'a>(
     alloc: Global,

@@ -14,7 +14,7 @@ use std::io::Write;
 
 const MAGIC: [u8; 8] = *b"PCALCP02";
 
-// Stands where an entry would begin with the length of its key, which is never 0.
+// The end mark, in place of the length of a key, which is never 0.
 const END_MARK: [u8; 2] = [0; 2];
 
 // The kind of an entry without a value.
@@ -24,8 +24,8 @@ const TOMBSTONE: u8 = 0;
 const VALUE: u8 = 1;
 
 impl Part {
-    /// Writes the text of the part in format 02, from which `decode` reads the same part. It takes no memory, and refuses with
-    /// `Device` exactly where the device failed; then a beginning of the text went out, and not all of it.
+    /// Writes the text of the part in format 02, from which `decode` reads the same part. It allocates no memory, and refuses
+    /// with `Device` if and only if the device failed; then a prefix of the text went out, and not all of it.
     pub fn encode<W: Write>(&self, out: &mut Tally<W>) -> Result<(), Refusal>
         ensures text { Puts W.contents out.old out.new result (part_text self.now) }
         ensures lawful { OnOk result (IsPartFile self.now) }
@@ -41,8 +41,8 @@ impl Part {
     }
 }
 
-/// Writes what stands first in the text of a part: the magic, the run, and how many ranges follow. Refuses with `Device` exactly
-/// where the device failed; then a beginning went out, and not all.
+/// Writes the start of the text of a part: the magic, the run, and how many ranges follow. Refuses with `Device` if and only
+/// if the device failed; then a prefix went out, and not all of it.
 pub fn put_head<W: Write>(out: &mut Tally<W>, run: u64, count: u32) -> Result<(), Refusal>
     ensures { Puts W.contents out.old out.new result (head_text run count) }
 {
@@ -53,7 +53,7 @@ pub fn put_head<W: Write>(out: &mut Tally<W>, run: u64, count: u32) -> Result<()
     out.put_all(&[&MAGIC, &run_bytes, &count_bytes])
 }
 
-/// Writes the ranges of a part, which stand before its entries. Refuses as `put_head` does.
+/// Writes the ranges of a part, which come before its entries. Refuses as `put_head` does.
 pub fn put_ranges<W: Write>(out: &mut Tally<W>, ranges: &[Range]) -> Result<(), Refusal>
     ensures { Puts W.contents out.old out.new result (flat_map bounds_text ranges.now) }
 {
@@ -104,7 +104,7 @@ pub fn put_entry<W: Write>(out: &mut Tally<W>, entry: &LentTriple) -> Result<(),
     }
 }
 
-/// Writes what stands last in the text of a part: the end mark, and how many entries there were. Refuses as `put_head` does.
+/// Writes the end of the text of a part: the end mark, and how many entries there were. Refuses as `put_head` does.
 pub fn put_end<W: Write>(out: &mut Tally<W>, count: u32) -> Result<(), Refusal>
     ensures { Puts W.contents out.old out.new result (end_text count) }
 {

@@ -15,7 +15,7 @@ use pc_types::{Format, Key, Point, SPACE_BYTES, Tally, Triple, Value, pairs_are_
 use std::alloc::{AllocError, Global};
 use std::marker::Model;
 
-// The length of a key stands in so many bytes.
+// The size of the length of a key, in bytes.
 const LENGTH_BYTES: usize = 2;
 
 /// An entry of a part, kept as its text in format 02, whose memory can be used for another one. A contract sees the entry.
@@ -24,7 +24,7 @@ pub struct EntryText {
     text: Vec<u8>,
     // The head of its key.
     head: u64,
-    // Where its key ends.
+    // The end of its key.
     key_end: u16,
     point: u16,
 }
@@ -41,7 +41,7 @@ impl Model for EntryText {
 }
 
 impl EntryText {
-    /// The entry, kept in this memory. It fails only where memory ran out.
+    /// The entry, kept in this memory. It fails only if an allocation fails.
     pub fn of(memory: Vec<u8>, entry: &LentTriple) -> Result<EntryText, AllocError>
         ensures { IfOk result (λ kept. kept ≡ entry.now) }
     {
@@ -73,7 +73,7 @@ impl EntryText {
         }
     }
 
-    /// The bytes of its key, as `Key::as_bytes` has them: the space's two, and its own behind them.
+    /// The bytes of its key, as `Key::as_bytes` has them: the space's two, and its own after them.
     #[inline(always)]
     pub fn key(&self) -> &[u8]
         ensures bytes { result.now ≡ self.now.key }
@@ -99,7 +99,7 @@ impl EntryText {
         self.point
     }
 
-    /// What its key had at the point, a value or nothing.
+    /// The content of its key at the point, a value or nothing.
     #[inline(always)]
     pub fn value(&self) -> Option<&[u8]>
         ensures { option_map (λ value. value.now) result ≡ self.now.content }
@@ -126,7 +126,7 @@ impl EntryText {
         self.text
     }
 
-    /// The entry as a triple. It fails only where memory ran out.
+    /// The entry as a triple. It fails only if an allocation fails.
     pub fn triple(&self, alloc: Global) -> Result<Triple, AllocError>
         ensures { IfOk result (λ triple. triple ≡ self.now) }
     {
@@ -141,7 +141,7 @@ impl EntryText {
 }
 
 impl<'a> LentEntry<'a> {
-    /// The entry, kept in this memory. It fails only where memory ran out.
+    /// The entry, kept in this memory. It fails only if an allocation fails.
     #[inline(always)]
     pub fn keep(&self, memory: Vec<u8>) -> Result<EntryText, AllocError>
         ensures { IfOk result (λ kept. kept ≡ self.now) }
@@ -151,7 +151,7 @@ impl<'a> LentEntry<'a> {
         Ok(kept)
     }
 
-    // Its text in format 02, in this memory. It fails only where memory ran out.
+    // Its text in format 02, in this memory. It fails only if an allocation fails.
     #[inline(always)]
     fn text_in(&self, memory: Vec<u8>) -> Result<Vec<u8>, AllocError>
         ensures text { IfOk result (λ text. text.items ≡ triple_text self.now) }
@@ -166,7 +166,7 @@ impl<'a> LentEntry<'a> {
         Ok(text)
     }
 
-    // Where its key ends in its text in format 02.
+    // The end of its key in its text in format 02.
     #[inline(always)]
     fn key_end(&self) -> u16
         ensures { result ≡ 2 + length self.now.key }
@@ -178,7 +178,8 @@ impl<'a> LentEntry<'a> {
     }
 }
 
-// Appends the text of an entry in format 01, with space 0 behind the length of its key. It fails only where memory ran out.
+// Appends the text of an entry in format 01, with space 0 after the length of its key. It fails only if an allocation
+// fails.
 fn put_widened(text: &mut Vec<u8>, first: &[u8]) -> Result<(), AllocError>
     requires { 2 ≤ length first.now }
     ensures { OnOk result (text.new.items ≡ text.old.items ++ (take 2 first.now ++ (0 ∷ 0 ∷ drop 2 first.now))) }
@@ -188,7 +189,7 @@ fn put_widened(text: &mut Vec<u8>, first: &[u8]) -> Result<(), AllocError>
     text.extend_from_slice(&first[LENGTH_BYTES..])
 }
 
-// The key of these bytes, the space's two and its own behind them. It fails only where memory ran out.
+// The key of these bytes, the space's two and its own after them. It fails only if an allocation fails.
 fn key_of(alloc: Global, bytes: &[u8]) -> Result<Key, AllocError>
     requires { IsKey bytes.now }
     ensures { IfOk result (λ key. key ≡ bytes.now) }
@@ -201,7 +202,7 @@ fn key_of(alloc: Global, bytes: &[u8]) -> Result<Key, AllocError>
     }
 }
 
-// What a key has, of its own. It fails only where memory ran out.
+// An owned copy of a key's content. It fails only if an allocation fails.
 fn content_of(alloc: Global, value: Option<&[u8]>) -> Result<Option<Value>, AllocError>
     ensures { IfOk result (λ content. content ≡ option_map (λ bytes. bytes.now) value.entry) }
 {

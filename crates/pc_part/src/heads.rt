@@ -6,7 +6,7 @@ ghost use Rattle.pc_part.specs.Lent.{IsHead};
 
 use pc_types::SPACE_BYTES;
 
-// The head of a key, which is given by its space's two bytes and its own behind them.
+// The head of a key, which is given by its space's two bytes and its own after them.
 #[inline(always)]
 pub(crate) fn head_of(key: &[u8]) -> u64
     requires { SPACE_BYTES ≤ length key.now }
@@ -30,7 +30,7 @@ pub(crate) fn head_in_space_0(own: &[u8]) -> u64
     first_eight(own) / 2
 }
 
-// The first eight bytes as one number, the highest first, with zeros behind fewer.
+// The first eight bytes as one number, the highest first, with zeros after fewer.
 #[inline(always)]
 fn first_eight(bytes: &[u8]) -> u64
     ensures number { result ≡ spelled 8 0 bytes.now }

@@ -17,13 +17,13 @@ use pc_taken::{Entries, clashes, go_on, push_newest, side_of};
 use pc_types::{MOST_FILE_ENTRIES, Refusal, Triple};
 use std::alloc::{AllocError, Global};
 
-/// The join of two parts of one run: it stands for the points of both, and has of each key the entry of the greatest
-/// point, whether a value or a tombstone. Both parts stay as they are. Of several refusals the first counts:
+/// The join of two parts of one run: it covers the points of both, and has of each key the entry of the greatest point,
+/// whether a value or a tombstone. Both parts stay as they are. Of several refusals the first counts:
 ///
-/// - `OtherRun` exactly where the parts are of two runs;
-/// - `Conflict` exactly where some key has in both the same point and different contents;
-/// - `Full` exactly where the join would have more than 4,294,967,295 entries;
-/// - `OutOfMemory` only where memory ran out.
+/// - `OtherRun` if and only if the parts are of two runs;
+/// - `Conflict` if and only if some key has in both the same point and different contents;
+/// - `Full` if and only if the join would have more than 4,294,967,295 entries;
+/// - `OutOfMemory` only if an allocation failed.
 pub fn join(alloc: Global, a: &Part, b: &Part) -> Result<Part, Refusal>
     ensures joined { IfOk result (λ part. part ≡ joined_file a.now b.now) }
     ensures refused { IsRefusedBy (first_cause (join_causes (Some a.now) (Some b.now))) result }
@@ -36,7 +36,7 @@ pub fn join(alloc: Global, a: &Part, b: &Part) -> Result<Part, Refusal>
     Ok(Part::from_lists(a.run(), ranges, entries))
 }
 
-// The triples of both, of each key that of the greater point, where no two conflict and they are not too many.
+// The triples of both, of each key that of the greater point, if no two conflict and they are not too many.
 fn merge_entries(alloc: Global, a: &Entries, b: &Entries) -> Result<Vec<Triple>, Refusal>
     requires left { KeysRise (entries_of a.now) }
     requires right { KeysRise (entries_of b.now) }
@@ -55,7 +55,7 @@ fn merge_entries(alloc: Global, a: &Entries, b: &Entries) -> Result<Vec<Triple>,
     Ok(out)
 }
 
-// How many keys both have together; `Conflict` where two triples of one key clash.
+// The number of keys that both have together; `Conflict` if two triples of one key clash.
 fn joined_len(a: &Entries, b: &Entries) -> Result<usize, Refusal>
     requires { IsWithinLimit a.now × IsWithinLimit b.now }
     ensures { result ≡ (if is_empty (merged clash_at (entries_of a.now) (entries_of b.now)) then Ok (length (merged later (entries_of a.now) (entries_of b.now))) else Err Refusal.Conflict) }
@@ -72,7 +72,7 @@ fn joined_len(a: &Entries, b: &Entries) -> Result<usize, Refusal>
     Ok(len)
 }
 
-// The triples of both, of each key the newer one; they rise by key, as those of both do.
+// The triples of both, of each key the newer one; they ascend by key, as those of both do.
 fn merge(alloc: Global, a: &Entries, b: &Entries) -> Result<Vec<Triple>, AllocError>
     ensures { IfOk result (λ out. entries_of out.items ≡ merged later (entries_of a.now) (entries_of b.now)) }
 {

@@ -37,7 +37,7 @@ pub fn read_parts_are_texts()
     ensures { ReadPartsAreTexts }
 {}
 
-/// The text of a part file that is cut off anywhere is read as short.
+/// The text of a part file that is truncated anywhere is read as short.
 pub fn cut_part_texts_are_short()
     ensures { CutPartTextsAreShort }
 {}
@@ -57,7 +57,7 @@ pub fn read_bases_are_texts()
     ensures { ReadBasesAreTexts }
 {}
 
-/// The text of a base file that is cut off anywhere is read as short.
+/// The text of a base file that is truncated anywhere is read as short.
 pub fn cut_base_texts_are_short()
     ensures { CutBaseTextsAreShort }
 {}

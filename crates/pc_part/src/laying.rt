@@ -19,15 +19,15 @@ use pc_taken::{Entries, LentTriple};
 use pc_types::{Key, MOST_FILE_ENTRIES, Point, Refusal, Value};
 use std::alloc::{AllocError, Global};
 
-/// The base with a part of its run laid on it: each key whose entry has a point above the base's is set to the entry's
-/// value or, at a tombstone, removed; the others stay. It then stands at the part's greatest point, or stays at its own
-/// where that is greater. Both stay as they are. Of several refusals the first counts:
+/// The base with a part of its run applied to it: each key whose entry has a point above the base's is set to the
+/// entry's value or, at a tombstone, removed; the others stay. It is then at the part's greatest point, or stays at its
+/// own if that is greater. Both stay as they are. Of several refusals the first counts:
 ///
-/// - `OtherRun` exactly where both are of two runs;
-/// - `Gap(p)` exactly where p is the least point above the base's, and up to the part's greatest, for which the part
-///   doesn't stand;
-/// - `Full` exactly where more than 4,294,967,295 pairs would be left;
-/// - `OutOfMemory` only where memory ran out.
+/// - `OtherRun` if and only if both are of two runs;
+/// - `Gap(p)` if and only if p is the least point above the base's, and up to the part's greatest, which the part
+///   doesn't cover;
+/// - `Full` if and only if more than 4,294,967,295 pairs would be left;
+/// - `OutOfMemory` only if an allocation failed.
 pub fn lay(alloc: Global, base: &Base, part: &Part) -> Result<Base, Refusal>
     ensures laid { IfOk result (λ laid. laid ≡ laid_file base.now part.now) }
     ensures refused { IsRefusedBy (first_cause (lay_causes base.now part.now)) result }
@@ -50,7 +50,7 @@ fn greater(a: Point, b: Point) -> Point
     if a.0 < b.0 { b } else { a }
 }
 
-// The pairs of the database once the triples are laid on it at the point, where they are not too many.
+// The pairs of the database once the triples are applied to it at the point, if they are not too many.
 fn lay_entries<'a>(
     alloc: Global,
     point: Point,
@@ -72,7 +72,7 @@ fn lay_entries<'a>(
     Ok(out)
 }
 
-// How many pairs are left once the triples are laid on the pairs.
+// How many pairs are left once the triples are applied to the pairs.
 fn laid_len(point: Point, pairs: &[(Key, Value)], triples: &Entries) -> usize
     requires { IsWithinLimit triples.now }
     ensures { result ≡ length (merged (laid_there point) pairs.now (entries_of triples.now)) }
@@ -90,7 +90,7 @@ fn laid_len(point: Point, pairs: &[(Key, Value)], triples: &Entries) -> usize
     len
 }
 
-// The pairs that are left once the triples are laid on the pairs.
+// The pairs that are left once the triples are applied to the pairs.
 fn lay_in_order(
     alloc: Global,
     point: Point,
@@ -139,7 +139,7 @@ fn laid_item<'a>(
     }
 }
 
-// What a triple's key has once the triple is laid at the point on what it had.
+// The content of a triple's key once the triple is applied, at the point, to the content before.
 fn content_of<'a>(
     point: Point,
     there: Option<&'a Value>,

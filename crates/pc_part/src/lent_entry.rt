@@ -1,4 +1,4 @@
-//! The next entry of a part's text, lent where it lies.
+//! The next entry of a part's text, borrowed in place.
 ghost use Rattle.std.specs.Prelude.{◌≡◌, ◌∷◌, zero, IfOk, option_map};
 ghost use Rattle.std.specs.Ordering.{is_lt, nat_cmp};
 ghost use Rattle.std.specs.Cmp.Lexicographic.{slice_cmp};
@@ -16,13 +16,13 @@ use crate::ranges::Range;
 use pc_types::{Format, MOST_VALUE_BYTES, Refusal, read_bytes, read_key_text, read_u16, read_u32};
 use std::marker::Model;
 
-/// An entry of a part, lent from its text. A contract sees the entry.
+/// An entry of a part, borrowed from its text. A contract sees the entry.
 #[derive(Drop)]
 pub struct LentEntry<'a> {
     pub(crate) format: Format,
     // All of its text.
     pub(crate) text: &'a [u8],
-    // What stands of its key behind the length.
+    // The bytes of its key after the length.
     pub(crate) key: &'a [u8],
     pub(crate) point: u16,
     pub(crate) value: Option<&'a [u8]>,
@@ -41,10 +41,10 @@ impl<'a> Model for LentEntry<'a> {
     ghost invariant = { λ e. IsEntryIn e.format e.text.now (record { key = key_behind e.format e.key.now; point = e.point; content = option_map (λ value. value.now) e.value }) };
 }
 
-/// The entry at the front of the bytes of a text in this format, whose key comes after the last one, or None at the end mark;
-/// and the bytes behind it. The entry is lent. The last key is given by its space's two bytes and its own behind them, and by its
-/// head; where it is empty, its head is 0, and each key comes after it. It takes no memory. Refuses with `Short`, `BadLength`, `KeyOrder`, `NotCovered` or `BadKind`,
-/// the first fault from the left.
+/// The entry at the front of the bytes of a text in this format, whose key comes after the last one, or `None` at the end mark; and
+/// the bytes after it. The entry is borrowed. The last key is given by its space's two bytes and its own after them, and by its
+/// head; if it is empty, its head is 0, and each key comes after it. It allocates no memory. Refuses with `Short`, `BadLength`,
+/// `KeyOrder`, `NotCovered` or `BadKind`, the first fault from the left.
 #[tactic(auto, unfolding(crate::specs::Reading::next_entry_at))]
 #[inline(always)]
 pub fn lend_next_entry<'a>(
@@ -75,7 +75,7 @@ pub fn lend_next_entry<'a>(
     Ok((Some(entry), rest))
 }
 
-// What stands behind its length of a key of so many bytes of its own that comes after the last one.
+// The bytes after the length of a key with the given number of bytes of its own that comes after the last one.
 #[tactic(auto, unfolding(crate::specs::Reading::next_key_at))]
 #[inline(always)]
 fn lend_next_key<'a>(
@@ -95,7 +95,7 @@ fn lend_next_key<'a>(
     Ok((key, rest))
 }
 
-// Whether the key of which this stands behind the length comes after the last one: as their heads are where they differ, and else by
+// Whether the key with these bytes after its length comes after the last one: as their heads are if they differ, and otherwise by
 // the keys.
 #[inline(always)]
 #[tactic(auto, using(crate::proofs::LentLaws::heads_tell))]
@@ -111,7 +111,7 @@ fn comes_after(format: Format, key: &[u8], last: &[u8], last_head: u64) -> bool
     comes_after_by_bytes(format, key, last)
 }
 
-// The head of the key of which this stands behind the length.
+// The head of the key with these bytes after its length.
 #[inline(always)]
 fn head_in(format: Format, key: &[u8]) -> u64
     requires { IsKey (key_behind format key.now) }
@@ -123,7 +123,7 @@ fn head_in(format: Format, key: &[u8]) -> u64
     }
 }
 
-// Whether the key of which this stands behind the length comes after the last one, by all of their bytes.
+// Whether the key with these bytes after its length comes after the last one, by all of their bytes.
 #[inline(never)]
 fn comes_after_by_bytes(format: Format, key: &[u8], last: &[u8]) -> bool
     ensures { result ≡ is_lt (key_cmp last.now (key_behind format key.now)) }
@@ -160,7 +160,7 @@ fn lend_entry<'a>(
     Ok((point, value, rest))
 }
 
-// What a key has: a kind of 0 and nothing, or a kind of 1 and a value.
+// The content of a key: a kind of 0 and nothing, or a kind of 1 and a value.
 #[tactic(auto, unfolding(pc_types::specs::Fields::content_at))]
 #[inline(always)]
 fn lend_content(bytes: &[u8]) -> Result<(Option<&[u8]>, &[u8]), Refusal>

@@ -1,5 +1,5 @@
 //! The files of the store: the base, which is the database that a store starts from, and the parts, which the
-//! checkpoints make. Parts of one run are joined, and laid on a base.
+//! checkpoints make. Parts of one run are joined, and applied to a base.
 #![tactic(auto)]
 
 mod base;

@@ -15,9 +15,9 @@ use pc_types::{Items, Key, Point, Refusal, Triple, Value};
 use std::alloc::{AllocError, Global};
 use std::marker::Model;
 
-/// A part file: a run, the points of consistency that it stands for, and for each key that was written in their cycles
-/// the last such point, with what the key had there, a value or nothing. It has at most 4,294,967,295 entries. A
-/// contract sees it as its run, its set of points and its set of triples.
+/// A part file: a run, the points of consistency that it covers, and for each key that was written in their cycles the last such
+/// point, with what the key had there, a value or nothing. It has at most 4,294,967,295 entries. A contract sees it as its run, its
+/// set of points and its set of triples.
 #[derive(Drop)]
 pub struct Part {
     run: u64,
@@ -42,8 +42,8 @@ impl Model for Part {
 }
 
 impl Part {
-    /// The part of one point: each key that was taken for it, with what the key had there, a value or nothing. The
-    /// keys rise strictly, and are no more than a file may have, 4,294,967,295. Refuses with `OutOfMemory` alone.
+    /// The part of one point: each key that was taken for it, with what the key had there, a value or nothing. The keys ascend
+    /// strictly, and are no more than a file may have, 4,294,967,295. Refuses with `OutOfMemory` alone.
     pub fn of_point(
         alloc: Global,
         run: u64,
@@ -62,7 +62,7 @@ impl Part {
         Ok(Part::from_lists(run, ranges, entries))
     }
 
-    /// The part of the point without an entry. It fails only where memory ran out.
+    /// The part of the point without an entry. It fails only if an allocation fails.
     pub fn empty(alloc: Global, run: u64, point: Point) -> Result<Part, AllocError>
         requires { 1 ≤ point }
         ensures { IfOk result (λ part. part ≡ record { run = run; points = set.insert set.empty point; triples = map_of.empty }) }
@@ -72,8 +72,8 @@ impl Part {
         Ok(Part::from_lists(run, ranges, Vec::new(alloc)))
     }
 
-    /// Has what was taken of the point, one of its own, as its entries, in place of those that it had: keys that rise strictly, no
-    /// more than a file may have, 4,294,967,295. It stays where it stands, so that this takes a constant time and no memory.
+    /// Takes over the captured entries of the point, one of its own, in place of those that it had: keys that ascend strictly, no
+    /// more than a file may have, 4,294,967,295. It stays in place, so that this takes constant time and no memory.
     pub fn take_over(&mut self, point: Point, taken: Taken)
         requires rise { KeysRise taken }
         requires covered { IsTrue (set.contains self.old.points point) }
@@ -83,8 +83,8 @@ impl Part {
         self.entries = Entries::taken(point, taken);
     }
 
-    /// The part of these points with these entries: their keys rise strictly, each is of one of the points, and they are no more than
-    /// a file may have, 4,294,967,295.
+    /// The part of these points with these entries: their keys ascend strictly, each is of one of the points, and they are no more
+    /// than a file may have, 4,294,967,295.
     pub fn from_lists(run: u64, ranges: Vec<Range>, entries: Vec<Triple>) -> Part
         requires ranges { AreRanges ranges.items }
         requires rise { KeysRise (entries_of entries.items) }
@@ -99,7 +99,7 @@ impl Part {
         }
     }
 
-    /// A copy of the part. It fails only where memory ran out.
+    /// A copy of the part. It fails only if an allocation fails.
     pub fn copy(&self, alloc: Global) -> Result<Part, AllocError>
         ensures { IfOk result (λ copy. copy ≡ self.now) }
     {
@@ -119,8 +119,8 @@ impl Part {
         self.run
     }
 
-    /// The points that it stands for, as ranges: at least one, rising, with at least one point left out between two.
-    /// Points are 1 to 65,535.
+    /// The points that it covers, as ranges: at least one, ascending, with at least one point left out between two. Points are 1 to
+    /// 65,535.
     pub fn ranges(&self) -> &[Range]
         ensures apart { AreRanges result.now }
         ensures points { points_of result.now ≡ self.now.points }
@@ -129,7 +129,7 @@ impl Part {
         self.ranges.as_slice()
     }
 
-    /// The points, rising strictly; there is at least one. It fails only where memory ran out.
+    /// The points, ascending strictly; there is at least one. It fails only if an allocation fails.
     pub fn points(&self, alloc: Global) -> Result<Items<Point>, AllocError>
         ensures { IfOk result (λ points. points ≡ set.items self.now.points) }
     {
@@ -137,14 +137,14 @@ impl Part {
         Ok(Items::from_vec(points))
     }
 
-    /// The last point, where the points are all those from 1 to it.
+    /// The last point, if the points are all those from 1 to it.
     pub fn complete_to(&self) -> Option<Point>
         ensures { MatchOption result ((n : ℕ) → ¬ CoversTo self.now n) (CoversTo self.now) }
     {
         last_covered(&self.ranges)
     }
 
-    /// A pass over the entries, rising strictly by key, each of one of its points; at most 4,294,967,295.
+    /// A pass over the entries, ascending strictly by key, each of one of its points; at most 4,294,967,295.
     pub fn entries(&self) -> Pass<'_>
         ensures rise { KeysRise (entries_of result) }
         ensures covered { AreCovered self.now.points result }

@@ -12,7 +12,7 @@ pub struct Range {
     pub high: Point,
 }
 
-/// The points of the ranges, in their order. It fails only where memory ran out.
+/// The points of the ranges, in their order. It fails only if an allocation fails.
 pub fn points_in(alloc: Global, ranges: &[Range]) -> Result<Vec<Point>, AllocError>
     ensures { IfOk result (λ points. points.items ≡ points_in ranges.now) }
 {
@@ -23,7 +23,7 @@ pub fn points_in(alloc: Global, ranges: &[Range]) -> Result<Vec<Point>, AllocErr
     Ok(points)
 }
 
-/// The last point, where the ranges are one from 1 on.
+/// The last point, if the ranges are one from 1 on.
 pub(crate) fn last_covered(ranges: &[Range]) -> Option<Point>
     ensures { result ≡ last_covered (bounds_of ranges.now) }
 {

@@ -8,7 +8,7 @@ use crate::ranges::Range;
 use itertools::Itertools;
 use std::alloc::{AllocError, Global};
 
-/// The ranges of the points that are in either list. It fails only where memory ran out.
+/// The ranges of the points that are in either list. It fails only if an allocation fails.
 pub fn union_ranges(alloc: Global, a: &[Range], b: &[Range]) -> Result<Vec<Range>, AllocError>
     requires left { AreRanges a.now }
     requires right { AreRanges b.now }
@@ -22,7 +22,7 @@ pub fn union_ranges(alloc: Global, a: &[Range], b: &[Range]) -> Result<Vec<Range
     Ok(out)
 }
 
-// Adds the range behind the others; where no point is left out before it, the last one is widened by it instead.
+// Adds the range after the others; if no point is left out before it, the last one is widened by it instead.
 fn add_range(ranges: &mut Vec<Range>, range: Range) -> Result<(), AllocError>
     ensures { OnOk result (ranges.new.items ≡ with_range ranges.old.items range) }
 {

@@ -21,7 +21,7 @@ use Rattle.pc_phase.proofs.PhaseLaws.{phase_stays, point_stays}
 abbrev count : (ℕ → Bool) → ℕ → ℕ
 count test n = length (filter test (numbers_to n))
 
--- 1 where it is so, else 0
+-- 1 if it is so, else 0
 abbrev one_if : Bool → ℕ
 one_if b = cond b 1 0
 

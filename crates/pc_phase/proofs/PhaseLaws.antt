@@ -1,4 +1,4 @@
--- What setting a count leaves of the phases, and what a wait of so many is answered.
+-- What setting a count leaves of the phases, and the reply to a wait of that many.
 use Rattle.std.proofs.Common.{◌≡◌, ℕ, ◌==◌, not, Bool, true, false, [], ◌∷◌, Option, Some, None, refl}
 use Rattle.std.specs.Prelude.{option_map, if◌then◌else◌}
 use Rattle.pc_types.specs.declared.Class.{Class}
@@ -22,13 +22,13 @@ point_stays phases Before n = refl
 point_stays phases During n = refl
 point_stays phases After n = refl
 
--- none or some stand in the way
+-- none or some hold it back
 some_agree : (none : Bool) (count : ℕ) (later : Option Reply) →
     or_else (if none then None else Some (told.NotYet count)) later ≡ or_else (option_map reply_of (if none then None else Some (NotYet count))) later
 some_agree true count later = refl
 some_agree false count later = refl
 
--- so many stand in the way
+-- that many hold it back
 pub count_agrees : (is : Bool) (count : ℕ) (later : Option Reply) →
     or_else (first_refusal ((not is, why.WrongPhase) ∷ [])) (or_else (not_yet count) later) ≡ or_else (option_map reply_of (if is then some_left count else Some WrongPhase)) later
 count_agrees false count later = refl

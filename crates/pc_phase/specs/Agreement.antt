@@ -1,4 +1,4 @@
--- How the table of changes agrees with the rules of replies.
+-- The agreement of the table of changes with the rules of replies.
 use Rattle.std.specs.Prelude.{◌≡◌, ℕ, ◌==◌, Bool, true, false, List, [], ◌∷◌, length, option_map}
 use Rattle.pc_types.specs.declared.Class.{Class}
 use Rattle.pc_types.specs.declared.Event.{Event}
@@ -28,7 +28,7 @@ event_of change.OpenCapture = asked.OpenCapture
 event_of change.Done = asked.Done
 event_of change.Rest = asked.Rest
 
--- how it is told what holds a change back
+-- how the cause that holds a change back is returned
 abbrev pub reply_of : Held → Reply
 reply_of WrongPhase = told.Refused why.WrongPhase
 reply_of PointsFull = told.Refused why.PointsFull
@@ -40,12 +40,12 @@ pub record AreOf (st : Setting) (history : History) (phases : Phases) : Type 0 w
   pub point : phases.point ≡ point_of history
   pub active : (class : Class) → active_of phases class ≡ active_in st class history
 
--- the causes that are asked for where nothing holds the change back: at Done the shelf's, and then the log's
+-- the causes that are asked for if nothing holds the change back: at Done the shelf's, and then the log's
 abbrev pub later_causes : Setting → Change → History → List (Bool × Refusal)
 later_causes st change.Done history = (length (shelf st.run history) == MOST_FILES, why.ShelfFull) ∷ (log_is_full history, why.LogFull) ∷ []
 later_causes st other history = (log_is_full history, why.LogFull) ∷ []
 
--- where the counts are those of the history, the reply that is certain is what holds the change back, or else a later cause
+-- if the counts are those of the history, the reply that is certain is what holds the change back, or else a later cause
 abbrev pub HeldBackIsCertain : Type 0
 HeldBackIsCertain =
     (st : Setting) (history : History) (phases : Phases) (change : Change) → AreOf st history phases →

@@ -25,7 +25,7 @@ active_of phases Before = phases.before
 active_of phases During = phases.during
 active_of phases After = phases.after
 
--- the same, but so many of the class are active
+-- the same, but with that many active of the class
 abbrev pub with_active : Phases → Class → ℕ → Phases
 with_active phases Before count = record phases { before = count }
 with_active phases During count = record phases { during = count }
@@ -55,7 +55,7 @@ to_of change.OpenCapture = phase.Capture
 to_of change.Done = phase.Complete
 to_of change.Rest = phase.Rest
 
--- how many stand in the way of the change: active transactions, or, at Done, keys that are left to take
+-- the number of obstacles to the change: active transactions, or, at Done, keys that are left to take
 abbrev pub count_of : Change → Phases → ℕ → ℕ
 count_of change.StartPoint phases left = 0
 count_of change.Seal phases left = phases.before
@@ -63,22 +63,22 @@ count_of change.OpenCapture phases left = phases.during
 count_of change.Done phases left = left
 count_of change.Rest phases left = phases.after
 
--- the change begins a point, and there is none behind this one
+-- the change begins a point, and there is none after this one
 abbrev pub lacks_point : Change → ℕ → Bool
 lacks_point change.StartPoint point = point == MOST_POINTS
 lacks_point other point = false
 
--- the point after the change: the next one where it begins a point
+-- the point after the change: the next one if it begins a point
 abbrev pub point_after : Change → ℕ → ℕ
 point_after change.StartPoint point = point + 1
 point_after other point = point
 
--- NotYet, where some are left
+-- NotYet, if some are left
 abbrev pub some_left : ℕ → Option Held
 some_left count = if count == 0 then None else Some (NotYet count)
 
--- what holds the change back, where so many keys are left to take: that the phase is another, or else that no point is
--- left, or else those that stand in the way
+-- what holds the change back, if that many keys are left to take: that the phase is another, or else that no point is
+-- left, or else the obstacles
 abbrev pub held_back : Phases → Change → ℕ → Option Held
 held_back phases change left =
     if same_phase phases.phase (from_of change) then (if lacks_point change phases.point then Some PointsFull else some_left (count_of change phases left)) else Some WrongPhase

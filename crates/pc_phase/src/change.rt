@@ -19,14 +19,14 @@ pub enum Change {
     Rest,
 }
 
-/// What holds a change back.
+/// The obstacle to a change.
 #[derive(Clone, Copy, Debug, PartialEq, Eq)]
 pub enum Held {
     /// The change begins in another phase.
     WrongPhase,
     /// The last point was taken, and there is no next one.
     PointsFull,
-    /// So many transactions are still active, or, at Done, so many keys left to take; never 0.
+    /// The number of transactions still active, or, at Done, of keys left to take; never 0.
     NotYet(u32),
 }
 
@@ -57,7 +57,7 @@ impl Change {
         }
     }
 
-    // Whether it begins a point and there is none behind this one.
+    // Whether it begins a point and there is none after this one.
     pub(crate) fn lacks_point(self, point: Point) -> bool
         ensures { result ≡ lacks_point self point }
     {
@@ -67,7 +67,7 @@ impl Change {
         }
     }
 
-    // The point after it: the next one where it begins a point.
+    // The point after it: the next one if it begins a point.
     pub(crate) fn point_after(self, point: Point) -> Point
         requires { point_after self point ≤ MOST_POINTS }
         ensures { result ≡ point_after self point }

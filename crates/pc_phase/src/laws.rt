@@ -1,7 +1,7 @@
 //! Laws of the definitions. Each function does nothing, and its contract is a law.
 ghost use Rattle.pc_phase.specs.Agreement.{HeldBackIsCertain, ChangesStayOf, BeginsStayOf, EndsStayOf, StartsOf, OthersStayOf};
 
-/// Where the phase, the point and the counts are those of a history, the store's certain reply to a change is what holds it
+/// If the phase, the point and the counts are those of a history, the store's certain reply to a change is what holds it
 /// back, or else that the shelf or the log is full.
 pub fn held_back_is_certain()
     ensures { HeldBackIsCertain }

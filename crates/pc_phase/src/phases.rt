@@ -54,7 +54,7 @@ impl Phases {
         *phase
     }
 
-    /// The last point that was begun, from 1 to 65,535; 0 where none was.
+    /// The last point that was begun, from 1 to 65,535; 0 if none was.
     pub fn point(&self) -> Point
         ensures { result ≡ self.now.point }
     {
@@ -62,7 +62,7 @@ impl Phases {
         *point
     }
 
-    /// How many transactions of the class are active.
+    /// The number of active transactions of the class.
     pub fn active(&self, class: Class) -> u32
         ensures { result ≡ active_of self.now class }
     {
@@ -103,7 +103,7 @@ impl Phases {
         }
     }
 
-    // How many stand in the way of the change, where so many keys of the point are left to take.
+    // The number of obstacles to the change, if that many keys of the point are left to take.
     fn count(&self, change: Change, left: u32) -> u32
         ensures { result ≡ count_of change self.now left }
     {
@@ -116,9 +116,9 @@ impl Phases {
         }
     }
 
-    /// What holds the change back, where so many keys of the point are left to take; None where it is allowed. `left` counts
-    /// at Done alone. `WrongPhase` where the phase is another, else `PointsFull` where a cycle would begin behind the point
-    /// 65,535, else `NotYet` with how many transactions, or keys, stand in the way.
+    /// The obstacle to the change, if that many keys of the point are left to take; `None` if it is allowed. `left` counts
+    /// at Done alone. `WrongPhase` if the phase is another, else `PointsFull` if a cycle would begin after the point
+    /// 65,535, else `NotYet` with the number of transactions, or keys, that hold it back.
     pub fn held_back(&self, change: Change, left: u32) -> Option<Held>
         ensures { result ≡ held_back self.now change left }
     {
@@ -131,8 +131,8 @@ impl Phases {
         not_yet(self.count(change, left))
     }
 
-    /// Changes the phase, and at StartPoint the point to the next one, where nothing holds it back. Else it gives what does,
-    /// and nothing changed. The active transactions stay as they are.
+    /// Changes the phase, and at StartPoint the point to the next one, if nothing holds it back. Otherwise it gives what
+    /// does, and nothing changed. The active transactions stay as they are.
     pub fn advance(&mut self, change: Change, left: u32) -> Result<(), Held>
         ensures allowed { IsOk result ↔ (held_back self.old change left ≡ None) }
         ensures ok { OnOk result (self.new ≡ advanced self.old change) }

@@ -5,7 +5,7 @@ use std::io;
 use std::io::Write;
 use std::sync::atomic::{AtomicU8, AtomicU64, Ordering};
 
-/// The refusals for which a transaction can be given up, in the order in which they are told.
+/// The refusals for which a transaction can be given up, in the order in which they are printed.
 const REFUSALS: [Refusal; 30] = [
     Refusal::OutOfMemory,
     Refusal::Full,
@@ -39,17 +39,17 @@ const REFUSALS: [Refusal; 30] = [
     Refusal::Device,
 ];
 
-/// How a transaction that died each time it was begun is told.
+/// The word for a transaction that died each time it was begun.
 const DIED_NAME: &str = "died";
 
-/// The place of no cause; those of the refusals stand behind that of a death.
+/// The place of no cause; those of the refusals come after that of a death.
 const NO_CAUSE: u8 = 0;
 
 const DEATH: u8 = 1;
 
 const FIRST_REFUSAL: u8 = 2;
 
-/// How many transactions were given up, by what the last attempt of each has met.
+/// The number of transactions given up, by the outcome of the last attempt of each.
 #[derive(Drop)]
 pub struct Causes {
     // By the number of a session: the place of what the transaction has met that it has begun last.

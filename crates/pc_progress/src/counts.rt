@@ -1,4 +1,4 @@
-//! What is counted of a run while it runs.
+//! The counts of a run while it runs.
 use crate::causes::Causes;
 use pc_types::{GatePlace, MOST_SESSIONS, Phase, Refusal, SessionNo};
 use std::alloc::{AllocError, Global};
@@ -6,8 +6,8 @@ use std::io;
 use std::io::Write;
 use std::sync::atomic::{AtomicU64, Ordering};
 
-/// How often the loops of a run passed their places, and the longest times between two of them. Times are in microseconds, from a
-/// moment before the run; none is 0.
+/// The numbers of times that the loops of a run passed their places, and the longest times between two of them. Times are in
+/// microseconds, from a moment before the run; none is 0.
 #[derive(Drop)]
 pub struct Counts {
     commits: AtomicU64,
@@ -18,7 +18,7 @@ pub struct Counts {
     joins: AtomicU64,
     // The changes of the phase, each of which has an entry in the log.
     tokens: AtomicU64,
-    // How many entries of the log are written.
+    // The number of entries of the log written.
     written: AtomicU64,
     // When the first place was passed.
     begun: AtomicU64,
@@ -29,7 +29,7 @@ pub struct Counts {
     longest_pause: AtomicU64,
     longest_wait: AtomicU64,
     // By the number of a session: when its open transaction has passed its last place, or its client has begun to wait for the log;
-    // else 0.
+    // otherwise 0.
     passed: Vec<AtomicU64>,
 }
 
@@ -89,7 +89,7 @@ impl Counts {
         }
     }
 
-    /// The session's transaction was refused for this; where it is given up before a further one begins, that is the cause.
+    /// The session's transaction was refused for this; if it is given up before a further one begins, that is the cause.
     pub fn note_refusal(&self, session: SessionNo, why: Refusal) {
         self.causes.note_refusal(session, why);
     }
@@ -111,7 +111,7 @@ impl Counts {
         }
     }
 
-    // The session's client waits for the log: where no transaction is open, from now on.
+    // The session's client waits for the log: if no transaction is open, from now on.
     fn fall_behind(&self, session: SessionNo, now: u64) {
         if let Some(passed) = self.passed.get(session.0 as usize) {
             let _ = passed.compare_exchange(0, now, Ordering::SeqCst, Ordering::SeqCst);
@@ -144,7 +144,7 @@ impl Counts {
         self.ended.fetch_max(now, Ordering::SeqCst);
     }
 
-    /// How long ago the run has begun, which it does at the latest with this call.
+    /// The time since the begin of the run, which begins at the latest with this call.
     pub fn since_begin(&self, now: u64) -> u64 {
         let begun = self.begun.load(Ordering::SeqCst);
         if begun > 0 {
@@ -159,7 +159,7 @@ impl Counts {
         }
     }
 
-    /// How long ago the run has begun; none where it has not.
+    /// The time since the begin of the run; `None` if it has not begun.
     pub fn age(&self, now: u64) -> Option<u64> {
         match self.begun.load(Ordering::SeqCst) {
             0 => None,
@@ -167,7 +167,7 @@ impl Counts {
         }
     }
 
-    /// How long the run took, from its first place to the last commit, change of the phase or writing of the log; none where it
+    /// The duration of the run, from its first place to the last commit, change of the phase or writing of the log; `None` if it
     /// passed no place.
     pub fn length(&self) -> Option<u64> {
         let begun = self.begun.load(Ordering::SeqCst);
@@ -179,22 +179,22 @@ impl Counts {
         Some(ended.max(committed).saturating_sub(begun))
     }
 
-    /// How many transactions committed.
+    /// The number of transactions that committed.
     pub fn commits(&self) -> u64 {
         self.commits.load(Ordering::SeqCst)
     }
 
-    /// How many transactions died.
+    /// The number of transactions that died.
     pub fn deaths(&self) -> u64 {
         self.deaths.load(Ordering::SeqCst)
     }
 
-    /// How many transactions were given up.
+    /// The number of transactions given up.
     pub fn given_up(&self) -> u64 {
         self.given_up.load(Ordering::SeqCst)
     }
 
-    /// How many points have their parts on the shelf.
+    /// The number of points that have their parts on the shelf.
     pub fn points(&self) -> u64 {
         self.points.load(Ordering::SeqCst)
     }

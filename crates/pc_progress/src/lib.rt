@@ -1,4 +1,4 @@
-//! How far a run is, and what is counted of it.
+//! The progress of a run, and its counts.
 #![tactic(auto)]
 
 mod causes;

@@ -1,4 +1,4 @@
-//! How far a run is, shown on a terminal, and what is told of it in the end.
+//! The progress of a run, shown on a terminal, and its final report.
 use crate::counts::Counts;
 use crate::times::Times;
 use pc_types::{Gate, GatePlace, Refusal, SessionNo};
@@ -7,24 +7,24 @@ use std::sync::{Mutex, Wait};
 use std::time::{Duration, Instant};
 use std::{io, thread};
 
-/// So many milliseconds pass before the line is shown, and between two times.
+/// The milliseconds before the line is shown first, and between two updates.
 const PAUSE: u64 = 10;
 
-/// What is asked to be counted of a run.
+/// The counts that are asked for.
 #[derive(Clone, Copy)]
 pub struct Asked {
-    /// Whether nothing is to be shown on a terminal while it runs.
+    /// Whether to show nothing on a terminal while it runs.
     pub is_quiet: bool,
     /// Whether it writes a log.
     pub has_log: bool,
-    /// Whether a report is to be printed in the end.
+    /// Whether to print a report in the end.
     pub is_reported: bool,
     /// Whether the commits are counted by hundredths of a second.
     pub is_timed: bool,
 }
 
-/// Counts what the loops of a run pass, where that is asked for or is shown on a terminal; else nothing is counted, so that the
-/// threads have no count in common. A loop that passes counts, and never waits for the terminal: a thread of its own shows the line.
+/// Counts what the loops of a run pass, if that is asked for or is shown on a terminal; otherwise nothing is counted, so that the threads
+/// have no count in common. A loop that passes counts, and never waits for the terminal: a thread of its own shows the line.
 #[derive(Drop)]
 pub struct Progress<'a> {
     rt: &'a HostRuntime,
@@ -44,8 +44,8 @@ struct Counting {
 #[derive(Drop)]
 struct TerminalLine {
     has_log: bool,
-    // Whoever prints the line has the lock meanwhile, and it is printed only where it hasn't ended. So nothing of it comes behind its end,
-    // and who ends it waits at most until the thread that shows it has printed it once.
+    // Whoever prints the line has the lock meanwhile, and it is printed only if it hasn't ended. So nothing of it comes after its end, and
+    // who ends it waits at most until the thread that shows it has printed it once.
     state: Mutex<LineState>,
 }
 
@@ -57,7 +57,7 @@ enum LineState {
 }
 
 impl<'a> Progress<'a> {
-    /// Nothing has been done. It is an error where memory ran out, or the system has no clock.
+    /// Nothing has been done. It is an error if an allocation fails, or the system has no clock.
     pub fn new(rt: &'a HostRuntime, asked: Asked) -> io::Result<Progress<'a>> {
         let is_shown = !asked.is_quiet && rt.stderr().is_terminal();
         if !is_shown && !asked.is_reported && !asked.is_timed {
@@ -87,7 +87,7 @@ impl<'a> Progress<'a> {
         Ok(Progress { rt, counting })
     }
 
-    /// Whether a line is to be shown on a terminal.
+    /// Whether to show a line on a terminal.
     pub fn is_shown(&self) -> bool {
         self.line().is_some()
     }
@@ -111,7 +111,7 @@ impl<'a> Progress<'a> {
         }
     }
 
-    /// Ends the line on the terminal, where one is shown, for good.
+    /// Ends the line on the terminal, if one is shown, for good.
     pub fn end<R: Wait>(&self, rt: &R) {
         if let Some((counting, line)) = self.line() {
             line.end(self.rt, rt, &counting.counts);
@@ -127,14 +127,14 @@ impl<'a> Progress<'a> {
         }
     }
 
-    /// The session's transaction was refused for this; where it is given up, `put_report` tells it.
+    /// The session's transaction was refused for this; if it is given up, `put_report` reports it.
     pub fn note_refusal(&self, session: SessionNo, why: Refusal) {
         if let Some(counting) = &self.counting {
             counting.counts.note_refusal(session, why);
         }
     }
 
-    /// Writes the lines of the report, and behind them, for each cause for which transactions were given up, how many.
+    /// Writes the lines of the report, and after them, for each cause for which transactions were given up, how many.
     pub fn put_report<W: Write>(&self, out: &mut W) -> io::Result<()> {
         let Some(counting) = &self.counting else {
             return Ok(());
@@ -206,14 +206,14 @@ impl Counting {
         Some(u64::try_from(elapsed.as_micros()).ok()?.saturating_add(1))
     }
 
-    // How many microseconds ago the run has begun; none where it has not.
+    // The microseconds since the begin of the run; `None` if it has not begun.
     fn age(&self, rt: &HostRuntime) -> Option<u64> {
         self.counts.age(self.now(rt)?)
     }
 }
 
 impl TerminalLine {
-    // Shows how far the run is, where it has begun long enough ago; whether the line hasn't ended.
+    // Shows how far the run is, if it has begun long enough ago; whether the line hasn't ended.
     fn show<R: Wait>(&self, host: &HostRuntime, rt: &R, counting: &Counting) -> bool {
         let mut state = self.state.lock(rt);
         if let LineState::Ended = *state {
@@ -226,7 +226,7 @@ impl TerminalLine {
         true
     }
 
-    // Prints the last counts where the line was shown, and ends it.
+    // Prints the last counts if the line was shown, and ends it.
     fn end<R: Wait>(&self, host: &HostRuntime, rt: &R, counts: &Counts) {
         let mut state = self.state.lock(rt);
         if let LineState::Shown = *state {
@@ -253,12 +253,12 @@ impl TerminalLine {
     }
 }
 
-// So many microseconds, in milliseconds of which a begun one counts.
+// Microseconds in milliseconds, rounded up.
 fn milliseconds(micros: u64) -> u64 {
     micros.saturating_add(999) / 1_000
 }
 
-/// A writer before whose first bytes the line on the terminal is ended, where the run has begun: nothing of it comes behind them.
+/// A writer before whose first bytes the line on the terminal is ended, if the run has begun: nothing of it comes after them.
 #[derive(Drop)]
 pub struct Behind<'a, W, R: Wait> {
     progress: &'a Progress<'a>,
@@ -267,7 +267,7 @@ pub struct Behind<'a, W, R: Wait> {
 }
 
 impl<'a, W, R: Wait> Behind<'a, W, R> {
-    /// What is written goes on to the writer.
+    /// All writes go on to the writer.
     pub fn new(progress: &'a Progress<'a>, waits: &'a R, inner: W) -> Behind<'a, W, R> {
         Behind {
             progress,

@@ -1,17 +1,17 @@
-//! How many transactions committed in each hundredth of a second of a run.
+//! The number of transactions that committed in each hundredth of a second of a run.
 use pc_types::{GatePlace, Phase};
 use std::alloc::{AllocError, Global};
 use std::io;
 use std::io::Write;
 use std::sync::atomic::{AtomicU8, AtomicU32, Ordering};
 
-/// How many hundredths of a second are counted: an hour. What is later is not.
+/// The number of hundredths of a second that are counted: an hour. Later ones are not.
 const HUNDREDTHS: usize = 360_000;
 
-/// So many microseconds are a hundredth of a second.
+/// The microseconds of a hundredth of a second.
 const LENGTH: u64 = 10_000;
 
-/// What the file begins with.
+/// The first line of the file.
 const HEADING: &str =
     "# hundredths of a second from the begin of the run; commits in this one; the phase at its end";
 
@@ -54,7 +54,7 @@ impl Times {
         Ok(Times { slots })
     }
 
-    /// Counts the place, which was passed so many microseconds from the begin.
+    /// Counts the place, which was passed the given number of microseconds after the begin.
     pub fn note(&self, place: &GatePlace, since: u64) {
         let Some(slot) = self.slot(since) else {
             return;
@@ -75,7 +75,8 @@ impl Times {
         }
     }
 
-    /// Writes a line for each hundredth of a run of this length in microseconds, behind the heading; none where it has none.
+    /// Writes a line for each hundredth of a run of this length in microseconds, after the heading; no line if it has
+    /// none.
     pub fn put<W: Write>(&self, length: Option<u64>, out: &mut W) -> io::Result<()> {
         writeln!(out, "{HEADING}")?;
         let Some(length) = length else {
@@ -97,7 +98,7 @@ impl Times {
 }
 
 impl Hundredth {
-    // The phase at its end, where this one was at its begin.
+    // The phase at its end, if this one was at its begin.
     fn phase_behind(&self, before: Phase) -> Phase {
         match PHASES.get(usize::from(self.entered.load(Ordering::SeqCst))) {
             Some(phase) => *phase,

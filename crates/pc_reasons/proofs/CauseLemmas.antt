@@ -30,7 +30,7 @@ record Split (lines : List (List ℕ)) (number : ℕ) : Type 0 where
 some_same : {A : Type 0} (x y : A) → Some x ≡ Some y → x ≡ y
 some_same x y e = cc
 
--- the first line of those that are left, or one behind it
+-- the first line of those that are left, or one after it
 here_or_later : (before : List (List ℕ)) (line : List ℕ) (left : List (List ℕ)) (number : ℕ) (b : Bool)
     → is_bad (map spelled before) (spelled line) (map spelled left) ≡ b
     → (if b then Some (length (map spelled before) + 1) else first_bad (map spelled before ++ spelled line ∷ []) (map spelled left)) ≡ Some number
@@ -49,7 +49,7 @@ split before (line ∷ left) number e =
     here_or_later before line left number (is_bad (map spelled before) (spelled line) (map spelled left)) refl e
     (split (before ++ line ∷ []) left number)
 
--- what is told of the line of that number
+-- the reason for the line of that number
 fault_there : (before : List (List ℕ)) (line : List ℕ) (behind : List (List ℕ)) (number : ℕ) → number ≡ length before + 1
     → fault_at (before ++ line ∷ behind) number ≡ fault_of (list_any is_client_line before) (role_of line)
 fault_there before line behind number at =

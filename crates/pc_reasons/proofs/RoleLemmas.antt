@@ -1,4 +1,4 @@
--- What a line of a workload is told to be, and what it spells.
+-- The reported role of a line of a workload, and its meaning.
 use Rattle.std.proofs.Common.{◌≡◌, ℕ, ℤ, Bool, true, false, List, [], ◌∷◌, map, refl, sym, ap, ◌∙◌, subst}
 use Rattle.std.specs.Prelude.{Option, Some, None, is_some, ◌||◌, if◌then◌else◌, codes}
 use Rattle.std.specs.List.{list_any}

@@ -1,4 +1,4 @@
--- A line of a script has a fault where it is a bad line, and nowhere else.
+-- A line of a script has a fault if it is a bad line, and nowhere else.
 use Rattle.std.proofs.Common.{◌≡◌, ℕ, ℤ, ◌+◌, ◌<◌, Bool, true, false, List, [], ◌∷◌, ◌++◌, length, get_or, drop, Result, Ok, Err, refl, sym, ap, ◌∙◌, append_assoc}
 use Rattle.std.proofs.lemmas.List.{drop_more}
 use Rattle.std.specs.Prelude.{Option, Some, None, is_some, IsSome, IfOk, ◌↔◌, if◌then◌else◌, codes}
@@ -14,7 +14,7 @@ use Rattle.pc_reasons.specs.LineFaults.{first_of, ends_with_cr, told_of}
 use Rattle.pc_reasons.specs.Scripts.{command_fault, words_fault, script_fault, with_bad_line, bad_lines, is_malformed}
 use Rattle.pc_reasons.proofs.WordLemmas.{either}
 
--- the first word and those behind it are told alike here and there
+-- the first word and those after it are split alike here and there
 abbrev pub Agrees : List (List ℕ) → List ℕ → Type 0
 Agrees words verb = is_some (command_fault verb words) ≡ is_malformed (spelled_by (verb ∷ words))
 
@@ -23,7 +23,7 @@ sound : (b : Bool) (x y : Line) → is_malformed x ≡ false → is_malformed y 
 sound true x y e f = sym e
 sound false x y e f = sym f
 
--- the fault of a word, where it is no such word
+-- the fault of a word, if it is no such word
 abbrev fault_unless : Bool → LineFault → Option LineFault
 fault_unless b f = if b then None else Some f
 

@@ -1,4 +1,4 @@
--- What holds of a line that is bad for a reason, by the rules of workloads alone.
+-- The meaning of the reasons for a bad line, by the rules of workloads alone.
 use Rattle.std.specs.Prelude.{◌≡◌, ◌⊎◌, ◌+◌, ℕ, true, false, List, ◌∷◌, ◌++◌, Option, IsSomeAnd, length}
 use Rattle.std.specs.List.{list_any}
 use Rattle.pc_jobs.specs.declared.works.Op.{Op}
@@ -9,7 +9,7 @@ use Rattle.pc_jobs.specs.Workloads.{is_points, is_client, is_client_of, is_open,
 use Rattle.pc_reasons.specs.declared.workloads.WorkloadFault.{WorkloadFault}
 use Rattle.pc_reasons.specs.declared.workloads.WorkloadFault.TheVariants as work
 
--- the reason holds of a line between those before it and those behind it
+-- the reason holds of a line between those before it and those after it
 abbrev pub IsCause : List Phrase → Phrase → List Phrase → WorkloadFault → Type 0
 IsCause before line behind (work.Line fault) = line ≡ phrase.Malformed
 IsCause before line behind work.PointsAgain = (is_points line ≡ true) × (list_any is_points before ≡ true)

@@ -1,4 +1,4 @@
--- What is wrong with the words of a line.
+-- The faults of the words of a line.
 use Rattle.std.specs.Prelude.{ℕ, ◌-◌, ◌==◌, Bool, List, [], ◌∷◌, Option, Some, None, if◌then◌else◌, is_some, length, slice_index}
 use Rattle.pc_types.specs.declared.limits.TheConstants.{MOST_SESSIONS}
 use Rattle.pc_lines.specs.Words.{number_of, signed_number_of, text_of, key_text_of}
@@ -29,7 +29,7 @@ is_of kind.WholeValue word = is_some (value_of word)
 is_of kind.KeyPrefix word = is_some (prefix_of word)
 is_of kind.FillCount word = is_within 1 MOST_FILL word
 
--- the fault of a word at this place that is to be of this kind
+-- the fault of a word at this place whose expected kind is this
 abbrev pub word_fault : WordPlace → WordKind → List ℕ → Option LineFault
 word_fault place kind word = if is_of kind word then None else Some (line.WrongWord place kind)
 
@@ -42,7 +42,7 @@ first_of None other = other
 abbrev pub pair_fault : WordKind → WordKind → List ℕ → List ℕ → Option LineFault
 pair_fault first second word other = first_of (word_fault place.Second first word) (word_fault place.Third second other)
 
--- the fault of the words behind a command that takes none
+-- the fault of the words after a command that takes none
 abbrev pub no_word : List (List ℕ) → Option LineFault
 no_word [] = None
 no_word words = Some line.TooManyWords
@@ -72,7 +72,7 @@ three_words first second third words = Some line.TooManyWords
 abbrev pub ends_with_cr : List ℕ → Bool
 ends_with_cr line = slice_index line (length line - 1) == 13
 
--- what is told of a line with this fault: of one that ends with a CR, that
+-- the reason for a line with this fault: for one that ends with a CR, that
 abbrev pub told_of : List ℕ → Option LineFault → Option LineFault
 told_of text None = None
 told_of text (Some fault) = if ends_with_cr text then Some line.CarriageReturn else Some fault

@@ -16,19 +16,19 @@ is_lone verb =
     bytes_eq verb (codes "point") || bytes_eq verb (codes "seal") || bytes_eq verb (codes "capture") || bytes_eq verb (codes "take")
     || bytes_eq verb (codes "done") || bytes_eq verb (codes "rest") || bytes_eq verb (codes "check")
 
--- one with a session's number behind it
+-- one with a session's number after it
 abbrev pub is_of_session : List ℕ → Bool
 is_of_session verb = bytes_eq verb (codes "begin") || bytes_eq verb (codes "commit") || bytes_eq verb (codes "abort")
 
--- one with a file's number behind it
+-- one with a file's number after it
 abbrev pub is_of_file : List ℕ → Bool
 is_of_file verb = bytes_eq verb (codes "state") || bytes_eq verb (codes "text")
 
--- one with a session's number and a key behind it
+-- one with a session's number and a key after it
 abbrev pub is_of_key : List ℕ → Bool
 is_of_key verb = bytes_eq verb (codes "get") || bytes_eq verb (codes "del")
 
--- what is wrong with the words behind a first word
+-- what is wrong with the words after a first word
 abbrev pub command_fault : List ℕ → List (List ℕ) → Option LineFault
 command_fault verb words =
     if is_lone verb then no_word words
@@ -40,7 +40,7 @@ command_fault verb words =
     else (if bytes_eq verb (codes "put") then three_words kind.SessionNumber kind.KeyWord kind.ValueWord words
     else (if bytes_eq verb (codes "add") then three_words kind.SessionNumber kind.KeyWord kind.Addend words else Some NoCommand)))))))
 
--- what is wrong with the words of a line; nothing where there are none
+-- what is wrong with the words of a line; nothing if there are none
 abbrev pub words_fault : List (List ℕ) → Option LineFault
 words_fault [] = None
 words_fault (verb ∷ words) = command_fault verb words
@@ -49,7 +49,7 @@ words_fault (verb ∷ words) = command_fault verb words
 abbrev pub script_fault : List ℕ → Option LineFault
 script_fault text = if is_comment text then None else told_of text (words_fault (words_of text))
 
--- a line of this number, where it is bad, before other bad lines
+-- a line of this number, if it is bad, before other bad lines
 abbrev pub with_bad_line : ℕ → Option LineFault → List BadLine → List BadLine
 with_bad_line number None bad = bad
 with_bad_line number (Some fault) bad = record { number = number; fault = fault } ∷ bad

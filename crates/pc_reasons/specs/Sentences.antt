@@ -13,7 +13,7 @@ place_name place.Second = codes "second"
 place_name place.Third = codes "third"
 place_name place.Fourth = codes "fourth"
 
--- what a word is to be
+-- the expected kind of a word
 abbrev pub kind_name : WordKind → List ℕ
 kind_name kind.SessionNumber = codes "session number"
 kind_name kind.FileNumber = codes "file number"

@@ -1,4 +1,4 @@
--- The lines that tell why lines are bad.
+-- The lines that report why lines are bad.
 use Rattle.std.specs.Prelude.{◌≡◌, ◌⊎◌, ℕ, ◌-◌, nat_le, List, ◌++◌, Option, Result, Err, if◌then◌else◌, length, take, codes, decimal}
 use Rattle.std.specs.List.{flat_map}
 use Rattle.pc_types.specs.declared.refusal.Refusal.{Refusal}
@@ -24,16 +24,16 @@ bad_line_text name bad = place_text name bad.number ++ (fault_sentence bad.fault
 abbrev pub more_text : List ℕ → ℕ → List ℕ
 more_text name count = printed_name name ++ (codes ": and " ++ (decimal count ++ codes " more\n"))
 
--- some bad lines, of which the first 20 are told
+-- some bad lines, of which the first 20 are reported
 abbrev pub bad_lines_text : List ℕ → List BadLine → List ℕ
 bad_lines_text name bad =
     if nat_le (length bad) MOST_TOLD then flat_map (bad_line_text name) bad
     else flat_map (bad_line_text name) (take MOST_TOLD bad) ++ more_text name (length bad - MOST_TOLD)
 
--- what is told of a script
+-- the report of a script
 abbrev pub script_faults_text : List ℕ → List ℕ → List ℕ
 script_faults_text name script = bad_lines_text name (bad_lines 1 (lines_in script))
 
--- a text was written, or memory ran out before anything was
+-- a text was written, or an allocation failed before anything was
 abbrev pub PutsOrRefuses : {T : Type 0} → (T → Option (List ℕ)) → Tally T → Tally T → Result (Unit {0}) Refusal → List ℕ → Type 0
 PutsOrRefuses contents old new result text = ((result ≡ Err OutOfMemory) × (new ≡ old)) ⊎ Puts contents old new result text

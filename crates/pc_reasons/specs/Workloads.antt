@@ -13,12 +13,12 @@ use Rattle.pc_reasons.specs.declared.workloads.WorkloadFault.TheVariants as work
 use Rattle.pc_reasons.specs.LineFaults.{no_word, one_word, two_words, three_words, ends_with_cr}
 use Rattle.pc_reasons.specs.Sentences.{fault_sentence}
 
--- a line's role where nothing is wrong with its words
+-- a line's role if nothing is wrong with its words
 abbrev pub role_with : LineRole → Option LineFault → LineRole
 role_with its None = its
 role_with its (Some fault) = role.Wrong fault
 
--- what a line within a transaction is, by its first word and those behind it
+-- what a line within a transaction is, by its first word and those after it
 abbrev pub inner_role : List ℕ → List (List ℕ) → LineRole
 inner_role verb words =
     role_with role.Inside (if bytes_eq verb (codes "end") then no_word words
@@ -39,7 +39,7 @@ abbrev pub words_role : List (List ℕ) → LineRole
 words_role [] = role.Silent
 words_role (verb ∷ words) = verb_role verb words
 
--- what is told of a line of this role: of a wrong one that ends with a CR, that
+-- the reason for a line of this role: for a wrong one that ends with a CR, that
 abbrev pub told_role : List ℕ → LineRole → LineRole
 told_role text (role.Wrong fault) = if ends_with_cr text then role.Wrong CarriageReturn else role.Wrong fault
 told_role text its = its
@@ -57,7 +57,7 @@ is_client_role its = false
 abbrev pub is_client_line : List ℕ → Bool
 is_client_line text = is_client_role (role_of text)
 
--- why a line of this role is the first bad one, where a client stands before it or none
+-- why a line of this role is the first bad one, given whether a client comes before it
 abbrev pub fault_of : Bool → LineRole → Option WorkloadFault
 fault_of has_client role.Silent = None
 fault_of has_client role.Points = if has_client then Some work.PointsBehindClient else Some work.PointsAgain
@@ -67,7 +67,7 @@ fault_of has_client role.Inside = Some work.OutsideTransaction
 fault_of has_client role.Fill = Some work.BeforeClients
 fault_of has_client (role.Wrong fault) = Some (work.Line fault)
 
--- why the line behind so many is the first bad one of these lines
+-- why the line after that many is the first bad one of these lines
 abbrev pub fault_behind : List (List ℕ) → ℕ → Option WorkloadFault
 fault_behind lines count = fault_of (list_any is_client_line (take count lines)) (role_of (slice_index_or lines count []))
 

@@ -1,4 +1,4 @@
-//! What is wrong with a line by itself, and how it is told.
+//! The fault of a line by itself, and its reason in words.
 ghost use Rattle.std.specs.Prelude.{◌≡◌, ◌++◌, codes};
 ghost use Rattle.pc_types.specs.Tallies.{Puts};
 ghost use Rattle.pc_reasons.specs.Sentences.{place_name, kind_name, fault_sentence};
@@ -6,7 +6,7 @@ ghost use Rattle.pc_reasons.specs.Sentences.{place_name, kind_name, fault_senten
 use pc_types::{Refusal, Tally};
 use std::io::Write;
 
-/// The place of a word in its line, behind the first.
+/// The place of a word in its line, after the first.
 #[derive(Clone, Copy, Debug, PartialEq, Eq)]
 pub enum WordPlace {
     Second,
@@ -14,7 +14,7 @@ pub enum WordPlace {
     Fourth,
 }
 
-/// What a word is to be.
+/// The expected kind of a word.
 #[derive(Clone, Copy, Debug, PartialEq, Eq)]
 pub enum WordKind {
     /// A session's number: 1 to 9 digits.
@@ -27,7 +27,7 @@ pub enum WordKind {
     ValueWord,
     /// A number to add: 64 bits with a sign.
     Addend,
-    /// How many points a workload asks for: 0 to 1,000.
+    /// The number of points that a workload asks for: 0 to 1,000.
     PointCount,
     /// The session of a workload's client: 1 to 64.
     ClientNumber,
@@ -37,11 +37,11 @@ pub enum WordKind {
     WholeValue,
     /// What the keys of a fill begin with: at most 249 bytes.
     KeyPrefix,
-    /// How many transactions a fill has: 1 to 1,000,000.
+    /// The number of transactions that a fill has: 1 to 1,000,000.
     FillCount,
 }
 
-/// What is wrong with a line, wherever it stands.
+/// The fault of a line, wherever it is.
 #[derive(Clone, Copy, Debug, PartialEq, Eq)]
 pub enum LineFault {
     /// Its first word names no command.
@@ -50,14 +50,14 @@ pub enum LineFault {
     TooFewWords,
     /// It has more of them.
     TooManyWords,
-    /// The first word of it that isn't what it is to be.
+    /// The first word of it that isn't of the expected kind.
     WrongWord(WordPlace, WordKind),
     /// Its last byte is a CR, which no word has: its end was CR CR LF, or CR without an LF.
     CarriageReturn,
 }
 
 impl LineFault {
-    /// Writes it in words. `Device` is answered exactly where the writer failed in this call.
+    /// Writes it in words. Returns `Device` if and only if the writer failed in this call.
     pub fn put<W: Write>(&self, out: &mut Tally<W>) -> Result<(), Refusal>
         ensures { Puts W.contents out.old out.new result (fault_sentence self.now) }
     {
@@ -71,7 +71,7 @@ impl LineFault {
     }
 }
 
-// That the word at this place isn't what it is to be.
+// The word at this place isn't of the expected kind.
 fn put_wrong_word<W: Write>(
     place: WordPlace,
     kind: WordKind,

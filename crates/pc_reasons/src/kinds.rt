@@ -1,4 +1,4 @@
-//! The words behind the first of a line: how many there are to be, and which kind each is of.
+//! The words after the first of a line: their expected number and kinds.
 ghost use Rattle.std.specs.Prelude.{◌≡◌, IfOk, map};
 ghost use Rattle.pc_reasons.specs.LineFaults.{is_within, is_of, first_of, word_fault, pair_fault, no_word, one_word, two_words, three_words};
 
@@ -66,7 +66,7 @@ fn is_key_prefix(alloc: Global, word: &[u8]) -> Result<bool, AllocError>
     }
 }
 
-// The fault of the word at this place, where it isn't of this kind.
+// The fault of the word at this place, if it isn't of this kind.
 fn word_fault(
     alloc: Global,
     place: WordPlace,
@@ -82,7 +82,7 @@ fn word_fault(
     }
 }
 
-/// The fault of the words behind a command that takes none.
+/// The fault of the words after a command that takes none.
 pub(crate) fn no_word(words: &[&[u8]]) -> Option<LineFault>
     ensures { result ≡ no_word (map (λ w. w.now) words.now) }
 {
@@ -92,7 +92,7 @@ pub(crate) fn no_word(words: &[&[u8]]) -> Option<LineFault>
     }
 }
 
-/// The same of one that takes a word. It fails only where memory ran out, as those below.
+/// The same of one that takes a word. It fails only if an allocation fails, as those below.
 pub(crate) fn one_word(
     alloc: Global,
     kind: WordKind,

@@ -1,4 +1,4 @@
-//! Why a line is bad, of a script or of a workload, and the lines that tell it.
+//! Why a line of a script or of a workload is bad, and the lines that report it.
 #![tactic(auto)]
 
 mod faults;

@@ -25,7 +25,7 @@ pub(crate) fn ends_with_cr(line: &[u8]) -> bool
     !line.is_empty() && line[line.len() - 1] == b'\r'
 }
 
-/// What is told of a line with this fault of its words: of one that ends with a CR, that.
+/// The reason for a line with this fault of its words: for one that ends with a CR, that.
 pub(crate) fn told_of(line: &[u8], fault: Option<LineFault>) -> Option<LineFault>
     ensures { result ≡ told_of line.now fault }
 {

@@ -14,9 +14,9 @@ use pc_types::{Refusal, Tally};
 use std::alloc::{AllocError, Global};
 use std::io::Write;
 
-/// Why a line of a script, without its end, is bad: there is a fault if and only if the line is one, be it in a script that has none
-/// else or where it follows others. How many words it has comes before what they are, and of these the first that is wrong is told. It
-/// fails only where memory ran out.
+/// Why a line of a script, without its end, is bad: there is a fault if and only if the line is one, be it in a script that has none else
+/// or if it follows others. How many words it has comes before what they are, and of these the first wrong one is reported. It fails only
+/// if an allocation fails.
 pub fn script_fault(alloc: Global, line: &[u8]) -> Result<Option<LineFault>, AllocError>
     ensures fault { IfOk result (λ fault. fault ≡ script_fault line.now) }
     ensures bad { IfOk result (λ fault. IsSome fault ↔ (spelled line.now ≡ Malformed)) }
@@ -44,7 +44,7 @@ fn words_fault(alloc: Global, words: &[&[u8]]) -> Result<Option<LineFault>, Allo
     }
 }
 
-// The fault of the words behind this one.
+// The fault of the words after this one.
 fn command_fault(
     alloc: Global,
     verb: &[u8],
@@ -98,21 +98,21 @@ fn is_lone(verb: &[u8]) -> bool
         || verb == b"check".as_slice()
 }
 
-// A command with the number of a session behind it.
+// A command with the number of a session after it.
 fn is_of_session(verb: &[u8]) -> bool
     ensures { result ≡ is_of_session verb.now }
 {
     verb == b"begin".as_slice() || verb == b"commit".as_slice() || verb == b"abort".as_slice()
 }
 
-// A command with the number of a file behind it.
+// A command with the number of a file after it.
 fn is_of_file(verb: &[u8]) -> bool
     ensures { result ≡ is_of_file verb.now }
 {
     verb == b"state".as_slice() || verb == b"text".as_slice()
 }
 
-// A command with the number of a session and a key behind it.
+// A command with the number of a session and a key after it.
 fn is_of_key(verb: &[u8]) -> bool
     ensures { result ≡ is_of_key verb.now }
 {
@@ -130,7 +130,7 @@ fn bad_lines(alloc: Global, lines: &[&[u8]]) -> Result<Vec<BadLine>, AllocError>
     Ok(bad)
 }
 
-// The bad lines, with the line of this number where it is one.
+// The bad lines, with the line of this number if it is one.
 fn with_line(
     alloc: Global,
     bad: Vec<BadLine>,
@@ -154,8 +154,8 @@ fn faults_in(alloc: Global, script: &[u8]) -> Result<Vec<BadLine>, AllocError>
     bad_lines(alloc, &lines)
 }
 
-/// Writes a line `NAME:LINE: REASON` for each bad line of a script, for the first 20 of them, and where there are more, `NAME: and N more`.
-/// Refuses with `OutOfMemory`, and then nothing was written, and with `Device` exactly where the writer failed in this call.
+/// Writes a line `NAME:LINE: REASON` for each bad line of a script, for the first 20 of them, and if there are more, `NAME: and N more`.
+/// Refuses with `OutOfMemory`, and then nothing was written, and with `Device` if and only if the writer failed in this call.
 pub fn put_script_faults<W: Write>(
     alloc: Global,
     name: &[u8],

@@ -1,4 +1,4 @@
-//! Bad lines of scripts and workloads, and what is told of them.
+//! Bad lines of scripts and workloads, and their reasons.
 use crate::{put_script_faults, put_workload_fault, workload_fault};
 use pc_jobs::{WorkloadReading, read_workload};
 use pc_types::{Refusal, Tally};
@@ -48,7 +48,7 @@ a\\x20b.pcs:19: there are too many words
 a\\x20b.pcs:22: a CR stands at its end
 ";
 
-/// A workload, and what is told of its first bad line.
+/// A workload, and the reason for its first bad line.
 const WORKLOADS: [(&[u8], &[u8]); 18] = [
     (
         b"points 1001\n",

@@ -1,4 +1,4 @@
-//! The lines that tell which lines of a script are bad, and why.
+//! The lines that report which lines of a script are bad, and why.
 ghost use Rattle.std.specs.Prelude.{◌<◌, ◌-◌, ◌++◌, length, take, codes, decimal};
 ghost use Rattle.std.specs.List.{flat_map};
 ghost use Rattle.pc_types.specs.Tallies.{Puts};
@@ -17,14 +17,14 @@ use std::io::Write;
 pub struct BadLine {
     /// Its number, from 1.
     pub number: usize,
-    /// Why it is bad.
+    /// The fault.
     pub fault: LineFault,
 }
 
-/// The faults of at most so many lines are told.
+/// The most lines whose faults are reported.
 pub const MOST_TOLD: usize = 20;
 
-/// Tells of the first 20 lines, and how many more there are.
+/// Reports the first 20 lines, and how many more there are.
 pub(crate) fn put_bad_lines<W: Write>(
     name: &[u8],
     bad: &[BadLine],
@@ -65,7 +65,7 @@ fn put_bad_line<W: Write>(name: &[u8], line: &BadLine, out: &mut Tally<W>) -> Re
     put_fault_line(line.fault, out)
 }
 
-/// The name of the file and the number of the line, and what stands before the reason.
+/// The name of the file and the number of the line, and the text before the reason.
 pub(crate) fn put_place<W: Write>(
     name: &[u8],
     number: usize,

@@ -1,4 +1,4 @@
-//! Why a line of a workload is bad, by itself or by where it stands.
+//! Why a line of a workload is bad, by itself or by its place.
 ghost use Rattle.std.specs.Prelude.{◌≡◌, ◌<◌, ◌++◌, length, codes, IfOk, map};
 ghost use Rattle.std.specs.List.{list_any};
 ghost use Rattle.pc_types.specs.Tallies.{Puts};
@@ -21,23 +21,23 @@ use std::io::Write;
 /// Why a line of a workload is bad.
 #[derive(Clone, Copy, Debug, PartialEq, Eq)]
 pub enum WorkloadFault {
-    /// For what it is, wherever it stands.
+    /// By itself, wherever it is.
     Line(LineFault),
     /// The number of points was given before.
     PointsAgain,
-    /// The number of points stands behind a client.
+    /// The number of points comes after a client.
     PointsBehindClient,
     /// The session has a client already.
     ClientAgain,
-    /// A `txn` or a `fill` stands before the first client.
+    /// A `txn` or a `fill` comes before the first client.
     BeforeClients,
     /// The transaction that it begins has no `end`.
     NoEnd,
-    /// An operation or an `end` where no transaction is open.
+    /// An operation or an `end` if no transaction is open.
     OutsideTransaction,
 }
 
-// What a line of a workload is, by itself.
+// The role of a line of a workload, by itself.
 #[derive(Clone, Copy, Debug, PartialEq, Eq)]
 enum LineRole {
     Silent,
@@ -51,7 +51,7 @@ enum LineRole {
 }
 
 /// Why the line of this number, from 1, is bad in a workload of which it is the first bad one; no reason of a line that says nothing, or
-/// that isn't there. It fails only where memory ran out.
+/// that isn't there. It fails only if an allocation fails.
 pub fn workload_fault(
     alloc: Global,
     text: &[u8],
@@ -83,7 +83,7 @@ fn fault_at(
     fault_behind(alloc, lines, number - 1)
 }
 
-// The same behind so many lines.
+// The same after the given number of lines.
 fn fault_behind(
     alloc: Global,
     lines: &[&[u8]],
@@ -118,7 +118,7 @@ fn is_client_line(alloc: Global, line: &[u8]) -> Result<bool, AllocError>
     }
 }
 
-// Why a line of this role is bad where it is the first bad one, and a client stands before it or none.
+// Why a line of this role is bad if it is the first bad one, given whether a client comes before it.
 fn fault_of(has_client: bool, role: LineRole) -> Option<WorkloadFault>
     ensures { result ≡ fault_of has_client role }
 {
@@ -145,7 +145,7 @@ fn fault_of(has_client: bool, role: LineRole) -> Option<WorkloadFault>
     }
 }
 
-// What the line, without its end, is by itself.
+// The role of the line, without its end, by itself.
 fn role_of(alloc: Global, line: &[u8]) -> Result<LineRole, AllocError>
     ensures { IfOk result (λ role. role ≡ role_of line.now) }
 {
@@ -156,7 +156,7 @@ fn role_of(alloc: Global, line: &[u8]) -> Result<LineRole, AllocError>
     Ok(told_role(line, role))
 }
 
-// What is told of a line of this role: of a wrong one that ends with a CR, that.
+// The reason for a line of this role: for a wrong one that ends with a CR, that.
 fn told_role(line: &[u8], role: LineRole) -> LineRole
     ensures { result ≡ told_role line.now role }
 {
@@ -235,7 +235,7 @@ fn inner_role(alloc: Global, verb: &[u8], words: &[&[u8]]) -> Result<LineRole, A
 }
 
 impl WorkloadFault {
-    /// Writes it in words. `Device` is answered exactly where the writer failed in this call.
+    /// Writes it in words. Returns `Device` if and only if the writer failed in this call.
     pub fn put<W: Write>(&self, out: &mut Tally<W>) -> Result<(), Refusal>
         ensures { Puts W.contents out.old out.new result (workload_sentence self.now) }
     {
@@ -253,7 +253,7 @@ impl WorkloadFault {
     }
 }
 
-/// Writes the line `NAME:LINE: REASON`. `Device` is answered exactly where the writer failed in this call.
+/// Writes the line `NAME:LINE: REASON`. Returns `Device` if and only if the writer failed in this call.
 pub fn put_workload_fault<W: Write>(
     name: &[u8],
     number: usize,

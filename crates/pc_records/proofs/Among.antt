@@ -1,4 +1,4 @@
--- A key is in a set where it is among the keys of its list.
+-- A key is in a set if it is among the keys of its list.
 use Rattle.std.proofs.Common.{◌≡◌, ℕ, List, [], ◌∷◌, ◌↔◌, ◌+◌, ◌≤◌, arith, Option, Some, None, option_map, refl, sym, ap, ◌∙◌, cond, Bool, true, false, eqb, ◌||◌}
 use Rattle.std.proofs.lemmas.Bool.{eqb-true, eq-eqb}
 use Rattle.std.specs.FinMap.{find}
@@ -89,7 +89,7 @@ module _ (rows : List (TableRow Cell)) (each : AreFound rows) (q : List ℕ) whe
       by_place None e = sym (among_none e slots all)
       by_place (Some p) e = sym (ap (marked_in side) ((each p.0 q p.1).1 e)) ∙ (marks p.0 ∙ sym (among_some p.0 p.1 e slots all))
 
--- where no two slots have one number, so it is of the slots that are kept
+-- if no two slots have one number, so it is of the slots that are kept
 found_in : (side : Side) (rows : List (TableRow Cell)) (q : List ℕ) (n : ℕ) (x : Cell) → times n (numbers_of (slots_in side rows)) ≤ 1 → find key_cmp q rows ≡ Some (n, x) → in_slot rows n ≡ Some (q, x)
 found_in side [] q n x once e = absurd (no_row e)
 found_in side (row ∷ rows) q n x once e = by_test (same_bytes q row.0) (eqb row.1.0 n) refl refl once e (found_in side rows q n x)

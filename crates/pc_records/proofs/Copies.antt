@@ -1,4 +1,4 @@
--- What is written is the same with any copy, where none is kept.
+-- What is written is the same with any copy, if none is kept.
 use Rattle.std.proofs.Common.{◌≡◌, ℕ, List, Option, Some, None, is_none, not, refl, ap, cond, Bool, true, false, eqb, ◌&&◌}
 use Rattle.pc_types.specs.declared.Class.{Class}
 use Rattle.pc_types.specs.declared.Class.TheVariants.{Before, During, After}

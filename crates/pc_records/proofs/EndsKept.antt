@@ -1,4 +1,4 @@
--- The ends of the slots' queues, where a record is changed, goes in, or goes, and what the locks keep beside them.
+-- The ends of the slots' queues, where a record is changed, goes in, or goes, and what the locks keep besides them.
 use Rattle.std.proofs.Common.{◌≡◌, ◌≢◌, ◌⊎◌, inl, inr, ℕ, List, [], ◌∷◌, map, Option, Some, None, option_map, is_some, refl, sym, ap, ◌∙◌, subst, cond, Bool, true, false, eqb}
 use Rattle.std.proofs.lemmas.Bool.{eqb-true, eq-eqb}
 use Rattle.pc_chain.specs.declared.chain.Chain.{Chain}
@@ -19,7 +19,7 @@ use Rattle.pc_records.proofs.KeepingSets.{changed_sets}
 use Rattle.pc_records.proofs.BlankSlots.{first_cell, other_cells}
 use Rattle.pc_locks.specs.Keepers as keepers
 
--- where each slot has the same ends
+-- if each slot has the same ends
 each_same : (rows new : List (TableRow Cell)) → ((slot : ℕ) → ends_in new slot ≡ ends_in rows slot) → ends_in new ≡ ends_in rows
 each_same rows new h = λ i slot. h slot i
 

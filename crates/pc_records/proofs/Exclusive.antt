@@ -25,7 +25,7 @@ or_right : (a b : Bool) → b ≡ true → (a || b) ≡ true
 or_right true b e = refl
 or_right false b e = e
 
--- where all requests are compatible with one of the transaction, only its own is exclusive
+-- if all requests are compatible with one of the transaction, only its own is exclusive
 alone_of_new : (queue : Queue) (t w : ℕ) (x : Mode) → list_all (are_compatible (record { transaction = t; mode = x; granted = true })) queue ≡ true → has_exclusive queue w ≡ true → t ≡ w
 alone_of_new [] t w x all has = absurd (no has)
   where
@@ -53,7 +53,7 @@ alone_of_new (r ∷ rs) t w x all has = by_test (eqb r.transaction w) refl (is_e
     by_test false is false c true false own all has rest = rest all has
     by_test false is false c false false own all has rest = absurd (no all)
 
--- each of the requests may stand granted beside the first one
+-- each of the requests is compatible with the first one
 abbrev StandBeside : Request → Queue → Type 0
 StandBeside r rs = (j : ℕ) (d : Request) → j < length rs → IsTrue r.granted → IsTrue (get_or rs j d).granted → ¬ Conflicts r (get_or rs j d)
 
@@ -83,7 +83,7 @@ same_of r q some compat = by_test (eqb r.transaction q.transaction) refl (is_exc
     by_test false is false true some e = cc
     by_test false is false false some e = cc
 
--- a granted request beside an exclusive one
+-- a granted request with an exclusive one
 beside_exclusive : (r : Request) (rs : Queue) (w : ℕ) → r.granted ≡ true → StandBeside r rs → has_exclusive rs w ≡ true → r.transaction ≡ w
 beside_exclusive r [] w g beside has = cc
 beside_exclusive r (q ∷ rs) w g beside has = by_test (eqb q.transaction w) refl (is_exclusive q.mode) q.granted refl refl has (beside_exclusive r rs w g (rest_beside r q rs beside))
@@ -98,7 +98,7 @@ beside_exclusive r (q ∷ rs) w g beside has = by_test (eqb q.transaction w) ref
     by_test true is false c x h has rest = rest has
     by_test false is b c x h has rest = rest has
 
--- an exclusive request beside a granted one
+-- an exclusive request with a granted one
 beside_granted : (r : Request) (rs : Queue) (t : ℕ) (own : Request) → r.granted ≡ true → (is_exclusive r.mode) ≡ true → StandBeside r rs → request_in rs t ≡ Some own → own.granted ≡ true → r.transaction ≡ t
 beside_granted r [] t own g x beside found granted = cc
 beside_granted r (q ∷ rs) t own g x beside found granted = by_test (eqb q.transaction t) refl found (λ later. beside_granted r rs t own g x (rest_beside r q rs beside) later granted)
@@ -124,7 +124,7 @@ alone_of_granted (r ∷ rs) t w own legal found granted has = by_test (eqb r.tra
     by_test false own_is true is false c x g found has rest = rest found has
     by_test false own_is false is b c x g found has rest = rest found has
 
--- where the request of a transaction that doesn't wait is granted, no other one has the exclusive lock
+-- if the request of a transaction that doesn't wait is granted, no other one has the exclusive lock
 pub alone : (queue : Queue) (t w : ℕ) (x : Mode) → IsLegalQueue queue → is_ungranted (request_in queue t) ≡ false → outcome queue t x ≡ Granted → has_exclusive queue w ≡ true → t ≡ w
 alone queue t w x legal ready granted has = by_own (request_in queue t) refl ready granted
   where

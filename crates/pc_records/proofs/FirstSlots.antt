@@ -1,4 +1,4 @@
--- The slots of pairs that rise, one after the other.
+-- The slots of pairs that ascend, in order.
 use Rattle.std.proofs.Common.{◌≡◌, ℕ, zero, suc, ◌+◌, ◌<◌, List, [], ◌∷◌, ◌++◌, length, map, take, get_or, Option, Some, None, option_map, Bool, true, false, cond, refl, sym, ap, ◌∙◌, subst, ◌&&◌}
 use Rattle.std.specs.Ordering.{is_lt, is_eq}
 use Rattle.std.specs.declared.cmp.Ordering.{Ordering}
@@ -80,7 +80,7 @@ base_more : (ps : List (List ℕ × List ℕ)) (p : List ℕ × List ℕ) → ma
 base_more [] p = refl
 base_more (q ∷ ps) p = ap (λ (cs : List (List ℕ × Cell)). base_row q ∷ cs) (base_more ps p)
 
--- the slots of the first i pairs stand in the table
+-- the slots of the first i pairs are in the table
 module _ (pairs : List (List ℕ × List ℕ)) (rise : KeysRise pairs) (i : ℕ) (pair : List ℕ × List ℕ) (lt : i < length pairs) (is : pair ≡ get_or pairs i pair) (old : Contents Cell) (are : cells_in old.rows ≡ map base_row (take i pairs)) where
   one_more : take (i + 1) pairs ≡ take i pairs ++ pair ∷ []
   one_more = take_more pairs i pair lt ∙ ap (λ p. take i pairs ++ p ∷ []) (sym is)

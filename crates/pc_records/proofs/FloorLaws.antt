@@ -1,4 +1,4 @@
--- The floor of slots, seen again where one of them or its queue has changed.
+-- The floor of slots, seen again if one of them or its queue has changed.
 use Rattle.std.proofs.Common.{◌≡◌, ◌≢◌, ℕ, ◌+◌, List, [], ◌∷◌, ◌++◌, map, Option, Some, None, is_some, option_map, refl, sym, ap, ◌∙◌, subst, cond, Bool, true, false, eqb, ◌||◌, ◌&&◌, ◌==◌, not, arith}
 use Rattle.std.proofs.lemmas.Bool.Decides.{nat_tests}
 use Rattle.std.specs.Prelude.{IfOk, IfSome, IfNone, OnErr, Result, Ok, Err}
@@ -142,7 +142,7 @@ pub opens_there : (side : Side) (queues : Queues) (id : ℕ) (rows : List (Table
 opens_there side queues id [] = refl
 opens_there side queues id (row ∷ rows) = elim (eqb row.1.0 id) as (λ b. entering side (cond b (Some (row.0, row.1.1)) (in_slot rows id)) ≡ cond b (cond (is_some (writer_in row.1.1) && not (is_marked side row.1.1)) (row.0 ∷ []) []) (newly_opened (spots_of queues (slots_in side rows)) id)) [ true ↦ refl | false ↦ opens_there side queues id rows ]
 
--- the floor where the write of one slot is committed
+-- the floor if the write of one slot is committed
 pub floor_settled : (point id : ℕ) (table new : Contents Cell) (locks : keepers.KeptRequests) (sets after : Dirty) → slots_in sets.side new.rows ≡ map (at_number (settled point) id) (slots_in sets.side table.rows) → new.capacity ≡ table.capacity → ends_in new.rows ≡ ends_in table.rows → after.side ≡ sets.side
     → open_keys new.rows after ≡ open_keys table.rows sets ++ entering sets.side (in_slot table.rows id) → closed_keys new.rows after ≡ closed_keys table.rows sets
     → floor_of new.capacity (queues_in new.rows locks) (slots_in after.side new.rows) (open_keys new.rows after) (closed_keys new.rows after)
@@ -220,7 +220,7 @@ kept_changed f id table new locks side here is numbers keys slots ends kept =
     (kept_map (at_number f id) (slots_in here table.rows) (slots_in here new.rows) (queues_in table.rows locks) (subst (λ (s : Side). slots_in s new.rows ≡ map (at_number f id) (slots_in s table.rows)) is slots)
     (λ s. elim (eqb s.number id) as (λ b. (cond b (f s) s).key ≡ s.key) [ true ↦ keys s | false ↦ refl ]) (λ s. elim (eqb s.number id) as (λ b. (cond b (f s) s).number ≡ s.number) [ true ↦ numbers s | false ↦ refl ]) kept)
 
--- and where the queue of a slot that is there has changed
+-- and if the queue of a slot that is there has changed
 kept_queue : (id : ℕ) (q : Queue) (slots : List Slot) (queues new : Queues) → (times id (numbers_of slots) ≡ 0 → q ≡ []) → SetsAt queues new id q → AreSlotsKept slots queues → AreSlotsKept slots new
 kept_queue id q slots queues new empty sets kept = record { rise = kept.rise; once = kept.once; bare = λ n none. by_test n (eqb n id) refl none (kept.bare n none) }
   where
@@ -243,7 +243,7 @@ has_times queues id (s ∷ slots) has none = by_test (eqb s.number id) refl has 
         absurd (omega (arith, more))
     by_test false is h rest = rest h (sym (ap (λ b. cond b (times id (numbers_of slots) + 1) (times id (numbers_of slots))) is) ∙ none)
 
--- a transaction stands at the spot of a slot in whose queue it stands
+-- a transaction is at the spot of a slot in whose queue it is
 stands_spot : (t id : ℕ) (queues : Queues) (slots : List Slot) → stands_in (queue_at queues id) t ≡ true → (times id (numbers_of slots) ≡ 0 → ⊥) → stands_at (spots_of queues slots) id t ≡ true
 stands_spot t id queues [] stands some = absurd (some refl)
 stands_spot t id queues (s ∷ slots) stands some = by_test (eqb s.number id) refl (stands_spot t id queues slots stands)
@@ -254,7 +254,7 @@ stands_spot t id queues (s ∷ slots) stands some = by_test (eqb s.number id) re
         ap (λ b. b || stands_at (spots_of queues slots) id t) (ap (λ n. stands_in (queue_at queues n) t) same ∙ stands)
     by_test false is rest = rest (λ none. some (ap (λ b. cond b (times id (numbers_of slots) + 1) (times id (numbers_of slots))) is ∙ none))
 
--- and at none where it stands in no queue
+-- and at none if it is in no queue
 stands_at_none : (t : ℕ) (queues : Queues) (slots : List Slot) → ((n : ℕ) → stands_in (queue_at queues n) t ≡ false) → stands_anywhere (spots_of queues slots) t ≡ false
 stands_at_none t queues [] none = refl
 stands_at_none t queues (s ∷ slots) none = ap (λ b. b || stands_anywhere (spots_of queues slots) t) (none s.number) ∙ stands_at_none t queues slots none

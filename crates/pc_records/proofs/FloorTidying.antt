@@ -20,7 +20,7 @@ use Rattle.pc_records.proofs.Listing.{kept_listed, kept_open, kept_closed}
 use Rattle.pc_records.proofs.Marking.{nothing_marked}
 use Rattle.pc_records.proofs.TableSlots.{slots_rise}
 
--- where nothing keeps a slot no request stands there
+-- if nothing keeps a slot there is no request there
 pub no_request : (queue : Queue) (slot : Slot) → is_kept_slot queue slot ≡ false → queue ≡ []
 no_request queue slot nothing = by_test (is_some slot.live) (is_held slot.stable) (slot.is_in_open_set || slot.is_in_closed_set) queue nothing
   where
@@ -94,7 +94,7 @@ module _ (side : Side) (queues : Queues) (id : ℕ) where
             rows_stay rows none ∙ sym (others_stay rows none) ∙ ap (λ b. cond b (spot_of queues (slot_in side row) ∷ tidied id (spots rows)) (tidied id (spots rows))) (sym (test row same (same_some h) ∙ nothing))
         by_test false is o h rest = ap (λ (xs : List Spot). spot_of queues (slot_in side row) ∷ xs) (rest o h nothing)
 
-  -- how often a number stands among the slots that are left
+  -- how often a number occurs among the slots that are left
   left_times : (n : ℕ) (rows : List (TableRow Cell)) → times n (numbers_of (slots_in side (filter (λ row. not (eqb row.1.0 id)) rows))) ≡ cond (eqb n id) 0 (times n (numbers_of (slots_in side rows)))
   left_times n [] = elim (eqb n id) as (λ b. ◌≡◌ {A = ℕ} 0 (cond b 0 0)) [ true ↦ refl | false ↦ refl ]
   left_times n (row ∷ rows) = by_test (eqb row.1.0 id) refl (eqb n id) refl (eqb row.1.0 n) refl (left_times n rows)

@@ -23,7 +23,7 @@ use Rattle.pc_records.specs.Following.{AreRecords, stands_kept}
 pub turned_key : (a b : List ℕ) → same_bytes a b ≡ same_bytes b a
 turned_key a b = (eq_by_cmp_equiv key_order.total).symm a b
 
--- where the database, the queues, the written keys and what the point's keys have at the point stay, so do the records
+-- if the database, the queues, the written keys and what the point's keys have at the point stay, so do the records
 pub same_records : (base : Database) (rows : List Row) (h after : History) → contents base after ≡ contents base h → ((q : List ℕ) → queue_of q after ≡ queue_of q h) → open_set after ≡ open_set h → closed_set after ≡ closed_set h →
     ((q : List ℕ) → is_among (closed_set h) q ≡ true → map_of.get (state_at base (log_of after) (point_of after)) q ≡ map_of.get (state_at base (log_of h) (point_of h)) q) → AreRecords base rows h → AreRecords base rows after
 same_records base rows h after cs qs ws ls ps are =
@@ -67,7 +67,7 @@ kept-with (Some r) queue some = by_value (is_some r.value) (is_empty queue) (r.i
     by_value false true c e = cc
     by_value false false c e = refl
 
--- a request that stands, granted or waiting
+-- a request, granted or waiting
 placed_records : (base : Database) (rows : List Row) (h after : History) (k : List ℕ) (n : ℕ) (mode : Mode) (o : Outcome) → ((queue : Queue) → is_empty (queue_after queue n mode o) ≡ false) → contents base after ≡ contents base h →
     ((q : List ℕ) → queue_of q after ≡ cond (same_bytes k q) (queue_after (queue_of q h) n mode o) (queue_of q h)) → open_set after ≡ open_set h →
     closed_set after ≡ closed_set h → ((q : List ℕ) → is_among (closed_set h) q ≡ true → map_of.get (state_at base (log_of after) (point_of after)) q ≡ map_of.get (state_at base (log_of h) (point_of h)) q) →

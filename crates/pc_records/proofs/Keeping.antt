@@ -1,4 +1,4 @@
--- A record that is dropped where nothing keeps it says as much as it did.
+-- A record that is dropped if nothing keeps it says as much as it did.
 use Rattle.std.proofs.Common.{◌≡◌, ℕ, List, [], ◌∷◌, Option, Some, None, is_some, refl, sym, cond, true, false, Bool}
 use Rattle.pc_model.specs.Locks.{Queue}
 use Rattle.pc_records.specs.Rows.{Record, stored, is_in_open_set, is_in_closed_set, at_point, requests_on, is_kept}

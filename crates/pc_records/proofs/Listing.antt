@@ -1,4 +1,4 @@
--- The two lists of slots: what of the rows they see, and what follows where that stays.
+-- The two lists of slots: what of the rows they see, and what follows if that stays.
 use Rattle.std.proofs.Common.{◌≡◌, ℕ, List, [], ◌∷◌, Option, Some, None, is_some, refl, sym, ap, ◌∙◌, subst, cond, Bool, true, false, eqb, ◌||◌}
 use Rattle.std.proofs.lemmas.Bool.{eq-eqb}
 use Rattle.pc_chain.specs.Chains.{AllHave}

@@ -104,7 +104,7 @@ module _ (point t : ℕ) (class : Class) (value : Option (List ℕ)) (queue new 
       by_writer None is = first_sound point t value s queue new class is outside has sound
       by_writer (Some w) is = record { passed = sound.passed; holds = sound.holds; follows = sound.follows; prepared = sound.prepared; locked = still }
 
-  -- a slot with a writer holds a version, where its key is in the closed set
+  -- a slot with a writer holds a version, if its key is in the closed set
   held_closed : (w : Writer) → s.writer ≡ Some w → s.is_in_closed_set ≡ true → is_held s.stable ≡ true
   held_closed w is closed = by_mark (eqb s.mark point) refl
     where
@@ -137,7 +137,7 @@ saved_key point After copy s = elim (s.is_in_closed_set && not (eqb s.mark point
 pub put_key : (point t : ℕ) (class : Class) (copy value : Option (List ℕ)) (s : Slot) → (put_slot point t class copy value s).key ≡ s.key
 put_key point t class copy value s = elim s.writer as (λ o. (put_beside o point t class copy value s).key ≡ s.key) [ None ↦ saved_key point class copy s | Some w ↦ refl ]
 
--- and the write that stands then
+-- and the write that is there then
 pub put_pending : (point t : ℕ) (class : Class) (copy value : Option (List ℕ)) (s : Slot) → ((w : Writer) → s.writer ≡ Some w → (w.transaction ≡ t) × (w.class ≡ class)) → pending_in (put_slot point t class copy value s) ≡ Some (record { by = t; class = class; value = value })
 put_pending point t class copy value s own = by_writer s.writer refl
   where

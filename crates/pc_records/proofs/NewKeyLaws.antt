@@ -61,7 +61,7 @@ length-with_write (w ∷ ws) write = by_same (same_bytes w.key write.key) _ _ (w
     by_same true x y o e = omega arith
     by_same false x y o e = omega (arith, e)
 
--- one more write where they aren't too many
+-- one more write if they aren't too many
 pub few_enough : (ws : List Write) (write : Write) → length ws ≤ 256 → is_one_too_many ws write.key ≡ false → length (with_write ws write) ≤ 256
 few_enough ws write le few = by_new (is_none (written ws write.key)) few (length-with_write ws write)
   where

@@ -13,7 +13,7 @@ kept_by : (r : Option Record) → (is_some (stored r) || (not (is_empty (request
 kept_by None = refl
 kept_by (Some r) = refl
 
--- a key is occupied where it has a record
+-- a key is occupied if it has a record
 pub occupied_now : (st : Setting) (rows : List Row) (h : History) (q : List ℕ) → AreRecords st.base rows h → set.contains (occupied st h) q ≡ is_some (record_of rows q)
 occupied_now st rows h q are =
     occupied_is st h q

@@ -61,12 +61,12 @@ record AreRead (rows : List Row) (content past : List ℕ → Option (List ℕ))
 read_records : (base : Database) (rows : List Row) (h : History) → AreRecords base rows h → AreRead rows (map_of.get (contents base h)) (map_of.get (state_at base (log_of h) (point_of h))) (λ q. queue_of q h) (is_among (open_set h)) (is_among (closed_set h))
 read_records base rows h are = record { sorted = are.sorted; stored = are.stored; requests = are.requests; open_set = are.open_set; closed_set = are.closed_set; point = are.point; kept = are.kept }
 
--- the record once the transaction's request is removed, where there is one
+-- the record once the transaction's request is removed, if there is one
 abbrev pub released_at : ℕ → Option Record → Option Record
 released_at t None = None
 released_at t (Some r) = released t r
 
--- the rows that are left still rise, and have each key's record as it is left
+-- the rows that are left still ascend, and have each key's record as it is left
 below_released : (t : ℕ) (k : List ℕ) (rows : List Row) → below_all key_cmp k rows ≡ true → below_all key_cmp k (released_rows t rows) ≡ true
 below_released t k [] h = refl
 below_released t k (row ∷ rows) h = by_record (released t row.1) (and_both (is_lt (key_cmp k row.0)) (below_all key_cmp k rows) h).0 (below_released t k rows (and_both (is_lt (key_cmp k row.0)) (below_all key_cmp k rows) h).1)
@@ -180,7 +180,7 @@ released_read t rows content past queue in_open in_closed settled are =
     was_closed : (q : List ℕ) → is_in_closed_set (record_of (released_rows t rows) q) ≡ true → is_in_closed_set (record_of rows q) ≡ true
     was_closed q closed = sym (ap is_in_closed_set (found q) ∙ closed-released t (record_of rows q)) ∙ closed
 
--- the record once this is committed of its key, where there is one
+-- the record once this is committed of its key, if there is one
 abbrev pub given_at : Option (Option (List ℕ)) → Option Record → Option Record
 given_at o None = None
 given_at o (Some r) = Some (given o r)

@@ -1,4 +1,4 @@
--- The rows still rise.
+-- The rows still ascend.
 use Rattle.std.proofs.Common.{◌≡◌, ℕ, List, [], ◌∷◌, map, refl, ap, ◌∙◌, ◌&&◌, not, Option, Some, None}
 use Rattle.std.specs.FinMap.{is_sorted}
 use Rattle.std.specs.FinMap.Entries.{is_sorted-put, is_sorted-where_key, below_all}
@@ -8,7 +8,7 @@ use Rattle.pc_model.proofs.PairMapLaws.{computes, tested}
 use Rattle.pc_records.specs.Rows.{Row, Record, record_of}
 use Rattle.pc_records.specs.RowSteps.{committed_row, closed_row, left_of, with_left, left_rows}
 
--- rows of pairs rise as the pairs do
+-- rows of pairs ascend as the pairs do
 below_rows : (key : List ℕ) (pairs : List (List ℕ × List ℕ)) → below_all key_cmp key (map committed_row pairs) ≡ below_all key_cmp key pairs
 below_rows key [] = refl
 below_rows key (p ∷ pairs) = ap (λ b. is_lt (key_cmp key p.0) && b) (below_rows key pairs)

@@ -1,4 +1,4 @@
--- A slot whose write is committed, and that goes into the open set where it isn't in it.
+-- A slot whose write is committed, and that goes into the open set if it isn't in it.
 use Rattle.std.proofs.Common.{◌≡◌, ℕ, ◌+◌, ◌<◌, ◌≤◌, ◌^◌, List, [], ◌∷◌, ◌++◌, map, length, Option, Some, None, option_map, is_some, not, refl, sym, ap, ◌∙◌, subst, arith, cond, Bool, true, false, eqb, ◌==◌, ◌||◌, ◌&&◌, inl, inr, append-nil}
 use Rattle.std.proofs.lemmas.Bool.{eqb-true, eq-eqb, or_parts, or_cases}
 use Rattle.std.specs.List.{list_any, IsDistinct}
@@ -99,7 +99,7 @@ pub all_keys : (old new : List (TableRow Cell)) → ((slot : ℕ) → key_in (in
 all_keys old new f [] = refl
 all_keys old new f (x ∷ xs) = ap (λ (k : List ℕ). k ∷ keys_at new xs) (f x) ∙ ap (λ (ks : List (List ℕ)). key_in (in_slot old x) ∷ ks) (all_keys old new f xs)
 
--- the write of the slot is committed, and it is in the open set, at its end where it wasn't in it
+-- the write of the slot is committed, and it is in the open set, at its end if it wasn't in it
 pub record Settles (table new : Contents Cell) (sets now : Dirty) (point id : ℕ) : Type 0 where
   pub slots : slots_in sets.side new.rows ≡ map (at_number (settled point) id) (slots_in sets.side table.rows)
   pub listed : IsListed new.rows now

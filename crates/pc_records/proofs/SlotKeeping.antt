@@ -10,7 +10,7 @@ use Rattle.pc_records.specs.Slots.{no_queues, rows_of, numbers_of, times, AreSlo
 use Rattle.pc_records.proofs.SlotRising.{keys_of, rise_any, rise_same}
 use Rattle.std.proofs.lemmas.Bool.{eqb-true, eqb-false}
 
--- how often a number stands among those of slots where one goes in
+-- how often a number occurs among those of slots if one goes in
 pub times-insert : (n : ℕ) (slots : List Slot) (i : ℕ) (x : Slot) → times n (numbers_of (insert slots i x)) ≡ times n (numbers_of slots) + cond (eqb x.number n) 1 0
 times-insert n [] zero x = elim (eqb x.number n) as (λ b. cond b (0 + 1) 0 ≡ 0 + cond b 1 0) [ true ↦ refl | false ↦ refl ]
 times-insert n [] (suc i) x = elim (eqb x.number n) as (λ b. cond b (0 + 1) 0 ≡ 0 + cond b 1 0) [ true ↦ refl | false ↦ refl ]
@@ -25,7 +25,7 @@ times-insert n (y ∷ ys) (suc i) x = by_test (eqb y.number n) (eqb x.number n) 
     by_test true b e = omega (arith, e)
     by_test false b e = e
 
--- the queues, where that of this number is another
+-- the queues, if that of this number is another
 abbrev pub set_at : Queues → ℕ → Queue → Queues
 set_at queues n q m = cond (eqb m n) q (queue_at queues m)
 

@@ -19,7 +19,7 @@ keeps_out t (r ∷ rs) = by_test (eqb r.transaction t) refl (keeps_out t rs)
     by_test true e h = h
     by_test false e h = rw e h
 
--- a removed request doesn't stand
+-- a removed request is gone
 pub gone : (t : ℕ) (q : Queue) → stands_in (queue_without q t) t ≡ false
 gone t q = stands_granted [] (filter (λ r. not (eqb r.transaction t)) q) t ∙ keeps_out t q
 
@@ -33,7 +33,7 @@ released_one t r stands = ap (λ b. cond b (if_kept (without t r)) (Some r)) sta
 pub released_again : (t : ℕ) (r : Record) → released t (without t r) ≡ Some (without t r)
 released_again t r = ap (λ b. cond b (if_kept (without t (without t r))) (Some (without t r))) (gone t r.requests)
 
--- a transaction with an empty list stands nowhere
+-- a transaction with an empty list has no request
 pub stands_nowhere : (t : ℕ) (queues : Queues) (lists : SlotLists) → AreLinked queues lists → None ≡ first_of (slots_of lists t) → (n : ℕ) → stands_in (queue_at queues n) t ≡ false
 stands_nowhere t queues lists linked none n = by_list (slots_of lists t) none (linked.listed t n)
   where
@@ -41,7 +41,7 @@ stands_nowhere t queues lists linked none n = by_list (slots_of lists t) none (l
     by_list [] e listed = sym listed
     by_list (m ∷ ms) e listed = absurd cc
 
--- and it stands at the first slot of its list
+-- and it is at the first slot of its list
 pub stands_first : (t n : ℕ) (queues : Queues) (lists : SlotLists) → AreLinked queues lists → Some n ≡ first_of (slots_of lists t) → stands_in (queue_at queues n) t ≡ true
 stands_first t n queues lists linked first = by_list (slots_of lists t) first (linked.listed t n)
   where
@@ -52,7 +52,7 @@ stands_first t n queues lists linked first = by_list (slots_of lists t) first (l
         let at : eqb m n ≡ true = grind (arith, nat_tests, same) in
         sym listed ∙ rw at refl
 
--- where the transaction stands there is a slot
+-- if the transaction has a request there is a slot
 pub slot_there : (t n : ℕ) (slots : List Slot) (queues : Queues) → AreSlotsKept slots queues → stands_in (queue_at queues n) t ≡ true → times n (numbers_of slots) ≡ 0 → ⊥
 slot_there t n slots queues kept stands none =
     let empty : queue_at queues n ≡ [] = kept.bare n none in

@@ -1,4 +1,4 @@
--- The rows rise as their keys do.
+-- The rows ascend as their keys do.
 use Rattle.std.proofs.Common.{◌≡◌, ℕ, List, [], ◌∷◌, map, Bool, true, refl, sym, ap, ◌∙◌, ◌&&◌}
 use Rattle.std.specs.FinMap.{is_sorted}
 use Rattle.std.specs.FinMap.Entries.{below_all}
@@ -28,7 +28,7 @@ sorted_is : (queues : Queues) (slots : List Slot) → is_sorted key_cmp (rows_of
 sorted_is queues [] = refl
 sorted_is queues (x ∷ xs) = rw (below_is queues x.key xs, sorted_is queues xs) refl
 
--- they rise whatever the queues
+-- they ascend whatever the queues
 pub rise_any : (p q : Queues) (slots : List Slot) → KeysRise (rows_of p slots) → KeysRise (rows_of q slots)
 rise_any p q slots rise = sorted_is q slots ∙ (sym (sorted_is p slots) ∙ rise)
 

@@ -17,7 +17,7 @@ or_false : (a b : Bool) → (a || b) ≡ false → (a ≡ false) × (b ≡ false
 or_false true b e = absurd cc
 or_false false b e = (refl, e)
 
--- none waits in a queue where none waits in the rows
+-- none waits in a queue if none waits in the rows
 none_at : (t n : ℕ) (queues : Queues) (slots : List Slot) → is_waiting (rows_of queues slots) t ≡ false → 0 < times n (numbers_of slots) → waits_in t (queue_at queues n) ≡ false
 none_at t n queues [] none more = absurd (omega (arith, more))
 none_at t n queues (x ∷ xs) none more =

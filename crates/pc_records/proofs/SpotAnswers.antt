@@ -115,7 +115,7 @@ module _ (floor : Floor) (whole : IsFloorWhole floor) (key : List ℕ) (id : ℕ
     ready_here : is_ungranted (request_in spot.queue t) ≡ false
     ready_here = each_found (IsReady t) floor.spots key spot (all_ready t floor.spots ready) f.at
 
-    -- a writer of the key, where the request is granted, is the transaction itself
+    -- a writer of the key, if the request is granted, is the transaction itself
     own : (mode : Mode) (o : Outcome) → o ≡ outcome (queue_of floor.spots id) t mode → o ≡ Granted → (w : Writer) → spot.slot.writer ≡ Some w → w.transaction ≡ t
     own mode o told granted w is =
         sym (alone spot.queue t w.transaction mode (each_found (λ s. IsLegalQueue s.queue) floor.spots key spot whole.legal f.at) ready_here
@@ -128,7 +128,7 @@ module _ (floor : Floor) (whole : IsFloorWhole floor) (key : List ℕ) (id : ℕ
         by_writer None is = tt
         by_writer (Some w) is = own mode o told granted w is
 
-    -- the write, where the request was granted
+    -- the write, if the request was granted
     module _ (class : Class) (copy value : Option (List ℕ)) (o : Outcome) (told : o ≡ outcome (queue_of floor.spots id) t Exclusive) (copied : copy ≡ of_spot (copy_kept point class) floor.spots id) (outside : class ≡ Before → is_in_closed_set (record_of (rows_in floor.spots) key) ≡ false)
         (again : (p : Pending) → find key_cmp key (writes_in floor.spots) ≡ Some p → p.by ≡ t → p.class ≡ class) where
       -- what becomes of a spot
@@ -146,7 +146,7 @@ module _ (floor : Floor) (whole : IsFloorWhole floor) (key : List ℕ) (id : ℕ
       closed_here : class ≡ Before → spot.slot.is_in_closed_set ≡ false
       closed_here before = ap is_in_closed_set (sym record_here) ∙ outside before
 
-      -- the write is as one with a copy of what stands there
+      -- the write is as one with a copy of the content there
       copy_is : put_slot point t class copy value spot.slot ≡ put_slot point t class spot.slot.live value spot.slot
       copy_is = granted_alike Granted point t class copy spot.slot.live value spot.slot (λ keeps. copied ∙ f.has (copy_kept point class) ∙ ap (λ b. cond b spot.slot.live None) keeps)
 
@@ -282,7 +282,7 @@ module _ (floor : Floor) (key : List ℕ) (none : number_of floor.spots key ≡ 
         ∙ put_twice key (row_in (asked t mode Granted (new_spot id key))).1 (row_in (new_spot id key)).1 (rows_in floor.spots)
         ∙ sym (ap (λ r. put key_cmp key (with_requests r (queue_after (requests_on r) t mode Granted)) (rows_in floor.spots)) no_record)
 
-    -- it is as before where nothing keeps the new one
+    -- it is as before if nothing keeps the new one
     pub back_again : has_spot floor.spots id ≡ false → tidied id made.spots ≡ floor.spots
     back_again fresh = all floor.spots fresh
       where
@@ -324,7 +324,7 @@ module _ (floor : Floor) (key : List ℕ) where
   pub full_new : number_of floor.spots key ≡ None → full ≡ eqb (length floor.spots) floor.capacity
   full_new none = full_is ∙ ap (λ (o : Option ℕ). is_none o && eqb (length floor.spots) floor.capacity) none
 
-  -- where memory ran out
+  -- if an allocation failed
   pub ran_out : full ≡ false → OutOfMemory ≡ cond full Full OutOfMemory
   ran_out room = ap (λ (b : Bool). cond b Full OutOfMemory) (sym room)
 

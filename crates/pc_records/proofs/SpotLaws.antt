@@ -62,7 +62,7 @@ key_found (x ∷ xs) q s found = by_test (same_bytes q x.slot.key) refl found (k
     by_test true is found rest = one_key q x.slot.key is ∙ ap (λ (y : Spot). y.slot.key) (one_some found)
     by_test false is found rest = rest found
 
--- the head of rising spots has another key than the rest
+-- the head of ascending spots has another key than the rest
 pub head_lacks : (s : Spot) (ss : List Spot) (q : List ℕ) → Rise (rows_in (s ∷ ss)) → same_bytes q s.slot.key ≡ true → spot_of_key ss q ≡ None
 head_lacks s ss q rise same = ap (spot_of_key ss) (one_key q s.slot.key same) ∙ none_under s.slot.key ss (both (below_all key_cmp s.slot.key (rows_in ss)) (is_sorted key_cmp (rows_in ss)) rise).0
 
@@ -121,7 +121,7 @@ key_map g keeps (s ∷ ss) q =
     ap (λ k. cond (same_bytes q k) (Some (g s)) (spot_of_key (map g ss) q)) (keeps s)
     ∙ elim (same_bytes q s.slot.key) as (λ b. cond b (Some (g s)) (spot_of_key (map g ss) q) ≡ option_map g (cond b (Some s) (spot_of_key ss q))) [ true ↦ refl | false ↦ key_map g keeps ss q ]
 
--- where no spot has the number, or the key, none changes
+-- if no spot has the number, or the key, none changes
 pub apart_stay : (g : Spot → Spot) (id : ℕ) (ss : List Spot) → has_spot ss id ≡ false → map (at_spot g id) ss ≡ ss
 apart_stay g id [] none = refl
 apart_stay g id (s ∷ ss) none = by_test (eqb s.slot.number id) none (apart_stay g id ss)
@@ -138,7 +138,7 @@ lacking_stay g key (s ∷ ss) none = by_test (same_bytes key s.slot.key) none (l
     by_test true none rest = no_some (sym none)
     by_test false none rest = ap (λ (xs : List Spot). s ∷ xs) (rest none)
 
--- a key has a number where it has a spot
+-- a key has a number if it has a spot
 pub has_number : (ss : List Spot) (key : List ℕ) (id : ℕ) → number_of ss key ≡ Some id → has_spot ss id ≡ true
 has_number [] key id e = no_some e
 has_number (s ∷ ss) key id e = by_test (same_bytes key s.slot.key) e (has_number ss key id)
@@ -232,7 +232,7 @@ found floor key id whole e = by_spot (spot_of_key floor.spots key) refl
           },
         )
 
--- the rows where the spot of a key has changed
+-- the rows if the spot of a key has changed
 module _ (g : Spot → Spot) (key : List ℕ) (spot : Spot) where
   pub rows_changed : (g spot).slot.key ≡ spot.slot.key → (ss : List Spot) → Rise (rows_in ss) → spot_of_key ss key ≡ Some spot → rows_in (map (at_key g key) ss) ≡ put key_cmp key (row_in (g spot)).1 (rows_in ss)
   rows_changed keeps [] rise found = no_some found
@@ -291,7 +291,7 @@ module _ (new : Spot) where
       by_test false true is none rest = no_some (sym none)
       by_test false false is none rest = ap (λ b. cond b (Some s.slot.number) (number_of (entered new ss) new.slot.key)) is ∙ rest none
 
--- what is found where a spot has gone in
+-- what is found if a spot has gone in
 pub key_entered : (new : Spot) (ss : List Spot) (q : List ℕ) → spot_of_key ss new.slot.key ≡ None → spot_of_key (entered new ss) q ≡ cond (same_bytes q new.slot.key) (Some new) (spot_of_key ss q)
 key_entered new [] q none = refl
 key_entered new (s ∷ ss) q none = by_test (is_lt (key_cmp new.slot.key s.slot.key)) (same_bytes new.slot.key s.slot.key) refl none (key_entered new ss q)

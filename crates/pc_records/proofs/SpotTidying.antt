@@ -1,4 +1,4 @@
--- Spots once a request is let go, or a key taken, and once the slot is free where nothing keeps it.
+-- Spots once a request is let go, or a key taken, and once the slot is free if nothing keeps it.
 use Rattle.std.proofs.Common.{◌≡◌, ℕ, ◌+◌, ◌<◌, List, [], ◌∷◌, filter, map, Option, Some, None, refl, sym, ap, ◌∙◌, subst, cond, Bool, true, false, eqb, ◌||◌, ◌&&◌, not, arith}
 use Rattle.std.proofs.lemmas.Bool.{eqb-true, eq-eqb}
 use Rattle.std.specs.FinMap.{find}
@@ -20,7 +20,7 @@ use Rattle.pc_records.proofs.FloorTidying.{no_request}
 use Rattle.pc_records.proofs.SlotReleasing.{gone, without, released_one, released_again}
 use Rattle.pc_records.proofs.SpotLaws.{no, one_some, same_self, spot_of_key, spot_of_number, record_in, write_in, found_record, found_write, key_found, head_lacks, tail_rises, each_by_key, each_found, each_changed, apart_stay, rows_changed, writes_same, has_same, has_number, found, IsFound}
 
--- the rows of other keys, where the key has none
+-- the rows of other keys, if the key has none
 others_all : (key : List ℕ) (rows : List Row) → record_of rows key ≡ None → filter (λ row. not (same_bytes key row.0)) rows ≡ rows
 others_all key [] h = refl
 others_all key (row ∷ rows) h = by_test (same_bytes key row.0) refl (others_all key rows)
@@ -89,7 +89,7 @@ module _ (t id : ℕ) where
       let parts = or_parts (eqb s.slot.number id) (has_spot ss id) none in
       ap (λ b. (b && stands_in s.queue t) || stands_at ss id t) parts.0 ∙ stands_apart ss parts.1
 
-  -- the first spot, where it has the number
+  -- the first spot, if it has the number
   module _ (s : Spot) (ss : List Spot) (is : eqb s.slot.number id ≡ true) (apart : has_spot ss s.slot.number ≡ false) where
     none_left : has_spot ss id ≡ false
     none_left = ap (has_spot ss) (sym (eqb-true s.slot.number id is)) ∙ apart
@@ -181,7 +181,7 @@ module _ (t id : ℕ) where
       writes_same (at_spot (let_go t) id) (λ s. elim (eqb s.slot.number id) as (λ b. (cond b (let_go t s) s).slot.key ≡ s.slot.key) [ true ↦ refl | false ↦ refl ])
       (λ s. elim (eqb s.slot.number id) as (λ b. pending_in (cond b (let_go t s) s).slot ≡ pending_in s.slot) [ true ↦ refl | false ↦ refl ]) ss
 
--- a spot that has changed, and is free where nothing keeps it then
+-- a spot that has changed, and is free if nothing keeps it then
 module _ (g : Spot → Spot) (numbers : (s : Spot) → (g s).slot.number ≡ s.slot.number) (id : ℕ) (spot : Spot) where
   stays_tidied : is_needed (g spot) ≡ true → (ss : List Spot) → AreSpotsApart ss → spot_of_number ss id ≡ Some spot → tidied id (map (at_spot g id) ss) ≡ map (at_spot g id) ss
   stays_tidied needed [] apart found = refl

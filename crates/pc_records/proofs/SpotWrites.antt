@@ -1,4 +1,4 @@
--- Spots once writes are committed or undone, one after the other.
+-- Spots once writes are committed or undone, in order.
 use Rattle.std.proofs.Common.{◌≡◌, ℕ, zero, suc, ◌+◌, ◌<◌, ◌≤◌, List, [], ◌∷◌, ◌++◌, append_assoc, append-nil, length, drop, get_or, map, Option, Some, None, is_some, option_map, refl, sym, ap, ◌∙◌, subst, cond, Bool, true, false, eqb, ◌&&◌, ◌||◌, not}
 use Rattle.std.proofs.lemmas.List.{drop_all}
 use Rattle.std.specs.FinMap.{find}
@@ -126,7 +126,7 @@ module _ (point : ℕ) where
   pub opened_done : (ws : List Write) (i : ℕ) (now : List Spot) (keys all : List (List ℕ)) → length ws ≤ i → keys ++ newly_opened_keys now (drop i ws) ≡ all → keys ≡ all
   opened_done ws i now keys all le so_far = sym (ap (λ vs. keys ++ newly_opened_keys now vs) (drop_all i ws le) ∙ append-nil keys) ∙ so_far
 
--- where each of the keys has a write in place, the keys that go in are those that are new
+-- if each of the keys has a write in place, the keys that go in are those that are new
 module _ (ss : List Spot) (rise : Rise (rows_in ss)) where
   abbrev Stand : List Write → Type 0
   Stand ws = (q : List ℕ) → is_some (written ws q) ≡ true → is_some (find key_cmp q (writes_in ss)) ≡ true
@@ -158,11 +158,11 @@ module _ (ss : List Spot) (rise : Rise (rows_in ss)) where
 
   -- the rows once the writes are committed
   module _ (point : ℕ) (ws : List Write) (stand : Stand ws) where
-    -- what stands in the places of their keys
+    -- the contents of the places of their keys
     abbrev standing : List ℕ → Option (Option (List ℕ))
     standing q = cond (is_some (written ws q)) (option_map value_of (find key_cmp q (writes_in ss))) None
 
-    -- the spot's own write is what stands in the place of its key, and it has one where the key is written
+    -- the spot's own write is the content of the place of its key, and it has one if the key is written
     abbrev Stands : Spot → Type 0
     Stands s = (find key_cmp s.slot.key (writes_in ss) ≡ pending_in s.slot) × (is_some (written ws s.slot.key) ≡ true → is_some (pending_in s.slot) ≡ true)
 

@@ -19,7 +19,7 @@ use Rattle.pc_dirty.specs.declared.side.Side.{Side}
 use Rattle.pc_records.proofs.BlankSlots.{blank_slot}
 use Rattle.pc_records.proofs.SlotKeeping.{numbers_map}
 
--- where a slot of the key goes in
+-- if a slot of the key goes in
 abbrev pub place : List ℕ → List Slot → ℕ
 place key [] = 0
 place key (s ∷ ss) = by_order (key_cmp key s.key) 0 0 (suc (place key ss))
@@ -40,7 +40,7 @@ no_find rows key e = by_place (find key_cmp key rows) e
     by_place (Some p) e = absurd (no_row (sym e))
 
 module _ (side : Side) where
-  -- they rise as the rows do
+  -- they ascend as the rows do
   below_slots : (key : List ℕ) (rows : List (TableRow Cell)) → below_all key_cmp key (rows_of no_queues (slots_in side rows)) ≡ below_all key_cmp key rows
   below_slots key [] = refl
   below_slots key (row ∷ rows) = rw (below_slots key rows) refl

@@ -27,7 +27,7 @@ in_unlinked (row ∷ rows) n = by_test (eqb row.1.0 n) (in_unlinked rows n)
     by_test true rest = refl
     by_test false rest = rest
 
--- where all but the links stays, so do the slots, whichever side the open set is on
+-- if all but the links stays, so do the slots, whichever side the open set is on
 pub slots_unlinked : (side : Side) (rows : List (TableRow Cell)) → slots_in side (map unlinked_row rows) ≡ slots_in side rows
 slots_unlinked First [] = refl
 slots_unlinked Second [] = refl

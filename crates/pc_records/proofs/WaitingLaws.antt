@@ -1,4 +1,4 @@
--- The rows say whether a transaction waits, and its writes stand under its locks.
+-- The rows say whether a transaction waits, and its writes are under its locks.
 use Rattle.std.proofs.Common.{◌≡◌, ℕ, List, [], ◌∷◌, Option, Some, None, is_some, refl, sym, ap, ◌∙◌, cond, true, false, Bool, ◌||◌}
 use Rattle.std.specs.FinMap.{is_sorted}
 use Rattle.std.specs.FinMap.Entries.{is_some-find, below_all}
@@ -26,7 +26,7 @@ record WaitsAt (rows : List Row) (t : ℕ) : Type 0 where
   key : List ℕ
   waits : is_ungranted (request_in (requests_on (record_of rows key)) t) ≡ true
 
--- where a key's record has a request that waits, so do the rows
+-- if a key's record has a request that waits, so do the rows
 waits_there : (rows : List Row) (key : List ℕ) (t : ℕ) → is_ungranted (request_in (requests_on (record_of rows key)) t) ≡ true → is_waiting rows t ≡ true
 waits_there [] key t waits = cc
 waits_there (row ∷ rows) key t waits = by_key (same_bytes key row.0) waits (waits_there rows key t)
@@ -64,7 +64,7 @@ waits_somewhere (row ∷ rows) t rise waits =
         }
     by_own false own e later none = let there = later e in record { key = there.key; waits = by_key there.key (same_bytes there.key row.0) refl none there.waits }
 
--- an open session's transaction waits in the rows where it waits in the history
+-- an open session's transaction waits in the rows if it waits in the history
 pub waiting_now : (base : Database) (rows : List Row) (h : History) (s : ℕ) → Locked h → AreRecords base rows h → is_open s h ≡ true → is_waiting rows (number_of s h) ≡ waits_now s h
 waiting_now base rows h s locked are opened = by_rows (is_waiting rows (number_of s h)) refl
   where

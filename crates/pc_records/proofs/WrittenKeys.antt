@@ -8,7 +8,7 @@ some_first : {A : Type 0} (b : Bool) (x : A) (o : Option A) → is_some (cond b 
 some_first true x o = refl
 some_first false x o = refl
 
--- a key is written where it is that of the first write, or one of the rest
+-- a key is written if it is that of the first write, or one of the rest
 pub written_first : (w : Write) (ws : List Write) (q : List ℕ) → is_some (written (w ∷ ws) q) ≡ (same_bytes w.key q || is_some (written ws q))
 written_first w ws q = some_first (same_bytes w.key q) _ (written ws q)
 

@@ -1,4 +1,4 @@
--- The ends of the slots' queues, which stand in the slots of a table.
+-- The ends of the slots' queues, which are in the slots of a table.
 use Rattle.std.specs.Prelude.{◌≡◌, ℕ, List, Option, Some, None, is_some}
 use Rattle.pc_chain.specs.declared.chain.Chain.{Chain}
 use Rattle.pc_locks.specs.Lines.{no_chain}
@@ -11,7 +11,7 @@ use Rattle.pc_records.specs.Slots.{slots_in}
 use Rattle.pc_records.specs.SetLists.{KeepSets}
 use Rattle.pc_slots.specs.Words.{chain_in}
 
--- the ends in a slot; those of an empty queue where it has no row
+-- the ends in a slot; those of an empty queue if it has no row
 abbrev pub ends_of : Option (List ℕ × Cell) → Chain ℕ
 ends_of None = no_chain
 ends_of (Some p) = chain_in p.1

@@ -22,7 +22,7 @@ pub record Spot : Type 0 where
   pub slot : Slot
   pub queue : Queue
 
--- how many slots there may be, the slots, rising by key, and the keys of the open set and of the closed one, in order
+-- how many slots there may be, the slots, ascending by key, and the keys of the open set and of the closed one, in order
 pub record Floor : Type 0 where
   pub capacity : ℕ
   pub spots : List Spot
@@ -39,7 +39,7 @@ spots_of queues slots = map (spot_of queues) slots
 abbrev pub floor_of : ℕ → Queues → List Slot → List (List ℕ) → List (List ℕ) → Floor
 floor_of capacity queues slots opened closed = record { capacity = capacity; spots = spots_of queues slots; opened = opened; closed = closed }
 
--- the spot so changed, where it has the number
+-- the spot so changed, if it has the number
 abbrev pub at_spot : (Spot → Spot) → ℕ → Spot → Spot
 at_spot f number spot = if spot.slot.number == number then f spot else spot
 
@@ -63,7 +63,7 @@ let_go t = queued (λ q. queue_without q t)
 abbrev pub asked : ℕ → Mode → Outcome → Spot → Spot
 asked t mode answer = queued (λ q. queue_after q t mode answer)
 
--- the queue at the slot of the number; none where there is no such slot
+-- the queue at the slot of the number; none if there is no such slot
 abbrev pub queue_of : List Spot → ℕ → Queue
 queue_of [] number = []
 queue_of (spot ∷ spots) number = if spot.slot.number == number then spot.queue else queue_of spots number
@@ -88,7 +88,7 @@ abbrev pub newly_opened : List Spot → ℕ → List (List ℕ)
 newly_opened [] number = []
 newly_opened (spot ∷ spots) number = if spot.slot.number == number then if is_some spot.slot.writer && not spot.slot.is_in_open_set then spot.slot.key ∷ [] else [] else newly_opened spots number
 
--- the number of the key's slot; none where the key has no slot
+-- the number of the key's slot; none if the key has no slot
 abbrev pub number_of : List Spot → List ℕ → Option ℕ
 number_of [] key = None
 number_of (spot ∷ spots) key = if same_bytes key spot.slot.key then Some spot.slot.number else number_of spots key
@@ -106,7 +106,7 @@ entered new (spot ∷ spots) = if is_lt (key_cmp new.slot.key spot.slot.key) the
 abbrev pub is_needed : Spot → Bool
 is_needed spot = is_kept_slot spot.queue spot.slot
 
--- the spots without that of this number where nothing keeps it
+-- the spots without that of this number if nothing keeps it
 abbrev pub tidied : ℕ → List Spot → List Spot
 tidied number spots = filter (λ spot. not (spot.slot.number == number) || is_needed spot) spots
 
@@ -118,7 +118,7 @@ pub record TakesFirstSpot (old new : Floor) (number : ℕ) : Type 0 where
   pub found : number_of old.spots key ≡ Some number
   pub taken : new ≡ record (with_spot (changed taken_slot) number old) { closed = keys }
 
--- what the key has at the point, where it is in the closed set
+-- what the key has at the point, if it is in the closed set
 abbrev pub content_at : List Spot → List ℕ → Option (List ℕ)
 content_at [] key = None
 content_at (spot ∷ spots) key = if same_bytes key spot.slot.key then pinned spot.slot else content_at spots key
@@ -128,7 +128,7 @@ abbrev pub first_of_closed : List Spot → List (List ℕ) → Option (List ℕ 
 first_of_closed spots [] = None
 first_of_closed spots (key ∷ keys) = Some (key, content_at spots key)
 
--- what the slot of the number has of something; none where there is no such slot
+-- what the slot of the number has of something; none if there is no such slot
 abbrev pub of_spot : (Slot → Option (List ℕ)) → List Spot → ℕ → Option (List ℕ)
 of_spot f [] number = None
 of_spot f (spot ∷ spots) number = if spot.slot.number == number then f spot.slot else of_spot f spots number
@@ -169,7 +169,7 @@ abbrev pub writes_in : List Spot → List (List ℕ × Pending)
 writes_in [] = []
 writes_in (spot ∷ spots) = with_entry spot.slot.key (pending_in spot.slot) (writes_in spots)
 
--- the records that stand on the floor, given the point of the last closed set
+-- the records on the floor, given the point of the last closed set
 abbrev pub table_on : ℕ → Floor → RecordsView
 table_on point floor = record { capacity = floor.capacity; rows = rows_in floor.spots; pending = writes_in floor.spots; point = point; opened = floor.opened; shut = floor.closed }
 
@@ -183,8 +183,8 @@ abbrev pub AreSpotsApart : List Spot → Type 0
 AreSpotsApart [] = Unit {0}
 AreSpotsApart (spot ∷ spots) = (has_spot spots spot.slot.number ≡ false) × AreSpotsApart spots
 
--- what a floor keeps: keys rise, each slot has a number of its own, no two granted requests conflict, and each key is listed
--- exactly where it is in the set
+-- what a floor keeps: keys ascend, each slot has a number of its own, no two granted requests conflict, and each key is
+-- listed if and only if it is in the set
 pub record IsFloorWhole (floor : Floor) : Type 0 where
   pub rise : KeysRise (rows_in floor.spots)
   pub apart : AreSpotsApart floor.spots
@@ -195,11 +195,11 @@ pub record IsFloorWhole (floor : Floor) : Type 0 where
 abbrev pub AreSpotsSound : ℕ → List Spot → Type 0
 AreSpotsSound point spots = Each (λ spot. IsSlotSound point spot.queue spot.slot) spots
 
--- the spot so changed, where it is the key's
+-- the spot so changed, if it is the key's
 abbrev pub at_key : (Spot → Spot) → List ℕ → Spot → Spot
 at_key f key spot = if same_bytes key spot.slot.key then f spot else spot
 
--- the spot so changed, where its key is written
+-- the spot so changed, if its key is written
 abbrev pub at_writes : (Spot → Spot) → List Write → Spot → Spot
 at_writes f writes spot = if is_some (written writes spot.slot.key) then f spot else spot
 

@@ -1,4 +1,4 @@
--- What the records say of a history.
+-- The relation of the records to a history.
 use Rattle.std.specs.Prelude.{◌≡◌, ℕ, Bool, true, false, List, Option, Some, None, is_some}
 use Rattle.pc_model.specs.Maps as map_of
 use Rattle.pc_model.specs.Database.{Database, KeysRise}

@@ -5,7 +5,7 @@ use Rattle.pc_types.specs.declared.limits.TheConstants.{MOST_WRITES}
 use Rattle.pc_model.specs.Database.{written}
 use Rattle.pc_records.specs.Rows.{Row, record_of, is_in_open_set}
 
--- the keys with this one before them, where it is new
+-- the keys with this one before them, if it is new
 abbrev pub with_new : Bool → List ℕ → List (List ℕ) → List (List ℕ)
 with_new true key keys = keys
 with_new false key keys = key ∷ keys

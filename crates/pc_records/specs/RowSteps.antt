@@ -1,4 +1,4 @@
--- What each call makes of the rows, and what is asked of them.
+-- The effect of each call on the rows, and the questions about them.
 use Rattle.std.specs.Prelude.{ℕ, ◌==◌, ◌&&◌, not, Bool, true, false, List, [], ◌∷◌, length, filter, Option, Some, None, is_none, if◌then◌else◌}
 use Rattle.std.specs.List.{list_any}
 use Rattle.std.specs.FinMap.{put as put_entry}
@@ -12,11 +12,11 @@ use Rattle.pc_types.specs.declared.Outcome.TheVariants.{Granted, Queued, Died}
 use Rattle.pc_model.specs.Queues.{stands_in}
 use Rattle.pc_records.specs.Rows.{Kept, Record, Row, is_kept, record_of, requests_on}
 
--- the same record, or none where nothing keeps it
+-- the same record, or none if nothing keeps it
 abbrev pub if_kept : Record → Option Record
 if_kept r = if is_kept r then Some r else None
 
--- the rows with this one before them, where there is a record
+-- the rows with this one before them, if there is a record
 abbrev pub with_row : Option Record → List ℕ → List Row → List Row
 with_row None key rows = rows
 with_row (Some r) key rows = (key, r) ∷ rows
@@ -29,7 +29,7 @@ committed_row pair = (pair.0, record { value = Some pair.1; is_in_open_set = fal
 abbrev pub is_full_for : Kept → List ℕ → Bool
 is_full_for kept key = is_none (record_of kept.rows key) && (length kept.rows == kept.capacity)
 
--- why a request of the key is refused that isn't answered: it has no record and can't get one, or memory ran out
+-- why a request of the key is refused that isn't answered: it has no record and can't get one, or an allocation failed
 abbrev pub why_refused : Kept → List ℕ → Refusal
 why_refused kept key = if is_full_for kept key then Full else OutOfMemory
 
@@ -52,7 +52,7 @@ rows_after rows key t mode Granted = put_entry key_cmp key (with_requests (recor
 rows_after rows key t mode Queued = put_entry key_cmp key (with_requests (record_of rows key) (queue_after (requests_on (record_of rows key)) t mode Queued)) rows
 rows_after rows key t mode Died = rows
 
--- the record once the transaction's request is removed, if it has one, or none where nothing keeps the record then
+-- the record once the transaction's request is removed, if it has one, or none if nothing keeps the record then
 abbrev pub released : ℕ → Record → Option Record
 released t r = if stands_in r.requests t then if_kept (record r { requests = queue_without r.requests t }) else Some r
 
@@ -74,7 +74,7 @@ written_row committed row = (row.0, given (committed row.0) row.1)
 abbrev pub closed_row : Row → Row
 closed_row row = (row.0, record row.1 { is_in_open_set = false; is_in_closed_set = row.1.is_in_open_set; pinned = if row.1.is_in_open_set then row.1.value else None })
 
--- the record of the key once the key is taken, or none where nothing keeps it
+-- the record of the key once the key is taken, or none if nothing keeps it
 abbrev pub left_of : Option Record → Option Record
 left_of None = None
 left_of (Some r) = if_kept (record r { is_in_closed_set = false; pinned = None })

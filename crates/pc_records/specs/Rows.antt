@@ -1,11 +1,11 @@
--- What the records of keys are seen as: rows that rise by key, each with what is kept of the key.
+-- The view of the records of keys: rows that ascend by key, each with what is kept of the key.
 use Rattle.std.specs.Prelude.{ℕ, ◌||◌, not, Bool, false, List, [], Option, Some, None, is_some}
 use Rattle.std.specs.FinMap.{find}
 use Rattle.pc_model.specs.Database.{key_cmp}
 use Rattle.pc_model.specs.Locks.{Queue}
 use Rattle.pc_model.specs.Replies.{is_empty}
 
--- What is kept of a key: the committed value, if it has one; whether it is in the open set, so that a commit since the last
+-- The record of a key: the committed value, if it has one; whether it is in the open set, so that a commit since the last
 -- resolve token, or since the start, wrote it; whether it is in the closed set; the value that it has at the point, if it
 -- has one there and is in the closed set; and the requests of its lock.
 pub record Record : Type 0 where
@@ -19,7 +19,7 @@ pub record Record : Type 0 where
 abbrev pub Row : Type 0
 Row = List ℕ × Record
 
--- the records, rising by key, and how many there may be
+-- the records, ascending by key, and how many there may be
 pub record Kept : Type 0 where
   pub capacity : ℕ
   pub rows : List Row

@@ -41,7 +41,7 @@ keys_at rows slots = map (λ slot. key_in (in_slot rows slot)) slots
 abbrev pub is_listed : List ℕ → ℕ → Bool
 is_listed slots slot = list_any (λ x. x == slot) slots
 
--- the sets are these two lists, which the links lead along, and each slot is marked exactly where it is in the list
+-- the sets are these two lists, which the links lead along, and each slot is marked if and only if it is in the list
 pub record AreSetLists (rows : List (TableRow Cell)) (sets : Dirty) (opened closed : List ℕ) : Type 0 where
   pub linked : AreSets (HasPlace rows) (next_in rows) sets opened closed
   pub open_marks : (slot : ℕ) → marked_in sets.side (in_slot rows slot) ≡ is_listed opened slot
@@ -65,7 +65,7 @@ open_keys rows sets = keys_at rows (open_slots rows sets)
 abbrev pub closed_keys : List (TableRow Cell) → Dirty → List (List ℕ)
 closed_keys rows sets = keys_at rows (closed_slots rows sets)
 
--- what the sets have of a slot: its key and its words, where it is in one of them
+-- what the sets have of a slot: its key and its words, if it is in one of them
 abbrev pub in_sets : Option (List ℕ × Cell) → Option (List ℕ × (Word × Word))
 in_sets None = None
 in_sets (Some p) = if p.1.first.is_in || p.1.second.is_in then Some (p.0, words_of p.1) else None

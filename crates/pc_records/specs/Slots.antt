@@ -38,7 +38,7 @@ row_of queues slot = (slot.key, record { value = committed slot; is_in_open_set 
 abbrev pub rows_of : Queues → List Slot → List Row
 rows_of queues slots = map (row_of queues) slots
 
--- the entries with this one before them, where there is one
+-- the entries with this one before them, if there is one
 abbrev pub with_entry : {X : Type 0} → List ℕ → Option X → List (List ℕ × X) → List (List ℕ × X)
 with_entry key None entries = entries
 with_entry key (Some x) entries = (key, x) ∷ entries
@@ -73,17 +73,17 @@ table_of capacity queues slots point opened shut = record { capacity = capacity;
 abbrev pub numbers_of : List Slot → List ℕ
 numbers_of slots = map (λ slot. slot.number) slots
 
--- how often the number stands in the list
+-- how often the number occurs in the list
 abbrev pub times : ℕ → List ℕ → ℕ
 times n [] = 0
 times n (m ∷ ms) = if m == n then times n ms + 1 else times n ms
 
--- what slots and queues keep: the keys rise, each slot has a number of its own, and a number that no slot has has no request
+-- what slots and queues keep: the keys ascend, each slot has a number of its own, and a number that no slot has has no request
 pub record AreSlotsKept (slots : List Slot) (queues : Queues) : Type 0 where
   pub rise : KeysRise (rows_of no_queues slots)
   pub once : (n : ℕ) → times n (numbers_of slots) ≤ 1
   pub bare : (n : ℕ) → times n (numbers_of slots) ≡ 0 → queue_at queues n ≡ []
 
--- the slot changed, where it has the number
+-- the slot changed, if it has the number
 abbrev pub at_number : (Slot → Slot) → ℕ → Slot → Slot
 at_number f number slot = if slot.number == number then f slot else slot

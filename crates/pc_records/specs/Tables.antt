@@ -1,5 +1,5 @@
--- What the records hold beside the rows: the writes of open transactions, each in its key's place, the point of the last
--- closed set, and the keys of the two sets in order.
+-- The records besides the rows: the writes of open transactions, each in its key's place, the point of the last closed set, and
+-- the keys of the two sets in order.
 use Rattle.std.specs.Prelude.{◌≡◌, ℕ, List, [], ◌∷◌, Option, Some, None, is_some, option_map, option_copied, if◌then◌else◌, MatchOption}
 use Rattle.std.specs.FinMap.{find}
 use denote.Ref.{Bor}
@@ -15,7 +15,7 @@ use Rattle.pc_slots.specs.Slots.{Pending}
 use Rattle.pc_records.specs.RowSteps.{rows_after}
 use Rattle.pc_records.specs.Rows.{Row, Kept, record_of, stored, is_in_open_set, is_in_closed_set, at_point}
 
--- the records: the rows, the writes of open transactions, rising by key, the point of the last closed set, and the keys of the
+-- the records: the rows, the writes of open transactions, ascending by key, the point of the last closed set, and the keys of the
 -- open set and of the closed one, each in the order in which they came into it
 pub record RecordsView : Type 0 where
   pub capacity : ℕ
@@ -37,12 +37,12 @@ pending_at t key = find key_cmp key t.pending
 abbrev pub value_of : Pending → Option (List ℕ)
 value_of p = p.value
 
--- what stands in a key's place: what an open transaction wrote last, or else the committed value
+-- the content of a key's place: what an open transaction wrote last, or else the committed value
 abbrev pub read_of : Option Pending → Option (List ℕ) → Option (List ℕ)
 read_of None committed = committed
 read_of (Some p) committed = p.value
 
--- what stands in the key's place
+-- the content of the key's place
 abbrev pub latest : RecordsView → List ℕ → Option (List ℕ)
 latest t key = read_of (pending_at t key) (stored (record_of t.rows key))
 
@@ -50,7 +50,7 @@ latest t key = read_of (pending_at t key) (stored (record_of t.rows key))
 abbrev pub IsClearFor : RecordsView → List ℕ → ℕ → Type 0
 IsClearFor t key transaction = MatchOption (pending_at t key) (Unit {0}) (λ p. p.by ≡ transaction)
 
--- what stands of the key once this was asked to be written of another one, or of the same
+-- the content of the key's place once this was asked to be written of another one, or of the same
 abbrev pub pending_after : Outcome → RecordsView → List ℕ → Pending → List ℕ → Option Pending
 pending_after Granted t key p q = if same_bytes key q then Some p else pending_at t q
 pending_after Queued t key p q = pending_at t q
@@ -64,8 +64,8 @@ IsOfClass t key transaction class = (p : Pending) → pending_at t key ≡ Some 
 abbrev pub once_asked : RecordsView → List ℕ → ℕ → Mode → Outcome → RecordsView
 once_asked t key transaction mode answer = record t { rows = rows_after t.rows key transaction mode answer }
 
--- the transaction's request to write the key was so answered: its request is in the rows, and where it is granted the write stands in
--- the key's place, in which no other transaction has one
+-- the transaction's request to write the key was so answered: its request is in the rows, and if it is granted the write is in the
+-- key's place, in which no other transaction has one
 pub record IsAsked (old new : RecordsView) (transaction : ℕ) (class : Class) (key : List ℕ) (value : Option (List ℕ)) (answer : Outcome) : Type 0 where
   pub rows : kept_of new ≡ record (kept_of old) { rows = rows_after old.rows key transaction Exclusive answer }
   pub pending : (q : List ℕ) → pending_at new q ≡ pending_after answer old key (record { by = transaction; class = class; value = value }) q
@@ -74,15 +74,15 @@ pub record IsAsked (old new : RecordsView) (transaction : ℕ) (class : Class) (
   pub opened : new.opened ≡ old.opened
   pub shut : new.shut ≡ old.shut
 
--- what stands of the key once the transaction of these writes is over
+-- the content of the key's place once the transaction of these writes is over
 abbrev pub pending_without : List Write → RecordsView → List ℕ → Option Pending
 pending_without writes t q = if is_some (written writes q) then None else pending_at t q
 
--- what a commit of these writes makes committed of a key: where they write it, what stands in its place
+-- the committed content of a key after a commit of these writes: if they write it, the content of its place
 abbrev pub made_committed : List Write → RecordsView → List ℕ → Option (Option (List ℕ))
 made_committed writes t q = if is_some (written writes q) then option_map value_of (pending_at t q) else None
 
--- each key is listed exactly where it is in the set
+-- each key is listed if and only if it is in the set
 pub record AreListed (t : RecordsView) : Type 0 where
   pub open_set : (q : List ℕ) → is_in_open_set (record_of t.rows q) ≡ is_among t.opened q
   pub closed_set : (q : List ℕ) → is_in_closed_set (record_of t.rows q) ≡ is_among t.shut q
@@ -96,6 +96,6 @@ first_pinned rows (key ∷ keys) = Some (key, at_point (record_of rows key))
 abbrev pub first_content : RecordsView → Option (List ℕ × Option (List ℕ))
 first_content t = first_pinned t.rows t.shut
 
--- the key and the content behind the references
+-- the key and the content after the references
 abbrev pub content_behind : Bor (List ℕ) × Option (Bor (List ℕ)) → List ℕ × Option (List ℕ)
 content_behind pair = (pair.0.now, option_copied pair.1)

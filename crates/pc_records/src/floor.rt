@@ -45,7 +45,7 @@ impl Model for KeySlots {
 }
 
 impl KeySlots {
-    /// A slot for each pair, whose value is committed; both sets are empty, and no request stands. An error where memory ran out.
+    /// A slot for each pair, whose value is committed; both sets are empty, and there is no request. An error if an allocation fails.
     pub(crate) fn of_pairs(
         alloc: Global,
         capacity: u32,
@@ -69,7 +69,7 @@ impl KeySlots {
         })
     }
 
-    /// The number of the key's slot; None where it has none. It is looked for near the slot first.
+    /// The number of the key's slot; `None` if it has none. It is looked for near the slot first.
     pub(crate) fn find(&self, key: &Key, near: Option<SlotId>) -> Option<SlotId>
         ensures found { result ≡ number_of self.now.spots key.now }
         ensures there { IfSome result (λ id. has_spot self.now.spots id ≡ true) }
@@ -91,7 +91,7 @@ impl KeySlots {
         self.locks.is_waiting(transaction)
     }
 
-    /// The committed pairs, rising by key; an error where memory ran out.
+    /// The committed pairs, ascending by key; an error if an allocation fails.
     pub(crate) fn committed(&self, alloc: Global) -> Result<Vec<(Key, Value)>, AllocError>
         ensures rise { IfOk result (λ pairs. KeysRise pairs.items) }
         ensures contents { IfOk result (λ pairs. (key : List ℕ) → get (database_of pairs.items) key ≡ committed_at self.now.spots key) }
@@ -99,7 +99,7 @@ impl KeySlots {
         slots::committed_pairs(alloc, &self.table)
     }
 
-    /// A copy of what stands in the slot; an error where memory ran out.
+    /// A copy of the slot's content; an error if an allocation fails.
     pub(crate) fn copy(&self, alloc: Global, id: SlotId) -> Result<Option<Value>, AllocError>
         requires there { has_spot self.now.spots id ≡ true }
         ensures { IfOk result (λ copy. copy ≡ of_spot (λ slot. slot.live) self.now.spots id) }
@@ -107,7 +107,7 @@ impl KeySlots {
         copy_content(alloc, &self.table.get(id).live)
     }
 
-    /// What stands in the slot.
+    /// The slot's content.
     pub(crate) fn live(&self, id: SlotId) -> Option<&Value>
         requires there { has_spot self.now.spots id ≡ true }
         ensures { option_copied result ≡ of_spot (λ slot. slot.live) self.now.spots id }
@@ -115,7 +115,7 @@ impl KeySlots {
         self.table.get(id).live.as_ref()
     }
 
-    /// A copy of what stands in the slot, where a write of a transaction of the class keeps one; else None. An error where memory ran out.
+    /// A copy of the slot's content, if a write of a transaction of the class keeps one; else `None`. An error if an allocation fails.
     pub(crate) fn copy_to_keep(
         &self,
         alloc: Global,
@@ -130,7 +130,7 @@ impl KeySlots {
         pc_slots::copy_to_keep(alloc, self.table.get(id), Stage { side, point }, class)
     }
 
-    /// A box in which nothing is kept yet, for a write; an error where memory ran out.
+    /// A box in which nothing is kept yet, for a write; an error if an allocation fails.
     pub(crate) fn room(&mut self, alloc: Global) -> Result<Box<Aside>, AllocError>
         ensures room { IfOk result (λ room. room.value ≡ nothing_aside) }
         ensures same { self.new ≡ self.old }
@@ -146,8 +146,8 @@ impl KeySlots {
         self.spares.put_back(room);
     }
 
-    /// A slot for the key, which has none: it keeps nothing, and no request stands there. It is refused with `Full` where there
-    /// are as many slots as there may be, and else only where memory ran out; then nothing changed.
+    /// A slot for the key, which has none: it keeps nothing, and there is no request there. It is refused with `Full` if there are as many
+    /// slots as there may be, and otherwise only if an allocation failed; then nothing changed.
     pub(crate) fn make(&mut self, alloc: Global, key: &Key) -> Result<SlotId, Refusal>
         requires new { number_of self.old.spots key.now ≡ None }
         ensures made { IfOk result (λ id. self.new ≡ record self.old { spots = entered (new_spot id key.now) self.old.spots }) }
@@ -161,7 +161,7 @@ impl KeySlots {
         slots::make(alloc, &mut self.table, key)
     }
 
-    /// The write stands in the slot.
+    /// Puts the write into the slot.
     pub(crate) fn put(&mut self, id: SlotId, point: Point, write: Writing)
         requires there { has_spot self.old.spots id ≡ true }
         requires room { write.room.value ≡ nothing_aside }
@@ -178,7 +178,7 @@ impl KeySlots {
         );
     }
 
-    /// The write that stands in the slot is committed; its key goes to the end of the open set where it isn't in it.
+    /// Commits the write in the slot; its key goes to the end of the open set if it isn't in it.
     pub(crate) fn settle(&mut self, id: SlotId, point: Point)
         requires there { has_spot self.old.spots id ≡ true }
         ensures settled { self.new ≡ record (with_spot (changed (settled point)) id self.old) { opened = self.old.opened ++ newly_opened self.old.spots id } }
@@ -187,7 +187,7 @@ impl KeySlots {
         slots::settle_slot(&mut self.table, &mut self.sets, &mut self.spares, id, point);
     }
 
-    /// The write that stands in the slot is undone.
+    /// Undoes the write in the slot.
     pub(crate) fn undo(&mut self, id: SlotId, point: Point)
         requires there { has_spot self.old.spots id ≡ true }
         ensures undone { self.new ≡ with_spot (changed (undone point)) id self.old }
@@ -197,7 +197,7 @@ impl KeySlots {
         slots::undo_slot(&mut self.table, &mut self.spares, Stage { side, point }, id);
     }
 
-    /// The slot is free where nothing keeps it.
+    /// The slot is free if nothing keeps it.
     pub(crate) fn tidy(&mut self, id: SlotId)
         requires there { has_spot self.old.spots id ≡ true }
         ensures tidied { self.new ≡ record self.old { spots = tidied id self.old.spots } }
@@ -226,7 +226,7 @@ impl KeySlots {
         self.sets.closed_len(&self.table)
     }
 
-    /// The first key of the closed set, with what it has at the point; None where the set is empty.
+    /// The first key of the closed set, with what it has at the point; `None` if the set is empty.
     pub(crate) fn first_closed(&self) -> Option<(&Key, Option<&Value>)>
         ensures { option_map content_behind result ≡ first_of_closed self.now.spots self.now.closed }
     {
@@ -240,8 +240,8 @@ impl KeySlots {
         }
     }
 
-    /// Takes the first key of the closed set out of it, and gives its slot, which keeps no version aside any more; None where the set
-    /// is empty.
+    /// Takes the first key of the closed set out of it, and returns its slot, which keeps no version aside any more; `None` if the set is
+    /// empty.
     pub(crate) fn take_first(&mut self) -> Option<SlotId>
         ensures taken { IfSome result (TakesFirstSpot self.old self.new) }
         ensures none { IfNone result ((self.old.closed ≡ []) × (self.new ≡ self.old)) }
@@ -257,7 +257,7 @@ impl KeySlots {
         }
     }
 
-    /// How `request` would answer.
+    /// The outcome that `request` would have.
     pub(crate) fn outcome(&self, transaction: TxnNo, id: SlotId, mode: Mode) -> Outcome
         requires there { has_spot self.now.spots id ≡ true }
         ensures { result ≡ outcome (queue_of self.now.spots id) transaction mode }
@@ -265,8 +265,8 @@ impl KeySlots {
         self.locks.outcome(&self.table, transaction, id, mode)
     }
 
-    /// Answers the transaction's request of the slot, and puts it into the queue where it stands. It fails only where memory ran
-    /// out, and then nothing changed.
+    /// Answers the transaction's request of the slot, and puts it into the queue unless it dies. It fails only if an allocation fails, and
+    /// then nothing changed.
     pub(crate) fn request(
         &mut self,
         transaction: TxnNo,
@@ -283,7 +283,7 @@ impl KeySlots {
         self.locks.request(&mut self.table, transaction, id, mode)
     }
 
-    /// Takes the first request of the transaction away, and gives its slot; None where it has none.
+    /// Takes the first request of the transaction away, and returns its slot; `None` if it has none.
     pub(crate) fn release_one(&mut self, transaction: TxnNo) -> Option<SlotId>
         ensures gone { IfSome result (λ id. (stands_at self.old.spots id transaction ≡ true) × (self.new ≡ with_spot (let_go transaction) id self.old)) }
         ensures none { IfNone result ((self.new ≡ self.old) × (stands_anywhere self.old.spots transaction ≡ false)) }

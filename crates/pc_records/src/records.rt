@@ -21,23 +21,23 @@ use std::alloc::{AllocError, Global};
 use std::hash::RandomState;
 use std::marker::Model;
 
-/// How a request was answered, and the slot in which its key was found or got a record.
+/// The outcome of a request, and the slot in which its key was found or got a record.
 #[derive(Clone, Copy, Debug)]
 pub struct Requested {
     pub outcome: Outcome,
     pub slot: SlotId,
 }
 
-/// How a request to read was answered, and what stands in the key's place: what an open transaction has written last, or else
-/// the committed value.
+/// The outcome of a request to read, and the content of the key's place: what an open transaction has written last, or else the
+/// committed value.
 #[derive(Drop)]
 pub struct Reading {
     pub outcome: Outcome,
     pub found: Option<Value>,
 }
 
-/// How a request to write would be answered, what stands in the key's place, as in a `Reading`, and the slot of the key, where
-/// it has one.
+/// The outcome that a request to write would have, the content of the key's place, as in a `Reading`, and the slot of the key,
+/// if it has one.
 #[derive(Clone, Copy)]
 pub struct Look<'a> {
     pub outcome: Outcome,
@@ -45,7 +45,7 @@ pub struct Look<'a> {
     pub slot: Option<SlotId>,
 }
 
-/// The records, at most as many as the capacity, each in a slot beside the requests of its key. The point is that of the last
+/// The records, at most as many as the capacity, each in a slot next to the requests of its key. The point is that of the last
 /// closed set.
 #[derive(Drop)]
 pub struct Records {
@@ -65,8 +65,8 @@ impl Model for Records {
 }
 
 impl Records {
-    /// The records of these committed pairs. The seed is that of the hashes of keys: two words given by chance
-    /// (`RandomState::new`), so that whoever picks the keys can't make them share a chain.
+    /// The records of these committed pairs. The seed is that of the hashes of keys: a random 128-bit number
+    /// (`RandomState::new`), so that a client that picks the keys can't make them share a chain.
     pub fn of_pairs(
         alloc: Global,
         capacity: u32,
@@ -95,7 +95,7 @@ impl Records {
         }
     }
 
-    /// The committed pairs, rising by key.
+    /// The committed pairs, ascending by key.
     pub fn committed(&self, alloc: Global) -> Result<Vec<(Key, Value)>, AllocError>
         ensures rise { IfOk result (λ pairs. KeysRise pairs.items) }
         ensures contents { IfOk result (λ pairs. (key : List ℕ) → get (database_of pairs.items) key ≡ stored (record_of self.now.rows key)) }
@@ -110,9 +110,9 @@ impl Records {
         self.slots.is_waiting(transaction)
     }
 
-    /// Answers the transaction's request to read the key, with a copy of what stands in its place; a key without a record gets
-    /// one where the request stands. It is refused with `Full` exactly where the key has no record and there are as many as
-    /// there may be, and else only where memory ran out; the records are then as they were.
+    /// Answers the transaction's request to read the key, with a copy of the content of its place; a key without a record gets
+    /// one unless the request dies. It is refused with `Full` if and only if the key has no record and there are as many as
+    /// there may be, and otherwise only if an allocation failed; the records are then as they were.
     pub fn read(&mut self, alloc: Global, transaction: TxnNo, key: &Key) -> Result<Reading, Refusal>
         requires ready { is_waiting self.old.rows transaction ≡ false }
         ensures told { IfOk result (λ answer. answer.outcome ≡ outcome_on self.old.rows key.now transaction Shared) }
@@ -139,8 +139,8 @@ impl Records {
         }
     }
 
-    /// How the transaction's request to write the key would be answered, where no request of it waits, with what stands in the
-    /// key's place. It changes nothing and takes no memory.
+    /// The outcome that the transaction's request to write the key would have, if no request of it waits, with the content of
+    /// the key's place. It changes nothing and takes no memory.
     pub fn look(&self, transaction: TxnNo, key: &Key) -> Look<'_>
         ensures told { result.outcome ≡ outcome_on self.now.rows key.now transaction Exclusive }
         ensures found { option_copied result.found ≡ latest self.now key.now }
@@ -161,10 +161,10 @@ impl Records {
         }
     }
 
-    /// Answers the transaction's request to write the key, and writes it in its place where the request is granted. It is
-    /// refused with `Full` exactly where the key has no record and there are as many as there may be, and else only where
-    /// memory ran out; the records are then as they were. The key is looked for near the slot first, as that which `look` told;
-    /// nothing else depends on it.
+    /// Answers the transaction's request to write the key, and writes it in its place if the request is granted. It is refused
+    /// with `Full` if and only if the key has no record and there are as many as there may be, and otherwise only if an
+    /// allocation failed; the records are then as they were. The key is looked for near the slot first, as that which `look`
+    /// returned; nothing else depends on it.
     pub fn write(
         &mut self,
         alloc: Global,
@@ -225,10 +225,10 @@ impl Records {
         release(&mut self.slots, transaction);
     }
 
-    /// The transaction of these writes, each of whose keys has a write in its place, is committed: what stands there is the
-    /// key's value, and the keys are in the open set, at its end where they weren't in it. The slots are the numbers of those
-    /// that `write` told of these keys, in the order of the writes, as far as they are known: a key is looked for there before
-    /// it is searched, and nothing else depends on them. It takes no memory.
+    /// The transaction of these writes, each of whose keys has a write in its place, is committed: the content there is the
+    /// key's value, and the keys are in the open set, at its end if they weren't in it. The slots are those that `write`
+    /// returned for these keys, in the order of the writes, as far as they are known: a key is looked for there before it is
+    /// searched, and nothing else depends on them. It allocates no memory.
     pub fn commit(&mut self, writes: &[Write], slots: &[u32])
         requires stand { (q : List ℕ) → is_some (written writes.now q) ≡ true → is_some (pending_at self.old q) ≡ true }
         requires distinct { AreDistinct writes.now }
@@ -243,8 +243,8 @@ impl Records {
         settle_all(&mut self.slots, writes, slots, self.point);
     }
 
-    /// The transaction of these writes is undone: what was committed of their keys stands in their places again. The slots are
-    /// those of `commit`. It takes no memory.
+    /// The transaction of these writes is undone: the committed contents of their keys are restored in their places. The slots
+    /// are those of `commit`. It allocates no memory.
     pub fn undo(&mut self, writes: &[Write], slots: &[u32])
         ensures rise { KeysRise self.old.rows }
         ensures rows { kept_of self.new ≡ kept_of self.old }
@@ -276,7 +276,7 @@ impl Records {
         self.slots.closed_len()
     }
 
-    /// The first key of the closed set with what it has at the point; None where the set is empty.
+    /// The first key of the closed set with what it has at the point; `None` if the set is empty.
     pub fn first_closed(&self) -> Option<(&Key, Option<&Value>)>
         ensures first { option_map content_behind result ≡ first_content self.now }
         ensures listed { AreListed self.now }
@@ -284,7 +284,7 @@ impl Records {
         self.slots.first_closed()
     }
 
-    /// The first key of the closed set, in which there is one, is taken, and its slot is free where nothing keeps it. It takes
+    /// The first key of the closed set, in which there is one, is taken, and its slot is free if nothing keeps it. It allocates
     /// no memory.
     pub fn take(&mut self)
         requires { (key : List ℕ) × (keys : List (List ℕ)) × (self.old.shut ≡ key ∷ keys) × ((p : Pending) → pending_at self.old key ≡ Some p → same_class p.class During ≡ false) }
@@ -297,8 +297,8 @@ impl Records {
     }
 }
 
-// Room for what a slot that is still to be made keeps aside; it is refused with `Full` where there are as many slots as there
-// may be, and else only where memory ran out.
+// Room for what a slot that is still to be made keeps aside; it is refused with `Full` if there are as many slots as there may
+// be, and otherwise only if an allocation failed.
 fn room_in(alloc: Global, slots: &mut KeySlots) -> Result<Box<Aside>, Refusal>
     ensures room { IfOk result (λ room. room.value ≡ nothing_aside) }
     ensures refusal { IfErr result (λ e. e ≡ (if length slots.old.spots == slots.old.capacity then Refusal.Full else Refusal.OutOfMemory)) }
@@ -316,8 +316,8 @@ fn room_in(alloc: Global, slots: &mut KeySlots) -> Result<Box<Aside>, Refusal>
     }
 }
 
-// Gives a key that has no slot one, with the transaction's request of it, which is granted; where there was no room or memory
-// ran out nothing changed.
+// Makes a slot for a key that has none, with the transaction's request of it, which is granted; if there was no room or an
+// allocation failed nothing changed.
 fn request_new(
     alloc: Global,
     slots: &mut KeySlots,
@@ -345,7 +345,7 @@ fn request_new(
     }
 }
 
-// The write stands in the slot where its request was granted; else its room is taken back.
+// Puts the write into the slot if its request was granted; otherwise its room is taken back.
 fn put_granted(slots: &mut KeySlots, id: SlotId, point: Point, write: Writing, answer: Outcome)
     requires whole { IsFloorWhole slots.old }
     requires there { has_spot slots.old.spots id ≡ true }
@@ -359,7 +359,7 @@ fn put_granted(slots: &mut KeySlots, id: SlotId, point: Point, write: Writing, a
     }
 }
 
-// Removes the first request of the transaction, and frees its slot where nothing keeps it then; false where there is none.
+// Removes the first request of the transaction, and frees its slot if nothing keeps it then; false if there is none.
 fn release_next(slots: &mut KeySlots, transaction: TxnNo) -> bool
     requires whole { IsFloorWhole slots.old }
     ensures left { (point : ℕ) → AreSpotsSound point slots.old.spots → IsOver transaction slots.old.spots → IsFloorReleased point transaction slots.old slots.new }
@@ -376,7 +376,7 @@ fn release_next(slots: &mut KeySlots, transaction: TxnNo) -> bool
     }
 }
 
-// Removes all requests of the transaction, one after the other.
+// Removes all requests of the transaction, in order.
 fn release(slots: &mut KeySlots, transaction: TxnNo)
     requires whole { IsFloorWhole slots.old }
     ensures left { (point : ℕ) → AreSpotsSound point slots.old.spots → IsOver transaction slots.old.spots → IsFloorReleased point transaction slots.old slots.new }
@@ -386,7 +386,7 @@ fn release(slots: &mut KeySlots, transaction: TxnNo)
     while release_next(slots, transaction) {}
 }
 
-// The write that stands in the key's place is committed; the key is looked for near the slot first.
+// Commits the write in the key's place; the key is looked for near the slot first.
 fn settle_key(slots: &mut KeySlots, key: &Key, near: Option<SlotId>, point: Point)
     requires whole { IsFloorWhole slots.old }
     ensures settled { slots.new ≡ with_settled point key.now slots.old }
@@ -412,7 +412,7 @@ fn settle_all(slots: &mut KeySlots, writes: &[Write], numbers: &[u32], point: Po
     }
 }
 
-// The write that stands in the key's place is undone; the key is looked for near the slot first.
+// Undoes the write in the key's place; the key is looked for near the slot first.
 fn undo_key(slots: &mut KeySlots, key: &Key, near: Option<SlotId>, point: Point)
     requires whole { IsFloorWhole slots.old }
     ensures undone { slots.new ≡ with_undone point key.now slots.old }

@@ -59,8 +59,8 @@ fn add(alloc: Global, table: &mut Table<Cell>, key: &Key, value: &Value) -> Resu
     }
 }
 
-// A slot of the key, which has none and gets one; it is refused with `Full` where there is no free slot, and else only where
-// memory ran out.
+// A slot of the key, which has none and gets one; it is refused with `Full` if there is no free slot, and otherwise only if
+// an allocation failed.
 pub(crate) fn make(alloc: Global, table: &mut Table<Cell>, key: &Key) -> Result<SlotId, Refusal>
     requires { slot_of table.old.rows key.now ≡ None }
     ensures made { IfOk result (λ id. table.new ≡ with_row table.old key.now id (base_cell None)) }
@@ -77,7 +77,7 @@ pub(crate) fn make(alloc: Global, table: &mut Table<Cell>, key: &Key) -> Result<
     table.make(alloc, key)
 }
 
-// The pairs of the slots that have a committed value, rising by key.
+// The pairs of the slots that have a committed value, ascending by key.
 pub(crate) fn committed_pairs(
     alloc: Global,
     table: &Table<Cell>,
@@ -107,7 +107,7 @@ fn push_value(
     Ok(())
 }
 
-// What each slot's key has that is committed, a value or absence, rising by key.
+// The committed content of each slot's key, a value or absence, ascending by key.
 fn contents_in(alloc: Global, table: &Table<Cell>) -> Result<Vec<(Key, Option<Value>)>, AllocError>
     ensures contents { IfOk result (λ contents. contents.items ≡ contents_of (slots_in First table.now.rows)) }
     ensures slots { AreInSlots table.now }
@@ -119,7 +119,7 @@ fn contents_in(alloc: Global, table: &Table<Cell>) -> Result<Vec<(Key, Option<Va
     first_of_each(alloc, &contents)
 }
 
-// Adds what the slot's key has that is committed, where the slot has a row.
+// Adds what the slot's key has that is committed, if the slot has a row.
 fn push_content(
     alloc: Global,
     contents: &mut Vec<(Key, Option<Value>)>,
@@ -149,7 +149,7 @@ pub(crate) fn mark_taken(table: &mut Table<Cell>, spares: &mut Spares, side: Sid
     pc_slots::take(table.get_mut(id), side, spares);
 }
 
-// The write stands in the slot.
+// Puts the write into the slot.
 pub(crate) fn put_at(
     table: &mut Table<Cell>,
     spares: &mut Spares,
@@ -167,7 +167,7 @@ pub(crate) fn put_at(
     pc_slots::put(table.get_mut(id), stage, write, spares);
 }
 
-// The write that stands in the slot is committed, and the slot goes into the open set where it isn't in it.
+// Commits the write in the slot, and puts the slot into the open set if it isn't in it.
 pub(crate) fn settle_slot(
     table: &mut Table<Cell>,
     sets: &mut Dirty,
@@ -193,7 +193,7 @@ pub(crate) fn settle_slot(
     }
 }
 
-// The write that stands in the slot is undone.
+// Undoes the write in the slot.
 pub(crate) fn undo_slot(table: &mut Table<Cell>, spares: &mut Spares, stage: Stage, id: SlotId)
     requires { HasRow table.old.rows id }
     ensures slots { slots_in stage.side table.new.rows ≡ map (at_number (undone stage.point) id) (slots_in stage.side table.old.rows) }

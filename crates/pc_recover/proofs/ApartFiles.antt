@@ -29,7 +29,7 @@ use Rattle.pc_recover.specs.Reach.{IsFree, least_top, noted, top_at}
 use Rattle.pc_recover.specs.Folding.{IsOfPoints}
 use Rattle.pc_recover.proofs.Reaching.{is_in, least_there}
 
--- what is found among entries of these points is of one of them
+-- a value that is found among entries of these points is of one of them
 found_of : (points : Set number_order) (es : List Triple) (q : List ℕ) (a : AtPoint) → AreCovered points es → find key_cmp q (entries_of es) ≡ Some a → sets.contains points a.point ≡ true
 found_of points [] q a all is = cc
 found_of points (t ∷ es) q a all is = by (same_bytes q t.key) (found_of points es q a (All-tail Covered t es all)) is
@@ -41,7 +41,7 @@ found_of points (t ∷ es) q a all is = by (same_bytes q t.key) (found_of points
     by true rest is = let same : (entry_of t).1 ≡ a = cc in subst (λ (x : AtPoint). sets.contains points x.point ≡ true) same (All-head Covered t es all)
     by false rest is = rest is
 
--- what a key has in a file is of one of its points, where its entries are
+-- a key's value in a file is of one of its points, if its entries are
 pub of_points : (file : File) (es : List Triple) → triples_of es ≡ file.triples → AreCovered file.points es → IsOfPoints file
 of_points file es is all q a there = found_of file.points es q a all (sym (get-from_list key_order (entries_of es) q) ∙ ap (λ (m : Triples). get m q) is ∙ there)
 
@@ -124,7 +124,7 @@ in_bounds least (r ∷ ranges) p from among = by (is_in r p) refl among (in_boun
     by true own some rest = let most : r.high ≤ 65535 = from.2 in let high : p ≤ r.high = grind (arith, nat_tests, own) in omega (arith, most, high)
     by false own some rest = rest some
 
--- where nothing is noted at any of its ranges
+-- if nothing is noted at any of its ranges
 pub file_free : (tops : List (Option ℕ)) (file : File) (ranges : List Range) (i : ℕ) → AreRanges ranges → points_of ranges ≡ file.points → length ranges ≤ i → AreFree tops (take i ranges) → IsFree tops file
 file_free tops file ranges i apart are ended free p there =
     let among : list_any (λ r. is_in r p) ranges ≡ true = sym (contains-points_of ranges p) ∙ ap (λ (s : Set number_order). sets.contains s p) are ∙ there in

@@ -1,4 +1,4 @@
--- Applying entries as they are read, one after the other.
+-- Applying entries as they are read, in order.
 use Rattle.std.proofs.Common.{◌≡◌, ◌≢◌, ℕ, ◌+◌, Bool, true, false, ◌||◌, List, [], ◌∷◌, length, Option, Some, None, Result, Ok, Err, refl, sym, ap, ◌∙◌, arith}
 use Rattle.std.specs.Prelude.{◌==◌}
 use Rattle.pc_types.specs.declared.refusal.Refusal.{Refusal}
@@ -24,7 +24,7 @@ none_count : (is_behind : Bool) (point : ℕ) → counting is_behind point [] �
 none_count true point = refl
 none_count false point = refl
 
--- what counts of one entry, and then what counts of the others
+-- the counting part of one entry, and then that of the others
 first_counts : (is_behind : Bool) (point : ℕ) (db : Database) (entry : Entry) (entries : List Entry)
     → after (after db (counting is_behind point (entry ∷ []))) (counting (is_behind || is_point_token point entry) point entries) ≡ after db (counting is_behind point (entry ∷ entries))
 first_counts true point db (Commit session writes) entries = refl
@@ -39,11 +39,11 @@ first_counts false point db (Token phase m) entries = by (is_token_of point phas
 
 -- ---- the loop
 
--- what comes of it once the entries that were found are applied too, behind so many others
+-- the replay once the entries that were found are applied too, after this many others
 abbrev pub to_come : Bool → ℕ → Database → ℕ → LogReading → Replay
 to_come is_behind point db count found = record { pairs = after db (counting is_behind point found.entries); entries = count + length found.entries; fault = found.fault }
 
--- before the first entry all of it is to come
+-- before the first entry the whole replay is to come
 pub all_to_come : (is_behind : Bool) (point : ℕ) (db : Database) (found : LogReading) → is_behind ≡ (point == 0) → to_come is_behind point db 0 found ≡ found_replay point db found
 all_to_come is_behind point db found is =
     ap (λ (b : Bool). to_come b point db 0 found) is ∙ ap (λ (k : ℕ). record { pairs = after db (entries_after point found.entries); entries = k; fault = found.fault }) (omega arith)
@@ -78,7 +78,7 @@ module _ (format : Format) (is_behind : Bool) (point : ℕ) (db : Database) (cou
   unfolding entries_at
   replay_done none = sym so_far ∙ ap (λ (bs : List ℕ). to_come is_behind point db count (all_at format last bs)) none ∙ none_left is_behind point db count 0 None
 
--- what a stopped loop gives: what was replayed, unless memory ran out
+-- a stopped loop gives the replay so far, unless an allocation failed
 pub stopped_gives : (result : Result Replayed Refusal) (fault : Refusal) (total stopped : Replay)
     → Gives replay_by result (Ok stopped) → (fault ≡ OutOfMemory → result ≡ Err OutOfMemory)
     → (fault ≢ OutOfMemory → total ≡ stopped) → Gives replay_by result (Ok total)

@@ -1,4 +1,4 @@
--- The used files, joined one after the other, and laid on the base.
+-- The used files, joined in order, and applied to the base.
 use Rattle.std.proofs.Common.{◌≡◌, List, [], ◌∷◌, Option, Some, None, Result, Ok, Err, refl, sym, ap, ◌∙◌}
 use Rattle.std.specs.Prelude.{◌≢◌}
 use Rattle.std.specs.Result.{IsErr, IsErrAnd}
@@ -9,7 +9,7 @@ use Rattle.pc_model.specs.Files.{File, BaseFile}
 use Rattle.pc_recover.specs.Recovery.{folded, with_files}
 use Rattle.pc_recover.specs.Folding.{join_due, lay_due, joined_on}
 
--- the base with what is joined laid on it, if there is anything
+-- the base with the join applied to it, if there is one
 abbrev laid_on : BaseFile → Option File → Result BaseFile Refusal
 laid_on base None = Ok base
 laid_on base (Some joined) = lay_due base joined
@@ -24,7 +24,7 @@ folded_is file (next ∷ files) = by (join_due file next) (λ joined. folded_is 
     by (Ok joined) rest = rest joined
     by (Err e) rest = refl
 
--- what the files make of the base: their join, laid on it
+-- the base with the files is the base with their join applied to it
 pub with_files_is : (base : BaseFile) (files : List File) → with_files base files ≡ (joined_on None files >>= laid_on base)
 with_files_is base [] = refl
 with_files_is base (file ∷ files) = by (folded file files) ∙ sym (ap (λ r. r >>= laid_on base) (folded_is file files))

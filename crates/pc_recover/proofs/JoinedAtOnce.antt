@@ -1,4 +1,4 @@
--- Files of which no two conflict are joined at once to what joining them one after the other gives.
+-- Files of which no two conflict are joined in one pass to the same file as in order.
 use Rattle.std.proofs.Common.{◌≡◌, ◌≤◌, nat_lt, eqb, not, ◌||◌, Bool, true, false, cond, List, [], ◌∷◌, Option, Some, None, Result, Ok, Err, refl, sym, ap, subst, ◌∙◌, arith}
 use Rattle.std.specs.Prelude.{MatchBool, MatchResult}
 use Rattle.std.specs.List.{Contains}
@@ -15,7 +15,7 @@ use Rattle.pc_collapse.proofs.FoldedFiles.{len_entries}
 use Rattle.pc_recover.specs.Recovery.{unless}
 use Rattle.pc_recover.specs.Folding.{join_due, joined_on}
 
--- two files of one run without conflict are joined, where they are few enough
+-- two files of one run without conflict are joined, if they are few enough
 join_is : (a b : File) → eqb b.run a.run ≡ true → conflict a.triples b.triples ≡ false → len (joined_file a b).triples ≤ 4294967295 → join_due a b ≡ Ok (joined_file a b)
 join_is a b run none within =
     let one : eqb a.run b.run ≡ true = grind (arith, nat_tests, run) in
@@ -24,7 +24,7 @@ join_is a b run none within =
     ∙ ap (λ x. unless (cond x (Some Conflict) (cond (nat_lt 4294967295 (len (joined_file a b).triples)) (Some Full) None)) (joined_file a b)) none
     ∙ ap (λ x. unless (cond x (Some Full) None) (joined_file a b)) fits
 
--- a test of two fails where both do
+-- a test of two fails if both do
 both_false : (s t : Bool) → (not s || t) ≡ false → (s ≡ true) × (t ≡ false)
 both_false true t e = (refl, e)
 both_false false t e = cc
@@ -35,7 +35,7 @@ has_more f fs g there = Contains-append_right (f ∷ []) fs g there
 has_first : (f : File) (fs : List File) → Contains (f ∷ fs) f
 has_first f fs = (0, omega arith, refl)
 
--- a join has no fewer keys than what it begins with
+-- a join has no fewer keys than its first file
 keeps_all : (f : File) (fs : List File) → len f.triples ≤ len (folded f fs).triples
 keeps_all f [] = omega arith
 keeps_all f (g ∷ fs) = len_entries f.triples (folded g fs).triples.entries
@@ -62,7 +62,7 @@ module _ (associates : JoinsAssociate) (spread : JoinsMakeNoConflict) where
       done : Option File → Result (Option File) Refusal
       done joined = Ok joined
 
-  -- what the fold of all answers is what joining them one after the other gives
+  -- the fold of all gives the same as joining them in order
   pub at_once : (files : List File) (file : File) → (let r : Result File Refusal = Ok file in Folds files r) → NoneConflict files → len file.triples ≤ 4294967295 → joined_on None files ≡ Ok (Some file)
   at_once [] file folds none within = let bad = folds in cc
   at_once (f ∷ fs) file folds none within = by (has_other_run f fs) refl folds

@@ -25,14 +25,14 @@ use Rattle.pc_recover.specs.Reach.{lesser, noted, least_top, top_at}
 abbrev pub is_in : Range → ℕ → Bool
 is_in r point = nat_le r.low point && nat_le point r.high
 
--- what a place has once the points from low on and below this end are noted
+-- the number at a place once the points from low on and below this end are noted
 abbrev pub noted_below : ℕ → ℕ → ℕ → ℕ → Option ℕ → Option ℕ
 noted_below low end top point was = if nat_le low point && nat_lt point end then lesser was top else was
 
 abbrev pub NotedBelow : ℕ → ℕ → ℕ → List (Option ℕ) → List (Option ℕ) → Type 0
 NotedBelow low end top before now = (point : ℕ) → point ≤ 65535 → top_at now point ≡ noted_below low end top point (top_at before point)
 
--- behind the last place the points of the range are noted
+-- after the last place the points of the range are noted
 pub range_noted : (before now : List (Option ℕ)) (low high place top : ℕ) → NotedBelow low place top before now → high + 1 ≤ place → place ≤ max low (high + 1) →
     (point : ℕ) → point ≤ 65535 → top_at now point ≡ (if nat_le low point && nat_le point high then lesser (top_at before point) top else top_at before point)
 range_noted before now low high place top so_far past most point within = so_far point within ∙ ap (λ t. if t then lesser (top_at before point) top else top_at before point) ends
@@ -42,7 +42,7 @@ range_noted before now low high place top so_far past most point within = so_far
 
 -- ---- the ranges of a part
 
--- what a place has once all these ranges are noted
+-- the number at a place once all these ranges are noted
 abbrev pub noted_in : ℕ → List Range → ℕ → Option ℕ → Option ℕ
 noted_in top [] point was = was
 noted_in top (r ∷ ranges) point was = noted_in top ranges point (if nat_le r.low point && nat_le point r.high then lesser was top else was)
@@ -75,7 +75,7 @@ part_noted file ranges point was are =
     noted_among (greatest file.points) ranges point was
     ∙ ap (λ t. if t then lesser was (greatest file.points) else was) (sym (contains-points_of ranges point) ∙ ap (λ (s : Set number_order). sets.contains s point) are)
 
--- behind the last range the part is noted
+-- after the last range the part is noted
 pub all_ranges : (file : File) (ranges : List Range) (top i : ℕ) (before now : List (Option ℕ)) → top ≡ greatest file.points → points_of ranges ≡ file.points → length ranges ≤ i →
     ((point : ℕ) → point ≤ 65535 → noted_in top (drop i ranges) point (top_at now point) ≡ noted_in top ranges point (top_at before point)) →
     (point : ℕ) → point ≤ 65535 → top_at now point ≡ noted point (top_at before point) file
@@ -91,7 +91,7 @@ all_ranges file ranges top i before now is are ended so_far point within =
 pub items_over : (v : Vec (Option ℕ)) (now : List (Option ℕ)) (w : Vec (Option ℕ)) (n : ℕ) → w ≡ with_items v now → length now ≡ n → length v.items ≡ n → w.items ≡ now
 items_over v now w n is len was = ap (λ u. u.items) is ∙ with_items_is v now (len ∙ sym was ∙ sym v.ok.0)
 
--- what is left to note of the files from this place on
+-- the files from this place on are left to note
 abbrev pub LeftToNote : List (Result File Refusal) → ℕ → List (Option ℕ) → Type 0
 LeftToNote files i tops = (point : ℕ) → point ≤ 65535 → fold (noted point) (top_at tops point) (read_files (drop i files)) ≡ least_top (read_files files) point
 
@@ -109,14 +109,14 @@ module _ (files : List (Result File Refusal)) (i : ℕ) (x : Result File Refusal
       ∙ sym (ap (λ fs. fold (noted point) (top_at before point) (read_files fs)) (first_left ∙ ap (λ y. y ∷ drop (i + 1) files) had))
       ∙ so_far point bound
 
-  -- a file that can't be had is left out
+  -- a file that can't be read is left out
   pub file_left_out : (why : Refusal) (tops : List (Option ℕ)) → x ≡ Err why → LeftToNote files i tops → LeftToNote files (i + 1) tops
   file_left_out why tops lost so_far point bound =
       sym (ap (λ fs. fold (noted point) (top_at tops point) (read_files fs)) (first_left ∙ ap (λ y. y ∷ drop (i + 1) files) lost)) ∙ so_far point bound
 
 -- ---- from the table to the reach
 
--- a point is there and not above n
+-- there is a point, and it is not above n
 abbrev pub is_to : ℕ → Option ℕ → Bool
 is_to n None = false
 is_to n (Some top) = nat_le top n
@@ -129,7 +129,7 @@ or_moved : (a b c : Bool) → ((a || b) || c) ≡ (a || (b || c))
 or_moved true b c = refl
 or_moved false b c = refl
 
--- the lesser of two points is not above n where one of them isn't
+-- the lesser of two points is not above n if one of them isn't
 lesser_to : (n last : ℕ) (t : Bool) (top : Option ℕ) → is_to n (if t then lesser top last else top) ≡ (is_to n top || (nat_le last n && t))
 lesser_to n last true None = by (nat_le last n)
   where
@@ -150,12 +150,12 @@ lesser_to n last false top = or_none (is_to n top) ∙ by (nat_le last n)
     by true = refl
     by false = refl
 
--- one more file, where it has no point above n
+-- one more file, if it has no point above n
 one_more : (a : Bool) (file : File) (files : List File) (point : ℕ) → is_covered (if a then file ∷ files else files) point ≡ ((a && sets.contains file.points point) || is_covered files point)
 one_more true file files point = refl
 one_more false file files point = refl
 
--- a file without a point above n stands for the point exactly where the least greatest point is not above n
+-- a file without a point above n covers the point if and only if the least greatest point is not above n
 pub least_to : (n point : ℕ) (top : Option ℕ) (files : List File) → is_to n (fold (noted point) top files) ≡ (is_to n top || is_covered (files_to n files) point)
 least_to n point top [] = or_none (is_to n top)
 least_to n point top (file ∷ files) =
@@ -164,7 +164,7 @@ least_to n point top (file ∷ files) =
     ∙ or_moved (is_to n top) (nat_le (greatest file.points) n && sets.contains file.points point) (is_covered (files_to n files) point)
     ∙ ap (λ b. is_to n top || b) (sym (one_more (nat_le (greatest file.points) n) file (files_to n files) point))
 
--- a file stands for the point exactly where there is a least greatest point
+-- a file covers the point if and only if there is a least greatest point
 pub least_there : (point : ℕ) (top : Option ℕ) (files : List File) → is_some (fold (noted point) top files) ≡ (is_some top || is_covered files point)
 least_there point top [] = or_none (is_some top)
 least_there point top (file ∷ files) = least_there point (noted point top file) files ∙ ap (λ b. b || is_covered files point) (there (sets.contains file.points point) top) ∙ or_moved (is_some top) (sets.contains file.points point) (is_covered files point)
@@ -202,7 +202,7 @@ all_more test base n from = ap (list_all test) (one_to base n from) ∙ list_all
 pub find_more : (test : ℕ → Bool) (base n : ℕ) → base ≤ n → find test (points_to base (suc n)) ≡ option_or (find test (points_to base n)) (if test (suc n) then Some (suc n) else None)
 find_more test base n from = ap (find test) (one_to base n from) ∙ find-append test (points_to base n) (suc n ∷ [])
 
--- what all pass, none fails
+-- if all pass, none fails
 pub none_fails : (test : ℕ → Bool) (points : List ℕ) → list_all test points ≡ true → find (λ p. not (test p)) points ≡ None
 none_fails test [] all = refl
 none_fails test (p ∷ points) all = by (test p) all (none_fails test points)

@@ -1,4 +1,4 @@
--- The used files, joined and laid on the base, give the state of the recovered point.
+-- The used files, joined and applied to the base, give the state of the recovered point.
 use Rattle.std.proofs.Common.{◌≡◌, ℕ, ◌≤◌, ◌<◌, nat_le, nat_lt, eqb, ◌||◌, not, Bool, true, false, cond, List, [], ◌∷◌, Some, None, Result, Ok, Err, ◌⊎◌, inl, inr, refl, sym, ap, ◌∙◌, arith}
 use Rattle.std.specs.Prelude.{MatchResult, drop}
 use Rattle.std.specs.List.{list_all, AllByRecursion}
@@ -24,7 +24,7 @@ use Rattle.pc_part.proofs.GapLaws.{greatest_bound, greatest_reached}
 use Rattle.pc_recover.specs.Recovery.{is_covered, files_to, unless, folded, with_files}
 use Rattle.pc_recover.proofs.RecoveredPoints.{holds_at, holds_at_all, finds_none}
 
--- a result, where only the entry limit may refuse it
+-- a result, if only the entry limit may refuse it
 abbrev pub UnlessFull : {X : Type 0} → Result X Refusal → (X → Type 0) → Type 0
 UnlessFull result IsRight = MatchResult result IsRight (λ refusal. refusal ≡ Full)
 
@@ -85,7 +85,7 @@ module _ (run : ℕ) (start : Database) (log : List Entry) where
   of_used n [] all = tt
   of_used n (file ∷ files) all = (all.0.of, of_used n files all.1)
 
-  -- what they cover is not above n, and has its token in the log
+  -- the points that they cover are not above n, and have their tokens in the log
   pub covered_most : (n p : ℕ) (files : List File) → AllByRecursion (IsUsed n) files → is_covered files p ≡ true → p ≤ n
   covered_most n p [] all there = absurd cc
   covered_most n p (file ∷ files) all there = by (set.contains file.points p) refl there (covered_most n p files all.1)
@@ -123,7 +123,7 @@ module _ (run : ℕ) (start : Database) (log : List Entry) where
         let one : eqb run joined.run ≡ true = grind (arith, nat_tests, of) in
         rw (one, none) refl
 
-    -- a file of the run with these points, laid on the base
+    -- a file of the run with these points, applied to the base
     lays : (joined : File) → IsOfItsPoints run start log joined → ((p : ℕ) → set.contains joined.points p ≡ true → p ≤ n) → ((p : ℕ) → b < p → p ≤ n → set.contains joined.points p ≡ true)
         → UnlessFull (unless (first_cause (lay_causes base joined)) (laid_file base joined)) (λ laid. laid.pairs ≡ state_at start log n)
     lays joined of most all =
@@ -137,7 +137,7 @@ module _ (run : ℕ) (start : Database) (log : List Entry) where
         by true limit = rw limit refl
         by false limit = rw limit (is_state joined of most all)
 
-    -- the files that are used, laid on the base, give the state of the point that they reach
+    -- the files that are used, applied to the base, give the state of the point that they reach
     pub files_give : (files : List File) → AllByRecursion (IsUsed n) files → list_all (is_covered files) (drop b (numbers_to n)) ≡ true → UnlessFull (with_files base files) (λ laid. laid.pairs ≡ state_at start log n)
     files_give [] used reached = by (nat_lt b n) refl
       where

@@ -1,4 +1,4 @@
--- The log behind the recovered point's token, and the tokens before it.
+-- The log after the recovered point's token, and the tokens before it.
 use Rattle.std.proofs.Common.{◌≡◌, ℕ, zero, suc, ◌+◌, ◌-◌, ◌<◌, max, eqb, Bool, true, false, cond, List, [], ◌∷◌, length, take, ◌⊎◌, inl, inr, refl, sym, ap, subst, ◌∙◌, arith}
 use Rattle.std.proofs.Math.Dec.{eqb-suc-zero}
 use Rattle.std.proofs.lemmas.Bool.Decides.{nat_tests}
@@ -22,11 +22,11 @@ last_sealed other point = point
 token_here : (n m : ℕ) (log : List Entry) → n ≡ m → has_token n (Token Resolve m ∷ log) ≡ true
 token_here n m log same = let is : eqb m n ≡ true = grind (arith, nat_tests, same) in ap (λ t. cond t true (has_token n log)) is
 
--- behind a token of this phase and point too, the token of m comes before that of m + 1
+-- after a token of this phase and point too, the token of m comes before that of m + 1
 abbrev Comes : ℕ → List Entry → Phase → ℕ → Type 0
 Comes m log phase point = has_token (m + 1) (Token phase point ∷ log) ≡ true → has_token m (front (m + 1) (Token phase point ∷ log)) ≡ true
 
--- where tokens keep their order, a point's token comes behind that of the point before, if that is still to come
+-- if tokens keep their order, a point's token comes after that of the point before, if that is still to come
 earlier_token : (last : Phase) (point m : ℕ) (log : List Entry) → FollowFrom last point log → last_sealed last point < m → has_token (m + 1) log ≡ true → has_token m (front (m + 1) log) ≡ true
 earlier_token last point m [] order more there = there
 earlier_token last point m (Commit session writes ∷ log) order more there = earlier_token last point m log order more there
@@ -81,7 +81,7 @@ take_none (entry ∷ log) = refl
 no_both : false ≡ true → ⊥
 no_both e = cc
 
--- the entries up to a point's token, with it, leave what those before it leave
+-- the entries up to and including a point's token give the same database as those before it
 to_token : (db : Database) (n : ℕ) (log : List Entry) → has_token n log ≡ true → after db (take (length (front n log) + 1) log) ≡ after db (front n log)
 to_token db n [] there = absurd (no_both there)
 to_token db n (Commit session writes ∷ log) there =
@@ -96,7 +96,7 @@ to_token db n (Token phase m ∷ log) there = by (is_token_of n phase m) refl th
         let count : suc (length (front n log)) + 1 ≡ suc (length (front n log) + 1) = omega arith in
         ap (λ k. after db (take k (Token phase m ∷ log))) count ∙ again h
 
--- the first p entries' part behind the token, applied to the state before it, is the first entries as far as p or the token
+-- those of the first p entries after the token, applied to the state before it, give the first entries as far as p or the token
 after_token : (db : Database) (n p : ℕ) (log : List Entry) → has_token n log ≡ true → after (after db (front n log)) (behind n (take p log)) ≡ after db (take (max p (length (front n log) + 1)) log)
 after_token db n zero log there =
     ap (λ xs. after (after db (front n log)) (behind n xs)) (take_none log) ∙ sym (to_token db n log there) ∙ ap (λ k. after db (take k log)) (omega arith)

@@ -60,7 +60,7 @@ holds_at_all test b (suc n) each = by (nat_le b n) refl (holds_at_all test b n (
         ∙ ap (λ x. x && (test (suc n) && true)) before ∙ ap (λ x. x && true) (each (suc n) (omega (arith, low)) (omega arith))
     by false gt before = ap (list_all test) (none_left b (suc n) (grind (arith, nat_tests)))
 
--- nothing is found where the test fails everywhere
+-- nothing is found if the test fails everywhere
 pub finds_none : (test : ℕ → Bool) (xs : List ℕ) → list_all (λ x. not (test x)) xs ≡ true → find test xs ≡ None
 finds_none test [] all = refl
 finds_none test (x ∷ xs) all = by (test x) refl all (λ others. finds_none test xs others)

@@ -48,7 +48,7 @@ files_had run start log (bytes ∷ parts) all = by (part_at bytes) refl (files_h
 has_header : (format : Format) (run : ℕ) (log : List Entry) → 20 ≤ length (log_text_in format run log)
 has_header format run log = omega (arith, length-append (header_text_in format run) (flat_map (entry_text_in format) log), header_length format run)
 
--- what is read of the first c bytes of a log
+-- the reading of the first c bytes of a log
 pub record IsRead (format : Format) (run : ℕ) (log : List Entry) (c p : ℕ) (read : LogRead) : Type 0 where
   pub whole : AreWhole format run log c p
   pub entries : read.entries ≡ take p log
@@ -98,7 +98,7 @@ same_point b n low not_less = grind (arith, nat_tests)
 
 -- ---- all of it
 
--- what the rules give once the files are laid
+-- the recovery of the rules once the files are applied
 abbrev given : ℕ → List Skipped → BaseFile → LogRead → Recovery
 given n skipped laid read = record { pairs = after laid.pairs (entries_after n read.entries); point = n; entries = length read.entries; skipped = skipped; fault = read.fault }
 
@@ -107,7 +107,7 @@ abbrev laid_then_read : ℕ → List Skipped → ℕ → List ℕ → Result Bas
 laid_then_read n skipped run bytes with_parts = with_parts >>= λ laid. log_of_run run bytes >>= λ read. Ok (given n skipped laid read)
 
 module _ (format : Format) (run : ℕ) (start : Database) (log : List Entry) (b n : ℕ) (c : ℕ) (skipped : List Skipped) where
-  -- what is restored, where n is the recovered point
+  -- the recovery, if n is the recovered point
   pub record IsRestoredAt (found : Recovery) : Type 0 where
     pub point : found.point ≡ n
     pub entries : AreWhole format run log c found.entries
@@ -125,7 +125,7 @@ module _ (format : Format) (run : ℕ) (start : Database) (log : List Entry) (b 
         fault = is.fault;
       }
 
-  -- once the files are laid, the log's beginning is read and applied
+  -- once the files are applied, the log's beginning is read and applied
   pub on_files : CutLogsAreRead → run < 2 ^ 64 → IsLog log → HasLog format log → ((n ≡ 0) ⊎ (has_token n log ≡ true)) → (r : Result BaseFile Refusal) → UnlessFull r (λ laid. laid.pairs ≡ state_at start log n)
       → UnlessFull (laid_then_read n skipped run (cut format run log c) r) IsRestoredAt
   on_files cuts fits is_log has sealed (Err why) is = is

@@ -1,4 +1,4 @@
--- Every cut of a run's log is recovered from, with whatever came back of its files.
+-- Every cut of a run's log is recovered from, with any of its files that came back.
 use Rattle.std.proofs.Common.{◌≡◌, ℕ, List, [], ◌∷◌, ◌⊎◌, inl, inr, Result, Ok, refl, sym, subst, ◌∙◌}
 use Rattle.pc_types.specs.declared.refusal.Refusal.{Refusal}
 use Rattle.pc_model.specs.History.{History, log_of}
@@ -27,7 +27,7 @@ pub every_cut : EveryCutIsRecovered
 every_cut = restarts base_is_read cuts_are_read
 
 module _ (st : Setting) (h : History) (legal : HasLegalEffects st h) (values : TakesPointValue st.base h) where
-  -- what a part's bytes are read as, where they are a part of the run
+  -- the reading of a part's bytes, if they are a part of the run
   abbrev IsOfTheRun : List ℕ → Type 0
   IsOfTheRun bytes = (file : File) → part_at bytes ≡ Ok file → file.run ≡ st.run → IsOfItsPoints st.run st.base (log_of h) file
 

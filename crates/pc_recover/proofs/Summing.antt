@@ -18,7 +18,7 @@ use Rattle.pc_recover.specs.Reach.{IsReach}
 use Rattle.pc_recover.specs.Replaying.{Replay, replay_of, log_replay}
 use Rattle.pc_recover.specs.Recovery.{Recovery, recovery, recovery_of, recovery_on, recovered_point, first_missing, read_files, files_of, files_to, with_files, log_of_run, entries_after, unused_from}
 
--- a refusal is that of the rules, or memory ran out
+-- a refusal is that of the rules, or an allocation failed
 pub refused_with : (e : Refusal) (r : Result Recovered Refusal) (read : Result Recovery Refusal) → IsErr r × IsErrAnd r (λ why. why ≡ e) → (e ≢ OutOfMemory → read ≡ Err e) → Gives recovery_of r read
 refused_with e (Ok x) read given due = absurd given.1
 refused_with e (Err why) read given due = λ other. let same : why ≡ e = given.1 in due (λ is. other (same ∙ is)) ∙ ap Err (sym same)
@@ -26,7 +26,7 @@ refused_with e (Err why) read given due = λ other. let same : why ≡ e = given
 pub memory_ran_out : (r : Result Recovered Refusal) (read : Result Recovery Refusal) → IsErr r × IsErrAnd r (λ why. why ≡ OutOfMemory) → Gives recovery_of r read
 memory_ran_out r read given = refused_with OutOfMemory r read given (λ other. absurd (other refl))
 
--- the refusal of what is made of a step is the step's
+-- the refusal of a step's result is the step's
 made_err : {A B : Type 0} (r : Result A Refusal) (f : A → B) (e : Refusal) → (r >>= λ x. Ok (f x)) ≡ Err e → r ≡ Err e
 made_err (Ok x) f e is = absurd cc
 made_err (Err d) f e is = ap (as_err d) is
@@ -35,11 +35,11 @@ made_err (Err d) f e is = ap (as_err d) is
     as_err d (Ok x) = Err d
     as_err d (Err e) = Err e
 
--- what is recovered of a log on this state
+-- the recovery of a log on this state
 abbrev pub made_of : ℕ → Option Refusal → Database → ℕ → List Skipped → Result Recovery Refusal
 made_of point fault pairs entries skipped = Ok (record { pairs = pairs; point = point; entries = entries; skipped = skipped; fault = fault })
 
--- what is recovered up to this point, where the files have this lack
+-- the recovery up to this point, if the files have this gap
 abbrev pub recovery_with : ℕ → Option ℕ → BaseFile → List (Result File Refusal) → List ℕ → Result Recovery Refusal
 recovery_with n missing base files log_bytes = do
   laid ← with_files base (files_to n (read_files files))
@@ -71,7 +71,7 @@ module _ (bytes : List ℕ) (parts : List (List ℕ)) (log : List ℕ) (base : B
       at_base : IsReach base.point (read_files files) reach
       at_base = subst (λ b. IsReach b (read_files files) reach) point_is (subst (λ fs. IsReach point (read_files fs) reach) seen_are reached)
 
-  -- the refusal of the join or the laying
+  -- the refusal of the join or of its application to the base
   pub state_refused : (e : Refusal) → with_files base (files_to reach.point (read_files files)) ≡ Err e → recovery bytes parts log ≡ Err e
   state_refused e is = on_reach ∙ ap (λ r. r >>= λ laid. log_of_run base.run log >>= λ found. made_of reach.point found.fault (after laid.pairs (entries_after reach.point found.entries)) (length found.entries) (unused_from 0 reach.point reach.missing files)) is
 
@@ -88,7 +88,7 @@ module _ (bytes : List ℕ) (parts : List (List ℕ)) (log : List ℕ) (base : B
         ∙ ap (λ r. r >>= λ found. made_of reach.point found.fault (after laid.pairs (entries_after reach.point found.entries)) (length found.entries) (unused_from 0 reach.point reach.missing files))
         (made_err (log_of_run run log) (λ (found : LogRead). replay_of reach.point state found.entries found.fault) e is)
 
-    -- all that is recovered
+    -- the whole recovery
     pub all_recovered : (state : Database) → state ≡ laid.pairs → (replay : Replay) → log_replay run reach.point state log ≡ Ok replay → (skipped : List Skipped) → skipped ≡ unused_from 0 reach.point reach.missing files → (pairs : Database) → pairs ≡ replay.pairs →
         recovery bytes parts log ≡ made_of reach.point replay.fault pairs replay.entries skipped
     all_recovered state state_is replay is skipped skipped_are pairs pairs_are =

@@ -13,8 +13,8 @@ and_false : (b : Bool) → (b && false) ≡ false
 and_false true = refl
 and_false false = refl
 
--- what is known once the points up to this one are seen: how far the files reach there, up to which point they are needed for all
--- of them, and that some file stands for each
+-- the facts once the points up to this one are seen: how far the files reach there, up to which point they are needed for all of
+-- them, and that some file covers each
 pub record IsReached (base : ℕ) (files : List File) (below point needed : ℕ) : Type 0 where
   pub from : base ≤ below
   pub reached : point ≡ last_reached base files below
@@ -41,7 +41,7 @@ at_base base below files is = subst (λ m. IsReached base files m base 0) (sym i
     }
 
 module _ (base : ℕ) (files : List File) (below point needed : ℕ) (is : IsReached base files below point needed) where
-  -- one more point, for which a file stands
+  -- one more point, which a file covers
   pub one_further : (top next : ℕ) → least_top files (below + 1) ≡ Some top → next ≡ (if nat_le (max needed top) (below + 1) then below + 1 else point) → IsReached base files (below + 1) next (max needed top)
   one_further top next found chosen = subst (λ m. IsReached base files m next (max needed top)) same further
     where
@@ -108,7 +108,7 @@ module _ (base : ℕ) (files : List File) (below point needed : ℕ) (is : IsRea
         ∙ ap (λ t. if t then suc (k + below) else last_reached base files (k + below)) (not_all (suc (k + below)) k)
         ∙ stays k
 
-    -- the files reach no further than a point for which none stands
+    -- the files reach no further than a point that none covers
     pub stuck_at : (last : ℕ) → below ≤ last → point ≡ last_reached base files last
     stuck_at last from = is.reached ∙ sym (stays (last - below)) ∙ ap (last_reached base files) (let e : (last - below) + below ≡ last = omega arith in e)
 
@@ -127,22 +127,22 @@ module _ (base : ℕ) (files : List File) (below point needed : ℕ) (is : IsRea
     pub lack_at : (last : ℕ) → below < last → Some (below + 1) ≡ find (λ p. not (is_covered files p)) (points_to base last)
     lack_at last from = ap Some (sym same_next) ∙ sym (lacks (last - suc below)) ∙ ap (λ m. find (λ p. not (is_covered files p)) (points_to base m)) (let e : suc ((last - suc below) + below) ≡ last = omega arith in e)
 
-  -- none is lacking where a file stands for each
+  -- none is lacking if a file covers each
   pub no_lack : None ≡ find (λ p. not (is_covered files p)) (points_to base below)
   no_lack = sym (none_fails (is_covered files) (points_to base below) is.all)
 
--- what a place within the table has
+-- the element at a place within the table
 item_is : {X : Type 0} (xs : List X) (i : ℕ) (x d : X) → i < length xs → x ≡ get_or xs i x → get_or xs i d ≡ x
 item_is [] i x d within is = absurd (omega (arith, within))
 item_is (y ∷ xs) zero x d within is = sym is
 item_is (y ∷ xs) (suc i) x d within is = item_is xs i x d (omega (arith, within)) is
 
--- what is read at a point's place is its least greatest point
+-- the number at a point's place is its least greatest point
 pub read_at : (tops : List (Option ℕ)) (files : List File) (place point : ℕ) (x : Option ℕ) → AreTops tops files → length tops ≡ 65536 → place ≡ point → point ≤ 65535 → x ≡ get_or tops place x → least_top files point ≡ x
 read_at tops files place point x are len same within is = sym (are point within) ∙ item_is tops point x None (omega arith) (is ∙ ap (λ i. get_or tops i x) same)
 
 module _ (base : ℕ) (files : List File) (below point needed : ℕ) (is : IsReached base files below point needed) where
-  -- the walk ends at the first point for which no file stands
+  -- the walk ends at the first point that no file covers
   pub ends_at : below < 65535 → least_top files (below + 1) ≡ None → IsReach base files (record { point = point; missing = Some (below + 1) })
   ends_at within none = record { point = stuck_at base files below point needed is none 65535 (omega (arith, within)); missing = lack_at base files below point needed is none 65535 within }
 

@@ -1,4 +1,4 @@
--- Joining files one after the other, and laying one on a base.
+-- Joining files in order, and applying one to a base.
 use Rattle.std.specs.Prelude.{ℕ, ◌≡◌, IsTrue, List, [], ◌∷◌, Option, Some, None, Result, Ok}
 use Rattle.pc_types.specs.declared.refusal.Refusal.{Refusal}
 use Rattle.pc_types.specs.Fields.{◌>>=◌}
@@ -16,11 +16,11 @@ use Rattle.pc_recover.specs.Recovery.{unless}
 abbrev pub join_due : File → File → Result File Refusal
 join_due a b = unless (first_cause (join_causes (Some a) (Some b))) (joined_file a b)
 
--- the base with the file laid on it, unless that is refused
+-- the base with the file applied to it, unless that is refused
 abbrev pub lay_due : BaseFile → File → Result BaseFile Refusal
 lay_due base file = unless (first_cause (lay_causes base file)) (laid_file base file)
 
--- what is joined so far, with the files joined to it
+-- the join so far, with the files joined to it
 abbrev pub joined_on : Option File → List File → Result (Option File) Refusal
 joined_on joined [] = Ok joined
 joined_on None (file ∷ files) = joined_on (Some file) files
@@ -28,6 +28,6 @@ joined_on (Some joined) (file ∷ files) = do
   both ← join_due joined file
   joined_on (Some both) files
 
--- what a key has in the file is of one of its points
+-- a key's value in the file is of one of its points
 abbrev pub IsOfPoints : File → Type 0
 IsOfPoints file = (key : List ℕ) (there : AtPoint) → map_of.get file.triples key ≡ Some there → IsTrue (set.contains file.points there.point)

@@ -1,4 +1,4 @@
--- How far files reach: of each point the least greatest point of the files that stand for it.
+-- How far files reach: of each point the least greatest point of the files that cover it.
 use Rattle.std.specs.Prelude.{ℕ, ◌≡◌, ◌≤◌, IsTrue, min, List, Option, Some, None, fold, slice_index_or, if◌then◌else◌}
 use Rattle.pc_types.specs.declared.limits.TheConstants.{MOST_POINTS}
 use Rattle.pc_model.specs.Sets as set
@@ -7,24 +7,24 @@ use Rattle.pc_model.specs.LaidFiles.{greatest}
 use Rattle.pc_recover.specs.Recovery.{recovered_point, first_missing}
 use Rattle.pc_recover.specs.declared.reach.Reach.{Reach}
 
--- the lesser of two points, the first of which may not be there
+-- the lesser of two points, the first of which may be missing
 abbrev pub lesser : Option ℕ → ℕ → Option ℕ
 lesser None top = Some top
 lesser (Some other) top = Some (min other top)
 
--- the same with the greatest point of a file, if it stands for this point
+-- the same with the greatest point of a file, if it covers this point
 abbrev pub noted : ℕ → Option ℕ → File → Option ℕ
 noted point top file = if set.contains file.points point then lesser top (greatest file.points) else top
 
--- the least greatest point of the files that stand for this point
+-- the least greatest point of the files that cover this point
 abbrev pub least_top : List File → ℕ → Option ℕ
 least_top files point = fold (noted point) None files
 
--- what a table has at the point's place
+-- the table's number at the point's place
 abbrev pub top_at : List (Option ℕ) → ℕ → Option ℕ
 top_at tops point = slice_index_or tops point None
 
--- the table has of each point the least greatest point of the files that stand for it
+-- the table has of each point the least greatest point of the files that cover it
 abbrev pub AreTops : List (Option ℕ) → List File → Type 0
 AreTops tops files = (point : ℕ) → point ≤ MOST_POINTS → top_at tops point ≡ least_top files point
 

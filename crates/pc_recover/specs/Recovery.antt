@@ -1,4 +1,4 @@
--- Recovery: what a base, part files and a log are worth after a crash, by its rules, whatever bytes they are.
+-- Recovery: the state that a base, part files and a log give after a crash, by its rules, for any bytes.
 use Rattle.std.specs.Prelude.{◌≡◌, ℕ, zero, suc, ◌+◌, ◌==◌, not, nat_lt, nat_le, Bool, List, [], ◌∷◌, length, map, filter, find, drop, Option, Some, None, Result, Ok, Err, if◌then◌else◌}
 use Rattle.std.specs.List.{list_any, list_all}
 use Rattle.pc_types.specs.declared.refusal.Refusal.{Refusal}
@@ -21,13 +21,13 @@ use Rattle.pc_recover.specs.declared.recovered.Recovered.{Recovered}
 
 -- ---- which files there are
 
--- the file of a part's bytes, where they are the text of a part of the run
+-- the file of a part's bytes, if they are the text of a part of the run
 abbrev pub file_at : ℕ → List ℕ → Result File Refusal
 file_at run bytes = do
   file ← part_at bytes
   where_true (file.run == run) OtherRun file
 
--- the files, without those that can't be had
+-- the files, without those that can't be read
 abbrev pub read_files : List (Result File Refusal) → List File
 read_files [] = []
 read_files (Ok file ∷ others) = file ∷ read_files others
@@ -35,7 +35,7 @@ read_files (Err why ∷ others) = read_files others
 
 -- ---- which point is recovered
 
--- one of the files stands for the point
+-- one of the files covers the point
 abbrev pub is_covered : List File → ℕ → Bool
 is_covered files point = list_any (λ (file : File). set.contains file.points point) files
 
@@ -43,7 +43,7 @@ is_covered files point = list_any (λ (file : File). set.contains file.points po
 abbrev pub files_to : ℕ → List File → List File
 files_to n files = filter (λ (file : File). nat_le (greatest file.points) n) files
 
--- the files without a point above n stand for all points from b + 1 to n
+-- the files without a point above n cover all points from b + 1 to n
 abbrev pub reaches : ℕ → List File → ℕ → Bool
 reaches b files n = list_all (is_covered (files_to n files)) (drop b (numbers_to n))
 
@@ -58,17 +58,17 @@ recovered_point b files = last_reached b files MOST_POINTS
 
 -- ---- which files are not used
 
--- the least point above b for which no file stands
+-- the least point above b that no file covers
 abbrev pub first_missing : ℕ → List File → Option ℕ
 first_missing b files = find (λ point. not (is_covered files point)) (drop b (numbers_to MOST_POINTS))
 
--- why a file isn't used, if it isn't: it can't be had, or it has a point above n; no file stands for the point of the gap
+-- why a file isn't used, if it isn't: it can't be read, or it has a point above n; no file covers the point of the gap
 abbrev pub why_unused : ℕ → Option ℕ → Result File Refusal → Option Refusal
 why_unused n gap (Err why) = Some why
 why_unused n None (Ok file) = None
 why_unused n (Some point) (Ok file) = if nat_lt n (greatest file.points) then Some (Gap point) else None
 
--- the list with the place and the reason, where there is one
+-- the list with the place and the reason, if there is one
 abbrev pub with_reason : ℕ → Option Refusal → List Skipped → List Skipped
 with_reason place None unused = unused
 with_reason place (Some why) unused = record { place = place; reason = why } ∷ unused
@@ -80,19 +80,19 @@ unused_from place n gap (file ∷ others) = with_reason place (why_unused n gap 
 
 -- ---- the database at the point
 
--- the result, where no cause of a refusal stands
+-- the result, if no cause of a refusal holds
 abbrev pub unless : {X : Type 0} → Option Refusal → X → Result X Refusal
 unless None x = Ok x
 unless (Some why) x = Err why
 
--- the join of a file with others, one after the other
+-- the join of a file with others, in order
 abbrev pub folded : File → List File → Result File Refusal
 folded file [] = Ok file
 folded file (next ∷ files) = do
   joined ← unless (first_cause (join_causes (Some file) (Some next))) (joined_file file next)
   folded joined files
 
--- the base with the join of the files laid on it, if there are any
+-- the base with the join of the files applied to it, if there are any
 abbrev pub with_files : BaseFile → List File → Result BaseFile Refusal
 with_files base [] = Ok base
 with_files base (file ∷ files) = do
@@ -101,18 +101,18 @@ with_files base (file ∷ files) = do
 
 -- ---- the log
 
--- what is read of the run's log; fewer bytes than its header has count as no entries
+-- the reading of the run's log; fewer bytes than its header has count as no entries
 abbrev pub log_of_run : ℕ → List ℕ → Result LogRead Refusal
 log_of_run run bytes = if nat_lt (length bytes) 20 then Ok (record { run = run; entries = []; rest = length bytes; fault = None }) else (log_at bytes >>= λ log. where_true (log.run == run) OtherRun log)
 
--- the entries that the state of n lacks: all where n is 0, else those behind its token, none where it has none there
+-- the entries that the state of n lacks: all if n is 0, otherwise those after its token, none if it has none there
 abbrev pub entries_after : ℕ → List Entry → List Entry
 entries_after n entries = if n == 0 then entries else behind n entries
 
 -- ---- all of it
 
--- what was recovered: the pairs, the point of the files that are in them, how many whole entries the log has, the places of
--- the parts that were not used with the reasons, and the fault of the log's rest
+-- the result of a recovery: the pairs, the point of the files that are in them, the number of the log's whole entries, the places
+-- of the parts that were not used with the reasons, and the fault of the log's rest
 pub record Recovery : Type 0 where
   pub pairs : Database
   pub point : ℕ
@@ -124,8 +124,8 @@ pub record Recovery : Type 0 where
 abbrev pub files_of : ℕ → List (List ℕ) → List (Result File Refusal)
 files_of run parts = map (file_at run) parts
 
--- what is recovered on a base of these files and these bytes of a log: the files without a point above the recovered one are
--- laid on the base, and the log's entries that came after that point are applied
+-- the recovery on a base of these files and these bytes of a log: the files without a point above the recovered one are applied to
+-- the base, and then the log's entries that came after that point
 abbrev pub recovery_on : BaseFile → List (Result File Refusal) → List ℕ → Result Recovery Refusal
 recovery_on base files log_bytes =
     let had = read_files files in
@@ -145,6 +145,6 @@ recovery base_bytes parts log_bytes = do
 abbrev pub IsOfRun : List ℕ → ℕ → Type 0
 IsOfRun base_bytes run = (base : BaseFile) × (base_at base_bytes ≡ Ok base) × (run ≡ base.run)
 
--- what a call has recovered, without its run and where it lies in memory
+-- the recovery of a call, without its run and its place in memory
 abbrev pub recovery_of : Recovered → Recovery
 recovery_of r = record { pairs = database_of r.pairs.items; point = r.point; entries = r.entries; skipped = r.skipped.items; fault = r.fault }

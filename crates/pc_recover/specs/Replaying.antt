@@ -15,31 +15,30 @@ abbrev pub is_point_token : ℕ → Entry → Bool
 is_point_token point (Commit session writes) = false
 is_point_token point (Token phase m) = is_token_of point phase m
 
--- the entries that count: all where the point's token stands before them, else those behind it
+-- the entries that count: all if the point's token is before them, otherwise those after it
 abbrev pub counting : Bool → ℕ → List Entry → List Entry
 counting is_behind point entries = if is_behind then entries else behind point entries
 
--- what a log makes of a database: the database after the entries that count, how many entries there are, and the fault of
--- the log's rest
+-- the effect of a log on a database: the database after the entries that count, the number of entries, and the fault of the log's rest
 pub record Replay : Type 0 where
   pub pairs : Database
   pub entries : ℕ
   pub fault : Option Refusal
 
--- what these entries make of it, with this fault behind them
+-- the effect of these entries, with this fault after them
 abbrev pub replay_of : ℕ → Database → List Entry → Option Refusal → Replay
 replay_of point db entries fault = record { pairs = after db (entries_after point entries); entries = length entries; fault = fault }
 
--- what all that was found in bytes makes of it
+-- the effect of all entries that were found in bytes
 abbrev pub found_replay : ℕ → Database → LogReading → Replay
 found_replay point db found = replay_of point db found.entries found.fault
 
--- what the bytes of the run's log make of it
+-- the effect of the bytes of the run's log
 abbrev pub log_replay : ℕ → ℕ → Database → List ℕ → Result Replay Refusal
 log_replay run point db bytes = do
   log ← log_of_run run bytes
   Ok (replay_of point db log.entries log.fault)
 
--- what a call has replayed
+-- the replay of a call
 abbrev pub replay_by : Replayed → Replay
 replay_by replayed = record { pairs = replayed.database; entries = replayed.entries; fault = replayed.fault }

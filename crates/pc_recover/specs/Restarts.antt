@@ -1,4 +1,4 @@
--- Restart: what is recovered of a run whose files came back as they were written, with any beginning of its log.
+-- Restart: the recovery of a run whose files came back as they were written, with any beginning of its log.
 use Rattle.std.specs.Prelude.{◌≡◌, ℕ, ◌+◌, ◌≤◌, ◌<◌, ◌==◌, ◌⊎◌, max, List, length, take, All, Some, None, Ok, MatchResult, IsTrue, if◌then◌else◌}
 use Rattle.pc_types.specs.declared.refusal.Refusal.TheVariants.{Short, Full}
 use Rattle.pc_types.specs.declared.Entry.{Entry}
@@ -36,8 +36,8 @@ pub record AreWhole (format : Format) (run : ℕ) (log : List Entry) (c p : ℕ)
   pub there : (p ≡ 0) ⊎ (length (log_text_in format run (take p log)) ≤ c)
   pub next : p < length log → c < length (log_text_in format run (take (p + 1) log))
 
--- What is recovered from these files and the first c bytes of the log: the database after the first entries, as far as those
--- that are whole in these bytes go, or the recovered point's token where that is further.
+-- The recovery from these files and the first c bytes of the log: the database after the first entries, up to the last that is
+-- whole in these bytes, or up to the recovered point's token if that is further.
 pub record IsRestored (format : Format) (run : ℕ) (start : Database) (log : List Entry) (b : ℕ) (parts : List (List ℕ)) (c : ℕ) (found : Recovery) : Type 0 where
   pub point : found.point ≡ recovered_point b (read_files (files_of run parts))
   pub entries : AreWhole format run log c found.entries

@@ -1,4 +1,4 @@
--- What a run's events and its log keep to.
+-- The facts of a run's events and its log.
 use Rattle.std.specs.Prelude.{◌≡◌, ℕ, ◌≤◌, ◌⊎◌, List, All, Ok, MatchResult, take}
 use Rattle.pc_model.specs.History.{History, log_of}
 use Rattle.pc_model.specs.Replies.{Setting}
@@ -27,15 +27,16 @@ IsMadeText st history bytes = (file : File) × IsMade (shelf st.run history) fil
 abbrev pub IsForeign : ℕ → List ℕ → Type 0
 IsForeign run bytes = (file : File) → part_at bytes ≡ Ok file → ¬ (file.run ≡ run)
 
--- What came back of a run, each file in either format: a text of the base that it started from, and parts that are texts of files
--- made of its shelf, or no texts of the run at all.
+-- The files of a run that came back, each in either format: a text of the base that it started from, and parts that are texts of
+-- files made of its shelf, or no texts of the run at all.
 pub record CameBack (st : Setting) (history : History) (base : List ℕ) (parts : List (List ℕ)) : Type 0 where
   pub base_is : IsBaseText base (start_of st)
   pub base_fits : IsBaseFile (start_of st)
   pub parts_are : All (λ bytes. IsMadeText st history bytes ⊎ IsForeign st.run bytes) parts
 
--- Any beginning of a run's log, of a format that has its text, is recovered from, with whatever of its files came back: what is recovered is the database after
--- the first entries, as far as those that are whole go, or the recovered point's token where that is further.
+-- Any beginning of a run's log, of a format that has its text, is recovered from, with any of its files that came back: the
+-- recovered state is the database after the first entries, up to the last whole one, or up to the recovered point's token if that
+-- is further.
 abbrev pub EveryCutOfARunIsRecovered : Type 0
 EveryCutOfARunIsRecovered =
     (format : Format) (st : Setting) (history : History) (base : List ℕ) (parts : List (List ℕ)) (c : ℕ) → HasLegalEffects st history → TakesPointValue st.base history → st.sessions ≤ MOST_SESSIONS → AreInLimits history → HasLog format (log_of history) →

@@ -1,4 +1,4 @@
-//! The parts that can be had: read, and of the run.
+//! The parts that can be read: those whose bytes are a part of the run.
 ghost use Rattle.std.specs.Prelude.{◌≡◌, map, IfOk, IfErr};
 ghost use Rattle.pc_recover.specs.Recovery.{file_at, files_of};
 
@@ -6,10 +6,10 @@ use pc_part::Part;
 use pc_types::Refusal;
 use std::alloc::Global;
 
-/// A part, or why it can't be had: the fault of its bytes, or `OtherRun`.
+/// A part that was read, or why it can't be read: the fault of its bytes, or `OtherRun`.
 pub(crate) type Candidate = Result<Part, Refusal>;
 
-/// The parts of these bytes, in their order; each is read once. Refuses with `OutOfMemory` alone.
+/// The parts of these bytes, in their order; each is read once. Its only error is `OutOfMemory`.
 pub(crate) fn candidates(
     alloc: Global,
     run: u64,
@@ -25,7 +25,7 @@ pub(crate) fn candidates(
     Ok(files)
 }
 
-// The part of these bytes, if it can be had.
+// The part of these bytes, if it can be read.
 fn candidate(alloc: Global, run: u64, bytes: &[u8]) -> Result<Candidate, Refusal>
     ensures file { IfOk result (λ file. file ≡ file_at run bytes.now) }
     ensures memory { IfErr result (λ e. e ≡ Refusal.OutOfMemory) }

@@ -1,4 +1,4 @@
-//! The join of parts: in one pass over all of them, where that gives what joining them one after the other does.
+//! The join of parts: in one pass over all of them, if that gives the same as joining them in order.
 ghost use Rattle.std.specs.Prelude.{◌≡◌, None, Some, Ok, ◌∷◌, [], IfOk, IfErr, IfSome, IsTrue};
 ghost use Rattle.pc_types.specs.Fields.{Gives};
 ghost use Rattle.pc_merge.specs.Folds.{NoneConflict};
@@ -11,8 +11,9 @@ use pc_part::{Part, join, joins_associate, joins_make_no_conflict};
 use pc_types::Refusal;
 use std::alloc::{AllocError, Global};
 
-/// The join of the parts from the first to the last, if there are any. Refuses as `join` does. Of more than two, where no point is in
-/// two of them, it takes one pass over the entries of all, else one for each of them over the entries of those before it.
+/// The join of the parts from the first to the last, if there are any. Its errors are those of `join`. Of more than two, if no
+/// point is in two of them, it takes one pass over the entries of all, otherwise one for each of them over the entries of those
+/// before it.
 pub(crate) fn joined(alloc: Global, parts: Vec<Part>) -> Result<Option<Part>, Refusal>
     ensures { Gives (λ joined. joined) result (joined_on None parts.items) }
 {
@@ -22,8 +23,8 @@ pub(crate) fn joined(alloc: Global, parts: Vec<Part>) -> Result<Option<Part>, Re
     }
 }
 
-// The join of more than two parts by one pass over the entries of all; two are joined quicker by themselves. None where it may be
-// that joining them one after the other is refused.
+// The join of more than two parts by one pass over the entries of all; for two a single join is quicker. None if joining them in
+// order may be refused.
 fn joined_at_once(alloc: Global, parts: &[Part]) -> Result<Option<Part>, Refusal>
     ensures joined { IfOk result (λ joined. IfSome joined (λ part. joined_on None parts.now ≡ Ok (Some part))) }
     ensures memory { IfErr result (λ e. e ≡ Refusal.OutOfMemory) }
@@ -61,7 +62,7 @@ fn are_apart(alloc: Global, parts: &[Part]) -> Result<bool, AllocError>
     Ok(true)
 }
 
-// Does nothing, and tells what each part keeps to: its entries are of its points, and no more than a file may have.
+// Does nothing; its contract says that each part's entries are of its points, and no more than a file may have.
 fn tell(part: &Part)
     ensures points { IsOfPoints part.now }
     ensures limit { IsWithinLimit part.now.triples.entries }
@@ -69,7 +70,7 @@ fn tell(part: &Part)
     part.entries();
 }
 
-// The join of the parts, one after the other, if there are any.
+// The join of the parts, in order, if there are any.
 fn joined_in_turn(alloc: Global, parts: Vec<Part>) -> Result<Option<Part>, Refusal>
     ensures { Gives (λ joined. joined) result (joined_on None parts.items) }
 {
@@ -80,7 +81,7 @@ fn joined_in_turn(alloc: Global, parts: Vec<Part>) -> Result<Option<Part>, Refus
     Ok(joined)
 }
 
-// What is joined so far, with this part.
+// The join so far, with this part.
 fn with_part(alloc: Global, joined: Option<Part>, part: Part) -> Result<Option<Part>, Refusal>
     ensures { Gives (λ joined. joined) result (joined_on joined (part ∷ [])) }
 {

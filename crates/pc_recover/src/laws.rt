@@ -2,16 +2,16 @@
 ghost use Rattle.pc_recover.specs.Restarts.{EveryCutIsRecovered};
 ghost use Rattle.pc_recover.specs.Runs.{EveryCutOfARunIsRecovered};
 
-/// Where a run's base and parts came back as they were written, and of its log any beginning, each in either format, what is
-/// recovered is the database after the first entries of the log: as far as those that are whole go, or the recovered point's
-/// token where that is further. Only the entry limit refuses.
+/// If a run's base and parts came back as they were written, and of its log any beginning, each in either format, the recovered
+/// state is the database after the first entries of the log: up to the last whole one, or up to the recovered point's token if that
+/// is further. Only the entry limit refuses.
 pub fn every_cut_is_recovered()
     ensures { EveryCutIsRecovered }
 {}
 
 /// Whatever a run did: any beginning of its log, with the texts of any files that were made of its shelf and a text of its base,
-/// each in either format, is recovered to the database after the first entries of the log, as far as those that are whole go, or
-/// the recovered point's token where that is further.
+/// each in either format, is recovered to the database after the first entries of the log, up to the last whole one, or up to the
+/// recovered point's token if that is further.
 pub fn every_cut_of_a_run_is_recovered()
     ensures { EveryCutOfARunIsRecovered }
 {}

@@ -1,4 +1,4 @@
-//! Recovery: the state that a base, part files and a log are worth after a crash.
+//! Recovery: the state that a base, part files and a log give after a crash.
 #![tactic(auto)]
 
 mod candidates;

@@ -15,15 +15,15 @@ pub(crate) const PLACES: usize = MOST_POINTS as usize + 1;
 /// How far files reach from a base.
 #[derive(Clone, Copy, Debug, PartialEq, Eq)]
 pub(crate) struct Reach {
-    /// The recovered point: the greatest one for which the files without a point above it stand for all points from the
-    /// base's on; the base's where there is none.
+    /// The recovered point: the greatest one for which the files without a point above it cover all points from the base's on; the
+    /// base's if there is none.
     pub(crate) point: Point,
-    /// The least point above the base's for which no file stands.
+    /// The least point above the base's that no file covers.
     pub(crate) missing: Option<Point>,
 }
 
-/// How far the files that could be had reach from the base's point. It takes a step for each point of each file and one
-/// for each of the 65,535 points, and memory for as many numbers. It fails only where memory ran out.
+/// How far the files that were read reach from the base's point. It takes a step for each point of each file and one for each of
+/// the 65,535 points, and memory for as many numbers. Its only error is a failed allocation.
 pub(crate) fn reach_from(
     alloc: Global,
     base: Point,
@@ -33,7 +33,7 @@ pub(crate) fn reach_from(
 {
     let tops = least_tops(alloc, files)?;
     let mut point = base;
-    // The greatest of the tops so far: the files up to it are those that stand for all points so far.
+    // The greatest of the tops so far: the files up to it are those that cover all points so far.
     let mut needed = 0u16;
     for below in base.0..MOST_POINTS {
         let next = Point(below + 1);
@@ -52,7 +52,7 @@ pub(crate) fn reach_from(
     })
 }
 
-// Of each point, at its place, the least greatest point of the files that stand for it.
+// Of each point, at its place, the least greatest point of the files that cover it.
 fn least_tops(alloc: Global, files: &[Candidate]) -> Result<Vec<Option<Point>>, AllocError>
     ensures len { IfOk result (λ tops. length tops.items ≡ PLACES) }
     ensures tops { IfOk result (λ tops. AreTops tops.items (read_files files.now)) }
@@ -66,7 +66,7 @@ fn least_tops(alloc: Global, files: &[Candidate]) -> Result<Vec<Option<Point>>, 
     Ok(tops)
 }
 
-/// So many places with nothing noted.
+/// This many places with nothing noted.
 pub(crate) fn no_tops(alloc: Global, places: usize) -> Result<Vec<Option<Point>>, AllocError>
     ensures len { IfOk result (λ tops. length tops.items ≡ places) }
     ensures none { IfOk result (λ tops. (point : ℕ) → top_at tops.items point ≡ None) }
@@ -124,7 +124,7 @@ fn is_range_free(tops: &[Option<Point>], range: Range) -> bool
     true
 }
 
-// The lesser of two points, the first of which may not be there.
+// The lesser of two points, the first of which may be missing.
 fn lesser(other: Option<Point>, top: Point) -> Option<Point>
     ensures { result ≡ lesser other top }
 {

@@ -1,4 +1,4 @@
-//! What was recovered.
+//! The result of a recovery.
 use pc_types::{Key, Point, Refusal, Value};
 
 /// A part that is not in the recovered state, and why.
@@ -6,25 +6,25 @@ use pc_types::{Key, Point, Refusal, Value};
 pub struct Skipped {
     /// Its place among the parts, from 0.
     pub place: usize,
-    /// The fault of its bytes; `OtherRun` where it is of another run than the base; `Gap` with the least point above the
-    /// base's for which no part stands, where it has a point past the recovered one.
+    /// The fault of its bytes; `OtherRun` if it is of another run than the base; `Gap` with the least point above the base's that
+    /// no part covers, if it has a point past the recovered one.
     pub reason: Refusal,
 }
 
-/// What a base, part files and a log are worth.
+/// The result of recovery from a base, part files and a log.
 #[derive(Drop)]
 pub struct Recovered {
-    /// The number of the base's run, of which all that was used is.
+    /// The number of the base's run, to which all used files belong.
     pub run: u64,
-    /// The pairs of the database, rising strictly by key.
+    /// The pairs of the database, in strictly ascending order of the keys.
     pub pairs: Vec<(Key, Value)>,
     /// The point up to which part files are in it: the base's, or the greatest that they reach.
     pub point: Point,
-    /// How many whole entries the log has.
+    /// The number of the log's whole entries.
     pub entries: usize,
     /// The parts that were not used, in the order of their places.
     pub skipped: Vec<Skipped>,
-    /// The fault of the bytes behind the log's whole entries, where there are any: `Short` where the log was cut. A log that
-    /// was cut inside its header has none.
+    /// The fault of the bytes after the log's whole entries, if there are any: `Short` if the log was truncated. A log that was
+    /// truncated inside its header has none.
     pub fault: Option<Refusal>,
 }

@@ -15,25 +15,24 @@ use pc_replay::Overlay;
 use pc_types::Refusal;
 use std::alloc::Global;
 
-/// What a base, the parts of its run and the run's log are worth after a crash, whatever bytes they are. Each may be of either
-/// format.
+/// The state recovered from a base, the parts of its run and the run's log after a crash, for any bytes. Each may be of either format.
 ///
-/// A part is read if its bytes are a part of the base's run. The recovered point is the greatest one for which the parts
-/// that were read, without a point above it, stand for all points from the base's on; it is the base's where they reach
-/// none. These parts are joined from the first to the last, and laid on the base. All other parts are skipped, with the
-/// reason. Then the log's commits behind the recovered point's token are applied, in order: those of all its whole entries
-/// where the point is 0, none where the log has no such token. Fewer than the 20 bytes of a log's header count as a log
-/// without entries. Bytes behind the last whole entry are left out, and their fault is told.
+/// A part is read if its bytes are a part of the base's run. The recovered point is the greatest one for which the parts that were
+/// read, without a point above it, cover all points from the base's on; it is the base's if they reach none. These parts are joined
+/// from the first to the last, and applied to the base. All other parts are skipped, with the reason. Then the log's commits after
+/// the recovered point's token are applied, in order: those of all its whole entries if the point is 0, none if the log has no such
+/// token. Fewer than the 20 bytes of a log's header count as a log without entries. Bytes after the last whole entry are left out,
+/// and their fault is returned.
 ///
-/// Where no point is in two of the parts that are used, it takes one pass over all of their entries; else one for each of these
-/// parts over the entries of those before it. Memory is taken for the pairs and a number of every 32 of them, the parts that were
-/// read and their join, one entry of the log at a time, and for one number of each point. Of several refusals the first counts:
+/// If no point is in two of the parts that are used, it takes one pass over all of their entries; otherwise one for each of these
+/// parts over the entries of those before it. Memory is allocated for the pairs and a number of every 32 of them, the parts that
+/// were read and their join, one entry of the log at a time, and for one number of each point. Of several errors the first is
+/// returned:
 ///
 /// - the fault of the base's bytes;
-/// - `Conflict` or `Full`, where the parts that are used can't be joined or laid;
-/// - the fault of the log's header: `BadMagic`, or `BadRanges` where its base point isn't 0; `OtherRun` where it is of
-///   another run;
-/// - `OutOfMemory` only where memory ran out.
+/// - `Conflict` or `Full`, if the parts that are used can't be joined or applied;
+/// - the fault of the log's header: `BadMagic`, or `BadRanges` if its base point isn't 0; `OtherRun` if it is of another run;
+/// - `OutOfMemory` only if an allocation failed.
 pub fn recover(
     alloc: Global,
     base: &[u8],

@@ -1,4 +1,4 @@
-//! What the log has behind the state of the recovered point, read and applied entry by entry.
+//! The log's entries after the state of the recovered point, read and applied entry by entry.
 ghost use Rattle.std.specs.Prelude.{◌≡◌, ◌∷◌, [], ◌||◌, length, IfOk, OnOk, Ok, Err, Some};
 ghost use Rattle.pc_types.specs.Fields.{Gives};
 ghost use Rattle.pc_model.specs.Log.{after};
@@ -11,11 +11,10 @@ use pc_replay::Overlay;
 use pc_types::{Entry, Format, Phase, Point, Refusal};
 use std::alloc::{AllocError, Global};
 
-// A log's text begins with so many bytes, which were written before the first entry.
+// A log's text begins with this many bytes, which were written before the first entry.
 const HEADER: usize = 20;
 
-/// What a log was worth: the database that it left, how many whole entries it has, and the fault of its rest, where there is
-/// one.
+/// The replay of a log: the database after it, the number of its whole entries, and the fault of its rest, if there is one.
 #[derive(Drop)]
 pub(crate) struct Replayed {
     pub(crate) database: Overlay,
@@ -23,10 +22,9 @@ pub(crate) struct Replayed {
     pub(crate) fault: Option<Refusal>,
 }
 
-/// Applies the commits of the run's log that came behind the point's token to the database, all of them where the point is 0.
-/// Fewer bytes than a log's header has count as a log without entries: a crash came before the first entry. Refuses with the
-/// fault of the header, with `OtherRun`, or with `OutOfMemory` where memory ran out; then nothing is left of the database. Of
-/// the log one entry at a time is kept.
+/// Applies the commits of the run's log after the point's token to the database, all of them if the point is 0. Fewer bytes than a
+/// log's header has count as a log without entries: a crash came before the first entry. Returns the fault of the header,
+/// `OtherRun`, or `OutOfMemory` if an allocation failed; then the database is dropped. Of the log one entry at a time is kept.
 #[tactic(auto, unfolding(pc_log::specs::Reading::log_at))]
 pub(crate) fn replay_log(
     alloc: Global,
@@ -51,7 +49,7 @@ pub(crate) fn replay_log(
     replay_entries(alloc, format, point, database, entries)
 }
 
-// Reads the entries one after the other in the log's format, as many as can be read, and applies those that count.
+// Reads the entries in order in the log's format, as many as can be read, and applies those that count.
 fn replay_entries(
     alloc: Global,
     format: Format,
@@ -88,7 +86,7 @@ fn replay_entries(
     })
 }
 
-// What was replayed where the rest has this fault, or memory ran out.
+// The replay so far if the rest has this fault; an error if an allocation failed.
 fn stopped(database: Overlay, entries: usize, fault: Refusal) -> Result<Replayed, Refusal>
     ensures read { Gives replay_by result (Ok (record { pairs = database; entries = entries; fault = Some fault })) }
     ensures memory { fault ≡ Refusal.OutOfMemory → result ≡ Err Refusal.OutOfMemory }
@@ -103,8 +101,7 @@ fn stopped(database: Overlay, entries: usize, fault: Refusal) -> Result<Replayed
     })
 }
 
-// The database once the entry is applied, if it is a commit behind the point's token, and whether what follows the entry is
-// behind that token.
+// The database once the entry is applied, if it is a commit after the point's token, and whether the next entry comes after that token.
 fn replay_entry(
     alloc: Global,
     database: Overlay,

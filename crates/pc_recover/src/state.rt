@@ -1,4 +1,4 @@
-//! The state of the recovered point: the used files joined and laid on the base.
+//! The state of the recovered point: the used files joined and applied to the base.
 ghost use Rattle.std.specs.Prelude.{◌≡◌, ◌++◌, None, ◌∷◌, [], IfOk};
 ghost use Rattle.pc_types.specs.Fields.{Gives};
 ghost use Rattle.pc_recover.specs.Recovery.{files_to, read_files, with_files};
@@ -11,8 +11,8 @@ use pc_part::{Base, Part, lay};
 use pc_types::{Point, Refusal};
 use std::alloc::{AllocError, Global};
 
-/// The base with the join of the used files laid on it: those of them that could be had and have no point above this one.
-/// They are joined from the first to the last. Refuses as `join` and `lay` do, which come in this order.
+/// The base with the join of the used files applied to it: those that were read and have no point above the given one. They are
+/// joined from the first to the last. Its errors are those of `join` and then those of `lay`.
 pub(crate) fn with_used(
     alloc: Global,
     base: Base,
@@ -64,7 +64,7 @@ fn pushed(mut parts: Vec<Part>, part: Part) -> Result<Vec<Part>, AllocError>
     Ok(parts)
 }
 
-// The base with the part laid on it.
+// The base with the part applied to it.
 fn lay_due(alloc: Global, base: &Base, part: &Part) -> Result<Base, Refusal>
     ensures { Gives (λ base. base) result (lay_due base.now part.now) }
 {

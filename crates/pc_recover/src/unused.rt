@@ -8,7 +8,7 @@ use crate::recovered::Skipped;
 use pc_types::Refusal;
 use std::alloc::{AllocError, Global};
 
-/// The places of the files that are not used, with the reasons, in their order. It fails only where memory ran out.
+/// The places of the files that are not used, with the reasons, in their order. Its only error is a failed allocation.
 pub(crate) fn unused(
     alloc: Global,
     reach: &Reach,

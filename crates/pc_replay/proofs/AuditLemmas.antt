@@ -18,7 +18,7 @@ use Rattle.pc_model.proofs.PairMapLaws as pairs
 use Rattle.pc_model.proofs.LogLaws.{after-append}
 use Rattle.pc_replay.proofs.LaidInTurn.{laid_in_turn_is}
 
--- a log has the token where its front is shorter
+-- a log has the token if its front is shorter
 pub token_by_length : (n : ℕ) (log : List Entry) → has_token n log ≡ nat_lt (length (front n log)) (length log)
 token_by_length n [] = grind (arith, nat_tests)
 token_by_length n (Commit s ws ∷ log) = token_by_length n log ∙ one_more (length (front n log)) (length log)
@@ -55,11 +55,11 @@ after_more db log at to low = sym (after-append db (take at log) (take (to - at)
     together : at + (to - at) ≡ to
     together = omega arith
 
--- triples that rise by key, laid in turn, are laid
+-- triples that ascend by key, laid in turn, are laid
 pub laid_list : (db : Database) (triples : List Triple) → KeysRise (entries_of triples) → laid_in_turn db 0 triples ≡ laid db 0 (triples_from triples)
 laid_list db triples rise = laid_in_turn_is db 0 triples (triples_from triples) (pairs.entries_of (entries_of triples) rise)
 
--- files whose triples rise are right just where they are right in turn
+-- files whose triples ascend are correct if and only if they are correct in turn
 pub all_in_turn : (base : Database) (log : List Entry) (files : List CompleteFile) → All TriplesRise files → All (IsRightInTurn base log) files ↔ All (IsRight base log) files
 all_in_turn base log files rise = (
   λ all k d below. let right = all k d below in

@@ -42,7 +42,7 @@ module _ (db : Database) (old new : BTreeMap (List ℕ) Content) (key : List ℕ
       step true f there = refl
       step false f there = refl
 
-  -- a write beneath is one above, where no change of the key is left
+  -- a write beneath is one above, if no change of the key is left
   pub forgotten : (after : Database) (content : Content) → after ≡ put db key content → Updates key_cmp old new key None → overlaid after new.entries ≡ put (overlaid db old.entries) key content
   forgotten after content is updates = same_database _ _ (λ q.
       get-overlaid after new.entries q ∙ ap (overlaid_there (get after q)) (find-updated None updates q)
@@ -53,7 +53,7 @@ module _ (db : Database) (old new : BTreeMap (List ℕ) Content) (key : List ℕ
       step true f there = refl
       step false f there = refl
 
--- what stands at a key of which this is noted
+-- the content of a key of which this is noted
 pub noted_there : (db : Database) (changes : BTreeMap (List ℕ) Content) (key : List ℕ) (o : Option Content) → o ≡ tree.get key_cmp changes key → get (overlaid db changes.entries) key ≡ overlaid_there (get db key) o
 noted_there db changes key o is = get-overlaid db changes.entries key ∙ ap (overlaid_there (get db key)) (find-lookup changes.entries key ∙ sym is)
 
@@ -78,7 +78,7 @@ overlays = merged overlaid_there
 abbrev pub overlays_from : List Pair → List (List ℕ × Content) → ℕ → List Pair
 overlays_from pairs changes n = gathered overlaid_there (drop n (overlaid_items pairs changes))
 
--- a merge of pairs that rise and changes that rise is the changes laid over the pairs
+-- a merge of pairs that ascend and changes that ascend is the changes laid over the pairs
 module _ (pairs : List Pair) (changes : List (List ℕ × Content)) (rise_p : KeysRise pairs) (rise_c : KeysRise changes) where
   the_merge : Merges overlaid_there pairs changes (overlays pairs changes)
   the_merge = merges overlaid_there refl pairs changes rise_p rise_c

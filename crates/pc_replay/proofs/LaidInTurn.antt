@@ -1,4 +1,4 @@
--- Triples that rise by key, laid one after the other, are laid as the definition says.
+-- Triples that ascend by key, laid in order, are laid as the definition says.
 use Rattle.std.proofs.Common.{◌≡◌, ℕ, List, [], ◌∷◌, Some, refl, sym, ap, ◌∙◌, cond, Bool, true, false}
 use Rattle.std.specs.Prelude.{nat_lt}
 use Rattle.std.specs.FinMap.{find, is_sorted}
@@ -14,7 +14,7 @@ use Rattle.pc_model.proofs.RisingLaws.{none_below, both}
 use Rattle.pc_model.proofs.PairMapLaws.{same_database, tested}
 use Rattle.pc_model.proofs.JoinLaws.{get_put, get-laid, one_key}
 
--- one triple laid sets its key alone, where its point is above
+-- one triple laid sets its key alone, if its point is above
 get_laid_one : (db : Database) (point : ℕ) (t : Triple) (q : List ℕ) → get (laid_one db point t) q ≡ cond (same_bytes q t.key) (laid_at (get db t.key) point (Some (entry_of t).1)) (get db q)
 get_laid_one db point t q = by_point (nat_lt point t.point)
   where
@@ -42,7 +42,7 @@ get_in_turn db point (t ∷ ts) q rise =
         ∙ ap (λ k. laid_at (get db k) point (Some (entry_of t).1)) (sym here)
     by_key false same below = refl
 
--- triples that rise by key, laid in turn, are laid
+-- triples that ascend by key, laid in turn, are laid
 pub laid_in_turn_is : (db : Database) (point : ℕ) (ts : List Triple) (m : Triples) → m.entries ≡ entries_of ts → laid_in_turn db point ts ≡ laid db point m
 laid_in_turn_is db point ts m is = same_database _ _ (λ q.
     get_in_turn db point ts q (rw (← is) (tested m.rises))

@@ -1,4 +1,4 @@
--- When a complete file is right.
+-- When a complete file is correct.
 use Rattle.std.specs.Prelude.{◌≡◌, List, IsTrue}
 use Rattle.pc_types.specs.declared.Entry.{Entry}
 use Rattle.pc_replay.specs.declared.audits.CompleteFile.{CompleteFile}
@@ -14,16 +14,16 @@ use Rattle.pc_replay.specs.Laying.{laid_in_turn}
 abbrev pub triples_from : List Triple → Triples
 triples_from triples = from_list (entries_of triples)
 
--- the file's triples rise strictly by key
+-- the file's triples ascend strictly by key
 abbrev pub TriplesRise : CompleteFile → Type 0
 TriplesRise file = KeysRise (entries_of file.triples.items)
 
--- the log has the token of the file's point, and the file, laid on the base, which stands at 0, is the state of the point
+-- the log has the token of the file's point, and the file, applied to the base, which is at 0, is the state of the point
 pub record IsRight (base : Database) (log : List Entry) (file : CompleteFile) : Type 0 where
   pub has_point : IsTrue (has_token file.point log)
   pub is_the_state : laid base 0 (triples_from file.triples.items) ≡ state_at base log file.point
 
--- the same where the triples are laid one after the other
+-- the same if the triples are laid in order
 pub record IsRightInTurn (base : Database) (log : List Entry) (file : CompleteFile) : Type 0 where
   pub has_point : IsTrue (has_token file.point log)
   pub is_the_state : laid_in_turn base 0 file.triples.items ≡ state_at base log file.point

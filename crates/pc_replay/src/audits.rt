@@ -17,11 +17,11 @@ pub struct CompleteFile {
     pub triples: Vec<Triple>,
 }
 
-/// Whether each file is right: the token of its point stands in the log, and the base with the file laid on it is the state of
-/// the point.
-/// The base stands at point 0, and of several of its pairs with one key the first counts; each file's triples are to rise
-/// strictly by key. Where the files' points rise, as their tokens do in the log, the log is replayed once. Each file costs
-/// at most the sizes of the base, the log and the file, times a logarithm. It fails only where memory ran out.
+/// Whether each file is correct: the token of its point is in the log, and the base with the file applied to it is the state
+/// of the point.
+/// The base is at point 0, and of several of its pairs with one key the first counts; each file's triples must ascend strictly
+/// by key. If the files' points ascend, as their tokens do in the log, the log is replayed once. Each file costs at most the
+/// sizes of the base, the log and the file, times a logarithm. It fails only if an allocation fails.
 pub fn audit(
     alloc: Global,
     base: &[(Key, Value)],
@@ -34,8 +34,8 @@ pub fn audit(
     Ok(right)
 }
 
-/// Whether the pairs are the log replayed on the base. Of several pairs with one key the first counts. It fails only where
-/// memory ran out.
+/// Whether the pairs are the log replayed on the base. Of several pairs with one key the first counts. It fails only if an
+/// allocation fails.
 pub fn is_replay(
     alloc: Global,
     base: &[(Key, Value)],
@@ -50,7 +50,7 @@ pub fn is_replay(
     Ok(tree.is(&replayed))
 }
 
-// Whether each file is right, where its triples are laid one after the other.
+// Whether each file is correct, if its triples are laid in order.
 fn are_right(
     alloc: Global,
     base: &[(Key, Value)],
@@ -69,7 +69,7 @@ fn are_right(
     Ok(true)
 }
 
-// Whether the file is right. The tree is the base with the log's first entries replayed on it, and so many are they.
+// Whether the file is correct. The tree is the base with the log's first entries replayed on it; their number is given too.
 fn is_right(
     alloc: Global,
     base: &[(Key, Value)],
@@ -91,7 +91,7 @@ fn is_right(
     Ok(laid.is(tree))
 }
 
-// How many entries of the log make the state of the point, where the log has its token.
+// How many entries of the log make the state of the point, if the log has its token.
 fn state_len(log: &[Entry], point: Point) -> Option<usize>
     ensures token { is_some result ≡ has_token point log.now }
     ensures within { IfSome result (λ n. n ≤ length log.now) }
@@ -107,7 +107,7 @@ fn state_len(log: &[Entry], point: Point) -> Option<usize>
     Some(place)
 }
 
-// Replays the log up to another entry: on from where the tree stands, or from the base where that lies before.
+// Replays the log up to another entry: on from the tree's entry, or from the base if the other entry is an earlier one.
 fn go_to(
     alloc: Global,
     base: &[(Key, Value)],
@@ -128,7 +128,7 @@ fn go_to(
     }
 }
 
-// The triples laid on the base, one after the other.
+// The triples applied to the base, in order.
 fn laid_on(alloc: Global, base: &[(Key, Value)], triples: &[Triple]) -> Result<Tree, AllocError>
     ensures { IfOk result (λ tree. tree ≡ laid_in_turn (database_of base.now) 0 triples.now) }
 {

@@ -9,8 +9,8 @@ use crate::replay::put;
 use pc_types::{Point, Triple};
 use std::alloc::{AllocError, Global};
 
-/// The base, which stands at the point, with the triples laid on it: a key with a triple of a later point is set or
-/// removed. The triples rise strictly by key. It fails only where memory ran out.
+/// The base, which is at the point, with the triples applied to it: a key with a triple of a later point is set or
+/// removed. The triples ascend strictly by key. It fails only if an allocation fails.
 pub fn lay_plain(
     alloc: Global,
     base: &Pairs,
@@ -23,7 +23,7 @@ pub fn lay_plain(
     Ok(pairs)
 }
 
-// The triples laid on the base one after the other.
+// The triples applied to the base in order.
 fn lay_in_turn(
     alloc: Global,
     base: &Pairs,
@@ -39,7 +39,7 @@ fn lay_in_turn(
     Ok(pairs)
 }
 
-// One triple laid on the pairs.
+// One triple applied to the pairs.
 fn lay_one(
     alloc: Global,
     pairs: &mut Pairs,

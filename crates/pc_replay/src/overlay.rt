@@ -17,14 +17,14 @@ use std::alloc::{AllocError, Global};
 use std::collections::BTreeMap;
 use std::marker::Model;
 
-/// A database that is written over in place: pairs that rise by key, and beside them what writes added and removed. A write
-/// costs a logarithm of its size. A new value of a key that has a pair takes the old one's place; a write takes memory for
-/// a key alone that it adds or removes.
+/// A database that is written over in place: pairs that ascend by key, and the additions and removals of writes apart from
+/// them. A write costs a logarithm of its size. A new value of a key that has a pair takes the old one's place; a write
+/// takes memory for a key alone that it adds or removes.
 #[derive(Drop)]
 pub struct Overlay {
-    // They rise strictly by key.
+    // They ascend strictly by key.
     pairs: Vec<(Key, Value)>,
-    // Where the keys may be among them.
+    // The places where the keys may be among them.
     samples: KeySamples,
     // Keys that are not, or no longer, as the pairs say: each is set or absent.
     changes: BTreeMap<Key, Option<Value>>,
@@ -47,8 +47,8 @@ impl Model for Overlay {
 }
 
 impl Overlay {
-    /// The database of these pairs, which rise strictly by key. They are taken over; memory is taken for a number of every
-    /// 32 of them. It fails only where memory ran out.
+    /// The database of these pairs, which ascend strictly by key. They are taken over; memory is taken for a number of
+    /// every 32 of them. It fails only if an allocation fails.
     pub fn new(alloc: Global, pairs: Vec<(Key, Value)>) -> Result<Overlay, AllocError>
         requires { KeysRise pairs.items }
         ensures { IfOk result (λ overlay. overlay ≡ database_of pairs.items) }
@@ -62,8 +62,8 @@ impl Overlay {
         })
     }
 
-    /// The database once the writes are applied, in order. They are taken over, not copied. It fails only where memory ran
-    /// out, and then nothing of the database is left.
+    /// The database once the writes are applied, in order. They are taken over, not copied. It fails only if an allocation
+    /// fails, and then nothing of the database is left.
     pub fn with_writes(self, alloc: Global, writes: Items<Write>) -> Result<Overlay, AllocError>
         ensures { IfOk result (λ overlay. overlay ≡ applied_all self writes) }
     {
@@ -74,8 +74,8 @@ impl Overlay {
         Ok(overlay)
     }
 
-    /// Its pairs, rising strictly by key. No key and no value is copied. Where no key was added or removed, the vector is
-    /// handed back as it is, and no memory is taken; else it fails only where memory ran out.
+    /// Its pairs, ascending strictly by key. No key and no value is copied. If no key was added or removed, the vector is
+    /// handed back as it is, and no memory is taken; otherwise it fails only if an allocation fails.
     pub fn into_pairs(self, alloc: Global) -> Result<Vec<(Key, Value)>, AllocError>
         ensures rise { IfOk result (λ pairs. KeysRise pairs.items) }
         ensures pairs { IfOk result (λ pairs. database_of pairs.items ≡ self) }
@@ -87,7 +87,6 @@ impl Overlay {
         merged(alloc, pairs, changes)
     }
 
-    // Applies the write.
     fn apply(&mut self, alloc: Global, write: Write) -> Result<(), AllocError>
         ensures { OnOk result (self.new ≡ applied self.old write) }
     {
@@ -99,7 +98,7 @@ impl Overlay {
         }
     }
 
-    // Sets the value of a key: in place, where the key has a pair.
+    // Sets the value of a key: in place, if the key has a pair.
     fn insert(&mut self, key: Key, value: Value) -> Result<(), AllocError>
         ensures { OnOk result (self.new ≡ map.insert self.old key value) }
     {
@@ -107,7 +106,7 @@ impl Overlay {
         set_at(&mut self.pairs, &mut self.changes, place, key, value)
     }
 
-    // Adds to the number that a key has; nothing changes where it has none, or the sum doesn't fit.
+    // Adds to the number that a key has; nothing changes if it has none, or the sum doesn't fit.
     fn add(&mut self, alloc: Global, key: Key, delta: i64) -> Result<(), AllocError>
         ensures { OnOk result (self.new ≡ applied self.old (write_of key (Add delta))) }
     {
@@ -135,7 +134,7 @@ impl Overlay {
     }
 }
 
-// Sets the value of a key, whose pair is at this place, or which has none: in place, where it has one.
+// Sets the value of a key, whose pair is at this place, or which has none: in place, if it has one.
 fn set_at(
     pairs: &mut Vec<(Key, Value)>,
     changes: &mut BTreeMap<Key, Option<Value>>,
@@ -159,7 +158,7 @@ fn set_at(
     }
 }
 
-// What a key has, whose pair is at this place, or which has none.
+// The content of a key whose pair is at this place, or which has none.
 fn there<'a>(
     pairs: &'a [(Key, Value)],
     changes: &'a BTreeMap<Key, Option<Value>>,
@@ -231,7 +230,7 @@ fn merged(
     Ok(out)
 }
 
-// What a key has, once its change, if there is one, is laid over its pair, if there is one.
+// The content of a key once its change, if any, is applied to its pair, if any.
 fn overlaid_item(item: EitherOrBoth<(Key, Value), (Key, Option<Value>)>) -> Option<(Key, Value)>
     ensures { with_item overlaid_there item [] ≡ option_to_list result }
 {
@@ -242,7 +241,7 @@ fn overlaid_item(item: EitherOrBoth<(Key, Value), (Key, Option<Value>)>) -> Opti
     }
 }
 
-// The key with its new value; nothing where it is removed.
+// The key with its new value; nothing if it is removed.
 fn changed(key: Key, content: Option<Value>) -> Option<(Key, Value)>
     ensures { with_content key content [] ≡ option_to_list result }
 {

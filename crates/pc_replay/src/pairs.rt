@@ -1,4 +1,4 @@
-//! A database as a vector of pairs, which rise by key.
+//! A database as a vector of pairs, which ascend by key.
 ghost use Rattle.std.specs.Prelude.{◌≡◌, ℕ, ◌==◌, ◌+◌, ◌<◌, ◌≤◌, List, [], ◌∷◌, ◌++◌, length, take, drop, slice_index_or, slice_set, insert, option_copied, IsTrue, IfOk, IfErr, OnOk, OnErr, MatchResult};
 ghost use Rattle.pc_model.specs.Maps as map;
 ghost use Rattle.std.specs.FinMap.{is_sorted, find, put as put_entry};
@@ -10,7 +10,7 @@ use pc_types::{Key, Value};
 use std::alloc::{AllocError, Global};
 use std::marker::Model;
 
-/// The pairs of a database, which rise strictly by key.
+/// The pairs of a database, which ascend strictly by key.
 #[derive(Drop)]
 pub struct Pairs {
     pairs: Vec<(Key, Value)>,
@@ -41,7 +41,7 @@ impl Pairs {
         }
     }
 
-    /// A copy, where memory suffices.
+    /// A copy; an error if an allocation fails.
     pub fn copy(&self, alloc: Global) -> Result<Pairs, AllocError>
         ensures { IfOk result (λ pairs. pairs ≡ self.now) }
     {
@@ -49,7 +49,7 @@ impl Pairs {
         Ok(Pairs { pairs })
     }
 
-    /// How many pairs there are.
+    /// The number of pairs.
     pub fn len(&self) -> usize
         ensures { result ≡ map.len self.now }
     {
@@ -63,7 +63,7 @@ impl Pairs {
         self.len() == 0
     }
 
-    /// The pairs, rising by key.
+    /// The pairs, ascending by key.
     pub fn as_slice(&self) -> &[(Key, Value)]
         ensures rise { KeysRise result.now }
         ensures pairs { database_of result.now ≡ self.now }
@@ -71,7 +71,7 @@ impl Pairs {
         self.pairs.as_slice()
     }
 
-    /// The pairs, rising by key.
+    /// The pairs, ascending by key.
     pub fn into_vec(self) -> Vec<(Key, Value)>
         ensures rise { KeysRise result.items }
         ensures pairs { database_of result.items ≡ self }
@@ -103,7 +103,7 @@ impl Pairs {
     }
 }
 
-// The value of the pair that has the key, in pairs that rise by key.
+// The value of the pair that has the key, in pairs that ascend by key.
 fn value_of<'a>(pairs: &'a [(Key, Value)], key: &Key) -> Option<&'a Value>
     requires { KeysRise pairs.now }
     ensures { option_copied result ≡ find key_cmp key.now pairs.now }
@@ -114,7 +114,8 @@ fn value_of<'a>(pairs: &'a [(Key, Value)], key: &Key) -> Option<&'a Value>
     }
 }
 
-/// Where the entry of the key is, or else where one would go, in entries that rise strictly by key: a binary search.
+/// The place of the key's entry, or else the place where one would go, in entries that ascend strictly by key: a binary
+/// search.
 pub fn place<X>(pairs: &[(Key, X)], key: &Key) -> Result<usize, usize>
     requires { KeysRise pairs.now }
     ensures at { IfOk result (IsAt pairs.now key.now) }
@@ -124,8 +125,8 @@ pub fn place<X>(pairs: &[(Key, X)], key: &Key) -> Result<usize, usize>
     pairs.binary_search_by(|pair| pair.0.compare(key))
 }
 
-/// Puts an entry in its place, in entries that rise strictly by key: the key's entry has this value then, or there is a new
-/// one. It fails only where memory ran out, and then nothing changed.
+/// Puts an entry in its place, in entries that ascend strictly by key: the key's entry has this value then, or there is a
+/// new one. It fails only if an allocation fails, and then nothing changed.
 pub fn set<X: Drop>(pairs: &mut Vec<(Key, X)>, key: Key, value: X) -> Result<(), AllocError>
     requires { KeysRise pairs.old.items }
     ensures ok { OnOk result (pairs.new.items ≡ put_entry key_cmp key value pairs.old.items) }
@@ -150,7 +151,6 @@ fn unset(pairs: &mut Vec<(Key, Value)>, key: &Key)
     pairs.retain(|pair| !key.is(&pair.0));
 }
 
-// The same pairs.
 fn copy_of(alloc: Global, pairs: &[(Key, Value)]) -> Result<Vec<(Key, Value)>, AllocError>
     ensures { IfOk result (λ copied. copied.items ≡ pairs.now) }
 {

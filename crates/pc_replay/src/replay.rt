@@ -53,7 +53,7 @@ pub fn apply(alloc: Global, pairs: &mut Pairs, write: &Write) -> Result<(), Allo
     }
 }
 
-// Adds to the number that the key has; nothing changes where it has none, or the sum doesn't fit.
+// Adds to the number that the key has; nothing changes if it has none, or the sum doesn't fit.
 fn add(alloc: Global, pairs: &mut Pairs, key: &Key, delta: i64) -> Result<(), AllocError>
     ensures ok { OnOk result (pairs.new ≡ applied pairs.old (write_of key.now (Add delta))) }
     ensures err { OnErr result (pairs.new ≡ pairs.old) }
@@ -90,7 +90,7 @@ pub fn after(alloc: Global, base: &Pairs, log: &[Entry]) -> Result<Pairs, AllocE
     Ok(pairs)
 }
 
-/// How many entries stand before the point's token.
+/// The number of entries before the point's token.
 pub fn front_len(log: &[Entry], point: Point) -> usize
     ensures within { result ≤ length log.now }
     ensures front { take result log.now ≡ front point log.now }

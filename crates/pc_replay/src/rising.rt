@@ -8,7 +8,7 @@ use pc_types::{Key, Value, copy_content};
 use std::alloc::{AllocError, Global};
 use std::collections::BTreeMap;
 
-/// Copies of the entries, of each key the first one, rising strictly by key. It fails only where memory ran out.
+/// Copies of the entries, of each key the first one, ascending strictly by key. It fails only if an allocation fails.
 pub fn first_of_each(
     alloc: Global,
     entries: &[(Key, Option<Value>)],
@@ -40,7 +40,7 @@ fn put(
     }
 }
 
-// The entries, rising by key.
+// The entries, ascending by key.
 fn entries_in(
     alloc: Global,
     entries: BTreeMap<Key, Option<Value>>,

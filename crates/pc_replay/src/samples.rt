@@ -1,4 +1,5 @@
-//! Where a key may be among many pairs: a guess by some of their keys, which is tried before all of them are searched.
+//! The place where a key may be among many pairs: a guess by some of their keys, which is tried before all of them are
+//! searched.
 ghost use Rattle.std.specs.Prelude.{◌≡◌, ℕ, List, slice_index_or, IfOk, IfErr};
 ghost use Rattle.pc_model.specs.Database.{KeysRise};
 ghost use Rattle.pc_model.specs.Places.{IsAt, IsGap};
@@ -7,18 +8,18 @@ use crate::pairs::place;
 use pc_types::{Key, Value};
 use std::alloc::{AllocError, Global};
 
-// Of so many pairs one is a sample.
+// The number of pairs of which one is a sample.
 const STEP: usize = 32;
 
-/// The first bytes of some keys of rising pairs. They lie close together, so that a search by them is quick even where the
-/// pairs are many.
+/// The first bytes of some keys of ascending pairs. They lie close together, so that a search by them is quick even if
+/// the pairs are many.
 #[derive(Drop)]
 pub(crate) struct KeySamples {
     firsts: Vec<u64>,
 }
 
 impl KeySamples {
-    /// Samples of the pairs. It fails only where memory ran out.
+    /// Samples of the pairs. It fails only if an allocation fails.
     pub(crate) fn of(alloc: Global, pairs: &[(Key, Value)]) -> Result<KeySamples, AllocError> {
         let mut firsts = Vec::with_capacity(alloc, pairs.len() / STEP + 1)?;
         for block in pairs.chunks(STEP) {
@@ -29,8 +30,8 @@ impl KeySamples {
         Ok(KeySamples { firsts })
     }
 
-    /// Where the key's pair is, or else where one would go, in pairs that rise strictly by key: the guessed place if the
-    /// key is there, else by a search of all pairs.
+    /// The place of the key's pair, or else the place where one would go, in pairs that ascend strictly by key: the
+    /// guessed place if the key is there, else by a search of all pairs.
     pub(crate) fn place(&self, pairs: &[(Key, Value)], key: &Key) -> Result<usize, usize>
         requires { KeysRise pairs.now }
         ensures at { IfOk result (IsAt pairs.now key.now) }
@@ -59,7 +60,7 @@ impl KeySamples {
     }
 }
 
-// The first eight bytes of a key as a number, with zeros where it is shorter.
+// The first eight bytes of a key as a number, with zeros if it is shorter.
 fn first_bytes(key: &Key) -> u64 {
     let mut first = 0u64;
     for i in 0..8 {

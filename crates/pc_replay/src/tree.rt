@@ -99,7 +99,6 @@ impl Tree {
         Ok(())
     }
 
-    // Applies one write.
     fn apply(&mut self, alloc: Global, write: &Write) -> Result<(), AllocError>
         ensures { OnOk result (self.new ≡ applied self.old write.now) }
     {
@@ -113,7 +112,7 @@ impl Tree {
         }
     }
 
-    // Adds to the number that the key has; nothing changes where it has none, or the sum doesn't fit.
+    // Adds to the number that the key has; nothing changes if it has none, or the sum doesn't fit.
     fn add(&mut self, alloc: Global, key: &Key, delta: i64) -> Result<(), AllocError>
         ensures { OnOk result (self.new ≡ applied self.old (write_of key.now (Add delta))) }
     {
@@ -142,7 +141,7 @@ impl Tree {
         Ok(())
     }
 
-    // Lays the triples on it at the point, one after the other.
+    // Applies the triples to it at the point, in order.
     pub(crate) fn lay(
         &mut self,
         alloc: Global,

@@ -1,4 +1,4 @@
--- Every cut of the log of a world that stands after a history is recovered from.
+-- Recovery from every prefix of the log of a world that represents a history.
 use Rattle.std.proofs.Common.{◌≡◌, List, ◌⊎◌, sym, ap, subst}
 use Rattle.std.specs.Prelude.{All, MatchResult, take}
 use Rattle.pc_types.specs.declared.Entry.{Entry}

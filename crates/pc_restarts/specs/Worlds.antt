@@ -1,4 +1,4 @@
--- What comes back of a world, and what is recovered of it.
+-- The files that come back of a world, and the state recovered from them.
 use Rattle.std.specs.Prelude.{◌≡◌, ℕ, ◌⊎◌, List, All, MatchResult, take}
 use Rattle.pc_types.specs.declared.Format.{Format}
 use Rattle.pc_types.specs.declared.refusal.Refusal.TheVariants.{Full}
@@ -17,16 +17,16 @@ use Rattle.pc_recover.specs.Runs.{IsForeign}
 abbrev pub IsTextOfShelf : List File → List ℕ → Type 0
 IsTextOfShelf shelf bytes = (file : File) × IsMade shelf file × IsPartFile file × IsPartText bytes file
 
--- What came back of a world, each file in either format: a text of its base, and parts that are texts of files made of its shelf,
--- or no texts of its run at all.
+-- The files that came back of a world, each in either format: a text of its base, and parts that are texts of files made of its
+-- shelf, or no texts of its run at all.
 pub record WorldCameBack (w : Store) (base : List ℕ) (parts : List (List ℕ)) : Type 0 where
   pub base_is : IsBaseText base w.base
   pub base_fits : IsBaseFile w.base
   pub parts_are : All (λ bytes. IsTextOfShelf w.shelf bytes ⊎ IsForeign w.base.run bytes) parts
 
--- Any beginning of the log of a world that stands after a history, in a format that has its text, is recovered from, with whatever
--- of its files came back: what is recovered is the database after the first entries, as far as those that are whole go, or the
--- recovered point's token where that is further.
+-- Any prefix of the log of a world that represents a history, in a format that has its text, is recovered from, with whatever of
+-- its files came back: what is recovered is the database after the first entries, as far as those that are whole go, or the
+-- recovered point's token if that is further.
 abbrev pub EveryCutOfAWorldIsRecovered : Type 0
 EveryCutOfAWorldIsRecovered =
     (format : Format) (w : Store) (history : History) (base : List ℕ) (parts : List (List ℕ)) (c : ℕ) → Stands w history → HasLog format w.log → WorldCameBack w base parts →

@@ -1,4 +1,4 @@
-//! What comes back of a store that broke off: one law over the store and over recovery.
+//! The recovery of an interrupted store: one law over the store and over recovery.
 #![tactic(auto)]
 
 mod laws;

@@ -1,4 +1,4 @@
--- Reading a folder's parts one after the other.
+-- Reading a folder's parts in order.
 use Rattle.std.proofs.Common.{◌≡◌, ℕ, List, [], ◌∷◌, ◌++◌, Option, refl, sym, ap, subst, ◌∙◌, append_assoc}
 use Rattle.std.specs.Prelude.{map, IsOk}
 use Rattle.std.proofs.lemmas.List.{append-nil}
@@ -11,7 +11,7 @@ use Rattle.pc_texts.specs.Files.{IsUnread, HoldsBytes, AreOpened}
 use Rattle.pc_texts.specs.declared.files.Unread.{Unread}
 use Rattle.pc_restore.specs.Recoveries.{HoldEach, IsEachLost, names_of, bytes_of}
 
--- what all files hold is what was read and what the files left hold
+-- the bytes of all files are those that were read and those of the files that are left
 abbrev pub HoldTheRest : {R : Type 0} → (R → Option (List ℕ)) → List (NamedFile R) → List (NamedFile R) → List PartBytes → Type 0
 HoldTheRest remaining files left read =
     (names parts : List (List ℕ)) → HoldEach remaining files names parts →
@@ -45,7 +45,7 @@ module _ {R : Type 0} (remaining : R → Option (List ℕ)) (files : List (Named
           pushed f [] more = refl
           pushed f (x ∷ xs) more = ap (λ ys. f x ∷ ys) (pushed f xs more)
 
-  -- once none is left all is read
+  -- once none is left all are read
   pub all_read : (read : List PartBytes) → HoldTheRest remaining files [] read → (names parts : List (List ℕ)) → HoldEach remaining files names parts → (names_of read ≡ names) × (bytes_of read ≡ parts)
   all_read read rest names parts hold = let so_far = rest names parts hold in by so_far.0 so_far.1 so_far.2 so_far.3 so_far.4
     where

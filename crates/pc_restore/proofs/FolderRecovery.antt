@@ -1,4 +1,4 @@
--- What is recovered of a folder whose files were read.
+-- The recovery of a folder whose files were read.
 use Rattle.std.proofs.Common.{◌≡◌, ◌≢◌, ◌⊎◌, inl, inr, ℕ, Bool, List, Option, Result, refl}
 use Rattle.pc_types.specs.declared.tally.Tally.{Tally}
 use Rattle.pc_types.specs.declared.refusal.Refusal.{Refusal}
@@ -11,12 +11,12 @@ use Rattle.pc_restore.specs.declared.recovery.Lost.{Lost}
 use Rattle.pc_restore.specs.declared.recovery.Lost.TheVariants as lost
 use Rattle.pc_restore.specs.Recoveries.{GoesOutUnrecovered}
 
--- a refusal is for want of memory, or it isn't
+-- a refusal is a failed allocation, or it isn't
 pub memory_or : (refusal : Refusal) → (refusal ≡ why.OutOfMemory) ⊎ (refusal ≢ why.OutOfMemory)
 memory_or why.OutOfMemory = inl refl
 memory_or other = inr (λ e. cc)
 
--- the same bytes are worth the same
+-- the same bytes give the same recovery
 pub same_recovery : (base other_base : List ℕ) (parts other_parts : List (List ℕ)) (log other_log : List ℕ) (r : Result Recovery Refusal) → base ≡ other_base → parts ≡ other_parts → log ≡ other_log
     → recovery base parts log ≡ r → recovery other_base other_parts other_log ≡ r
 same_recovery base other_base parts other_parts log other_log r a b c is = rw (← a, ← b, ← c) is
@@ -25,7 +25,7 @@ same_recovery base other_base parts other_parts log other_log r a b c is = rw (�
 pub same_lacks : (is_there other_is_there : Bool) (log other_log : List ℕ) (found : Recovery) (lacks : Lacks) → is_there ≡ other_is_there → log ≡ other_log → lacks ≡ lacks_of is_there log found → lacks ≡ lacks_of other_is_there other_log found
 same_lacks is_there other_is_there log other_log found lacks a b is = rw (← a, ← b) is
 
--- where it isn't the output that failed, nothing went out
+-- if it isn't the output that failed, nothing went out
 pub nothing_out : {R T : Type 0} (remaining : R → Option (List ℕ)) (contents : T → Option (List ℕ)) (folder : Folder R) (out : Tally T) (cause : Lost R) → cause ≢ lost.Output → GoesOutUnrecovered remaining contents folder out out cause
 nothing_out remaining contents folder out (lost.Base why) other = refl
 nothing_out remaining contents folder out (lost.Part name why) other = refl

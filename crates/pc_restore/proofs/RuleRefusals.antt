@@ -1,4 +1,4 @@
--- The rules of recovery refuse no bytes for a device.
+-- The rules of recovery refuse no bytes because of a device.
 use Rattle.std.proofs.Common.{◌≡◌, ◌≢◌, ℕ, zero, suc, ◌+◌, Bool, true, false, cond, eqb, ltb, nat_eq, List, [], ◌∷◌, ◌++◌, Option, Some, None, Result, Ok, Err, length, take, drop, sym, subst, ◌∙◌}
 use Rattle.std.specs.Prelude.{nat_le, ◌&&◌, ⊤}
 use Rattle.std.specs.Ordering.{is_lt}
@@ -21,7 +21,7 @@ use Rattle.pc_log.specs.Reading as log_text
 use Rattle.pc_log.specs.Texts.{log_magic}
 use Rattle.pc_recover.specs.Recovery.{files_of, files_to, folded, log_of_run, read_files, recovered_point, recovery, unless, with_files}
 
--- what is refused is refused for no device
+-- a refusal here is because of no device
 abbrev IsOfNoDevice : {X : Type 0} → Result X Refusal → Type 0
 IsOfNoDevice (Ok x) = ⊤
 IsOfNoDevice (Err e) = e ≢ why.Device
@@ -132,6 +132,6 @@ is_of_none : {X : Type 0} (r : Result X Refusal) (e : Refusal) → IsOfNoDevice 
 is_of_none (Ok x) e h is = absurd (let no : Ok x ≡ Err e = is in cc)
 is_of_none (Err d) e h is = let same : d ≡ e = cc in subst (λ f. f ≢ why.Device) same h
 
--- so what they refuse, unless for want of memory, is no device's
+-- so their refusal, unless an allocation failed, is no device's
 pub rules_refuse : (base : List ℕ) (parts : List (List ℕ)) (log : List ℕ) (e : Refusal) → (e ≢ why.OutOfMemory → recovery base parts log ≡ Err e) → e ≢ why.Device
 rules_refuse base parts log e is = λ device. is_of_none (recovery base parts log) e (none_recovery base parts log) (is (λ memory. let bad : why.OutOfMemory ≡ why.Device = sym memory ∙ device in cc)) device

@@ -1,4 +1,4 @@
--- Looking for a point's token among a log's entries as they are read, one after the other.
+-- Looking for a point's token among a log's entries as they are read, in order.
 use Rattle.std.proofs.Common.{◌≡◌, ◌≢◌, ℕ, Bool, true, false, if◌then◌else◌, List, [], ◌∷◌, Result, Ok, Err, IfOk, IsErr, refl, sym, ap, ◌∙◌}
 use Rattle.pc_types.specs.declared.refusal.Refusal.{Refusal}
 use Rattle.pc_types.specs.declared.refusal.Refusal.TheVariants.{OutOfMemory}
@@ -32,7 +32,7 @@ module _ (format : Format) (point : ℕ) (last : LastToken) (bytes : List ℕ) w
   unfolding entries_at
   search_ends none = ap (λ (bs : List ℕ). has_token point (all_at format last bs).entries) none
 
--- where no more can be read it isn't found, unless memory ran out
+-- if no more can be read it isn't found, unless an allocation failed
 pub stopped_finds : {E : Type 0} (result : Result Bool E) (fault : Refusal) (found : Bool) → IfOk result (λ has. has ≡ false) → (fault ≡ OutOfMemory → IsErr result) → (fault ≢ OutOfMemory → found ≡ false)
     → IfOk result (λ has. has ≡ found)
 stopped_finds (Ok has) fault found none memory read =

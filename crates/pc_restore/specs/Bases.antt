@@ -1,4 +1,4 @@
--- A base for a run that goes on from a folder: what it is, what is told of what the folder lacks, and why there may be none.
+-- A base for a run that goes on from a folder: its pairs, the reports of the folder's gaps, and why there may be none.
 use Rattle.std.specs.Prelude.{◌≡◌, ◌≢◌, ◌⊎◌, ◌+◌, ◌≤◌, ◌<◌, ◌^◌, ℕ, Bool, true, false, List, Option, Result, Ok, is_ok}
 use Rattle.pc_types.specs.declared.limits.TheConstants.{MOST_FILE_ENTRIES}
 use Rattle.pc_types.specs.declared.refusal.Refusal.{Refusal}
@@ -15,21 +15,21 @@ use Rattle.pc_restore.specs.Lacks.{is_damaged, lacks_of, refuses}
 use Rattle.pc_restore.specs.Reports.{damage_text}
 use Rattle.pc_restore.specs.Recoveries.{AreAllOpened, HoldsAll, IsLost}
 
--- what the bytes of a base, of parts and of a log are worth, and of which run they are
+-- the state recovered from the bytes of a base, of parts and of a log, and their run
 pub record AreBytesWorth (base : List ℕ) (parts : List (List ℕ)) (log : List ℕ) (run : ℕ) (found : Recovery) : Type 0 where
   pub recovered : recovery base parts log ≡ Ok found
   pub of_run : IsOfRun base run
 
--- what was found of a run, as the base of the next one, which stands at point 0
+-- the recovered state of a run, as the base of the next one, whose point is 0
 abbrev pub next_base : ℕ → Recovery → BaseFile
 next_base run found = record { run = run + 1; point = 0; pairs = found.pairs }
 
--- it is told what of the parts with these names and of the log is damaged or was skipped, as far as the writer takes it
+-- the damage of the parts with these names and of the log is reported, as far as the writer takes it
 abbrev pub TellsDamage : {T : Type 0} → (T → Option (List ℕ)) → Tally T → Tally T → List (List ℕ) → Recovery → Type 0
 TellsDamage contents old new names found = (told : Result (Unit {0}) Refusal) × Puts contents old new told (damage_text names found)
 
--- The base was made of a folder of which every file was opened, and stands at point 0. Where the files' bytes are known it is what
--- they are worth, as the next run's base; they aren't damaged, or damage is accepted; and what is damaged was told.
+-- The base was made of a folder of which every file was opened, and its point is 0. If the files' bytes are known it is the
+-- state recovered from them, as the next run's base; they aren't damaged, or damage is accepted; and the damage was reported.
 pub record IsBaseMade {R T : Type 0} (remaining : R → Option (List ℕ)) (contents : T → Option (List ℕ)) (folder : Folder R) (accepts_damage : Bool) (old new : Tally T) (made : BaseFile) : Type 0 where
   pub opened : AreAllOpened folder
   pub start : made.point ≡ 0
@@ -40,20 +40,20 @@ pub record IsBaseMade {R T : Type 0} (remaining : R → Option (List ℕ)) (cont
 abbrev pub HasNoNext : ℕ → Recovery → Type 0
 HasNoNext run found = (2 ^ 64 ≤ run + 1) ⊎ (MOST_FILE_ENTRIES < len found.pairs)
 
--- something was recovered, but there is no base of it; said where the files' bytes are known
+-- a state was recovered, but there is no base of it; said if the files' bytes are known
 abbrev pub IsPastLimits : {R : Type 0} → (R → Option (List ℕ)) → Folder R → Type 0
 IsPastLimits remaining folder = (base : List ℕ) (names parts : List (List ℕ)) (log : List ℕ) → HoldsAll remaining folder base names parts log →
     (run : ℕ) × (found : Recovery) × AreBytesWorth base parts log run found × HasNoNext run found
 
--- Every file of the folder was opened, and damage is not accepted. Where the files' bytes are known there would be a base of what
--- they are worth, but they are damaged, which was told.
+-- Every file of the folder was opened, and damage is not accepted. If the files' bytes are known there would be a base of the state
+-- recovered from them, but they are damaged, which was reported.
 pub record IsRefusedAsDamaged {R T : Type 0} (remaining : R → Option (List ℕ)) (contents : T → Option (List ℕ)) (folder : Folder R) (accepts_damage : Bool) (old new : Tally T) : Type 0 where
   pub opened : AreAllOpened folder
   pub unaccepted : accepts_damage ≡ false
   pub worth : (base : List ℕ) (names parts : List (List ℕ)) (log : List ℕ) → HoldsAll remaining folder base names parts log →
       (run : ℕ) × (found : Recovery) × AreBytesWorth base parts log run found × ¬ HasNoNext run found × (is_damaged (lacks_of (is_ok folder.log) log found) ≡ true) × TellsDamage contents old new names found
 
--- Why no base is made of a folder: nothing is recovered, or there is no base of it, and nothing was told; or it is damaged.
+-- Why no base is made of a folder: nothing is recovered, or there is no base of it, and nothing was reported; or it is damaged.
 abbrev pub IsBaseUnmade : {R T : Type 0} → (R → Option (List ℕ)) → (T → Option (List ℕ)) → Folder R → Bool → Tally T → Tally T → Lost R → Type 0
 IsBaseUnmade remaining contents folder accepts_damage old new cause =
     ((new ≡ old) × ((IsLost remaining folder cause × (cause ≢ lost.Output)) ⊎ ((cause ≡ lost.Folder Full) × AreAllOpened folder × IsPastLimits remaining folder)))

@@ -1,4 +1,4 @@
--- What a recovery did without, and whether its folder is whole or damaged.
+-- The gaps of a recovery, and whether its folder is whole or damaged.
 use Rattle.std.specs.Prelude.{ℕ, ◌==◌, Bool, true, false, not, ◌&&◌, ◌||◌, is_some, if◌then◌else◌, List, [], length, Option, Some, None, Result, Ok, Err}
 use Rattle.pc_types.specs.declared.Entry.{Entry}
 use Rattle.pc_types.specs.declared.refusal.Refusal.{Refusal}
@@ -10,9 +10,9 @@ use Rattle.pc_restore.specs.declared.lacks.LogHeader.{LogHeader}
 use Rattle.pc_restore.specs.declared.lacks.LogHeader.TheVariants.{Missing, Cut, Whole}
 use Rattle.pc_restore.specs.Reports.{is_cut}
 
--- ---- what there is of the log
+-- ---- the state of the log
 
--- what is there of the log's header, where the log is there or not, and this is read of its bytes
+-- the state of the log's header, if the log is there or not, and this is read of its bytes
 abbrev pub header_of : Bool → Result LogRead Refusal → LogHeader
 header_of false read = Missing
 header_of true (Err why) = Cut
@@ -23,11 +23,11 @@ abbrev pub entries_of : Result LogRead Refusal → List Entry
 entries_of (Err why) = []
 entries_of (Ok log) = log.entries
 
--- the count of a log's entries, where none of them is used: the recovered point isn't 0, and its token isn't one of them
+-- the count of a log's entries, if none of them is used: the recovered point isn't 0, and its token isn't one of them
 abbrev pub unused_of : ℕ → ℕ → List Entry → Option ℕ
 unused_of point count entries = if point == 0 then None else if has_token point entries then None else Some count
 
--- what a recovery that found this did without, where the log is there or not, and has these bytes
+-- the gaps of a recovery with this result, if the log is there or not, and has these bytes
 abbrev pub lacks_of : Bool → List ℕ → Recovery → Lacks
 lacks_of is_there log found = record {
   header = header_of is_there (log_at log);
@@ -36,14 +36,14 @@ lacks_of is_there log found = record {
   skipped = length found.skipped;
 }
 
--- ---- how much that is
+-- ---- the size of the gaps
 
 -- the header is whole
 abbrev pub is_there : LogHeader → Bool
 is_there Whole = true
 is_there other = false
 
--- a log's rest has a fault, and was not only cut off
+-- a log's rest has a fault, and was not only truncated
 abbrev pub is_bad : Option Refusal → Bool
 is_bad None = false
 is_bad (Some fault) = not (is_cut fault)
@@ -52,18 +52,18 @@ is_bad (Some fault) = not (is_cut fault)
 abbrev pub is_whole : Lacks → Bool
 is_whole lacks = is_there lacks.header && not (is_some lacks.fault) && not (is_some lacks.unused) && (lacks.skipped == 0)
 
--- More is lacking than what a process that is killed leaves: the log has no whole header, its rest was not only cut off, or a part
--- was skipped. A killed process leaves a log that is cut off, maybe before the token of a point whose file is there.
+-- More is lacking than a killed process leaves out: the log has no whole header, its rest was not only truncated, or a part was
+-- skipped. A killed process leaves a log that is truncated, maybe before the token of a point whose file is there.
 abbrev pub is_damaged : Lacks → Bool
 is_damaged lacks = not (is_there lacks.header) || is_bad lacks.fault || not (lacks.skipped == 0)
 
--- ---- what comes of it
+-- ---- the consequences
 
--- the status of a recovery: 1 where not all went out; else 0, or 4 where it is strict and something is lacking
+-- the status of a recovery: 1 if not all went out; otherwise 0, or 4 if it is strict and has gaps
 abbrev pub status_of : Bool → Option Lacks → ℕ
 status_of is_strict None = 1
 status_of is_strict (Some lacks) = if is_strict && not (is_whole lacks) then 4 else 0
 
--- a run doesn't start from a folder that lacks this
+-- a run doesn't start from a folder with these gaps
 abbrev pub refuses : Bool → Lacks → Bool
 refuses accepts_damage lacks = not accepts_damage && is_damaged lacks

@@ -1,4 +1,4 @@
--- A recovery of a folder: what its files hold, what it prints, and why it may fail.
+-- A recovery of a folder: the texts of its files, its output, and why it may fail.
 use Rattle.std.specs.Prelude.{◌≡◌, ◌≢◌, ◌⊎◌, ℕ, List, [], ◌∷◌, ◌++◌, Option, Some, map, codes, Ok, Err, is_ok, IsOk, IfErr, ⊤}
 use Rattle.std.specs.declared.result.Result.{Result}
 use Rattle.std.specs.Global.{Vec}
@@ -29,7 +29,7 @@ names_of parts = map (λ (part : PartBytes). part.name.items) parts
 abbrev pub bytes_of : List PartBytes → List (List ℕ)
 bytes_of parts = map (λ (part : PartBytes). part.bytes.items) parts
 
--- a log holds these bytes; one that isn't there holds none
+-- a log holds these bytes; one that doesn't exist holds none
 abbrev pub HoldsLog : {R : Type 0} → (R → Option (List ℕ)) → Result R Refusal → List ℕ → Type 0
 HoldsLog remaining (Ok reader) bytes = remaining reader ≡ Some bytes
 HoldsLog remaining (Err why) bytes = (why ≡ NoFile) × (bytes ≡ [])
@@ -56,7 +56,7 @@ abbrev pub ArePartsOpened : {R : Type 0} → Result (Vec (NamedFile R)) Refusal 
 ArePartsOpened (Ok files) = AreOpened files.items
 ArePartsOpened (Err why) = ⊥
 
--- the log was opened, or isn't there
+-- the log was opened, or doesn't exist
 abbrev pub IsLogOpened : {R : Type 0} → Result R Refusal → Type 0
 IsLogOpened opened = IfErr opened (λ why. why ≡ NoFile)
 
@@ -64,17 +64,17 @@ IsLogOpened opened = IfErr opened (λ why. why ≡ NoFile)
 abbrev pub AreAllOpened : {R : Type 0} → Folder R → Type 0
 AreAllOpened folder = IsOk folder.base × ArePartsOpened folder.parts × IsLogOpened folder.log
 
--- why a log can't be had: it can't be opened or read; that it isn't there is no fault
+-- why a log can't be read: it can't be opened or read; it is no fault if it doesn't exist
 abbrev pub IsLogFault : {R : Type 0} → Result R Refusal → Unread R → Type 0
 IsLogFault opened why = IsUnread opened why × (why ≢ unread.Absent NoFile)
 
--- the first of the files that can't be had has this name: each before it was opened, and it can't be opened or read
+-- the first of the files that can't be read has this name: each before it was opened, and it can't be opened or read
 abbrev pub IsFirstLost : {R : Type 0} → List (NamedFile R) → List ℕ → Unread R → Type 0
 IsFirstLost {R} files name why =
     (before : List (NamedFile R)) × (file : NamedFile R) × (behind : List (NamedFile R))
     × (files ≡ before ++ file ∷ behind) × AreOpened before × (file.name.items ≡ name) × IsUnread file.opened why
 
--- reading the files fails at one of them, or for want of memory
+-- reading the files fails at one of them, or because an allocation failed
 abbrev pub IsEachLost : {R : Type 0} → List (NamedFile R) → Lost R → Type 0
 IsEachLost files (lost.Part name why) = IsFirstLost files name.items why
 IsEachLost files (lost.Folder why) = why ≡ OutOfMemory
@@ -85,14 +85,14 @@ abbrev pub IsListLost : {R : Type 0} → Result (Vec (NamedFile R)) Refusal → 
 IsListLost (Ok files) cause = IsEachLost files.items cause
 IsListLost (Err why) cause = cause ≡ lost.Folder why
 
--- the rules refuse what the files hold, which they do for no device, or memory ran out
+-- the rules refuse the files' bytes, never because of a device, or an allocation failed
 abbrev pub IsRecoveryRefused : {R : Type 0} → (R → Option (List ℕ)) → Folder R → Refusal → Type 0
 IsRecoveryRefused remaining folder why =
     (why ≡ OutOfMemory) ⊎ ((why ≢ Device) × ((base : List ℕ) (names parts : List (List ℕ)) (log : List ℕ) → HoldsAll remaining folder base names parts log → recovery base parts log ≡ Err why))
 
--- Why nothing was recovered. The files are read in order, and a fault is told only where all before it were opened: first the
--- base can't be had; then the parts can't be listed, or one of them can't be had; then the log; then the rules refuse what all of
--- them hold; and last the output fails. That the folder is damaged keeps nothing from being recovered.
+-- Why nothing was recovered. The files are read in order, and a fault is reported only if all before it were opened: first the base
+-- can't be read; then the parts can't be listed, or one of them can't be read; then the log; then the rules refuse the bytes of all
+-- of them; and last the output fails. Damage of the folder prevents no recovery.
 abbrev pub IsLost : {R : Type 0} → (R → Option (List ℕ)) → Folder R → Lost R → Type 0
 IsLost remaining folder (lost.Base why) = IsUnread folder.base why
 IsLost remaining folder (lost.Part name why) = IsOk folder.base × IsListLost folder.parts (lost.Part name why)
@@ -101,36 +101,36 @@ IsLost remaining folder (lost.Folder why) = (IsOk folder.base × IsListLost fold
 IsLost remaining folder lost.Output = AreAllOpened folder
 IsLost remaining folder lost.Damaged = ⊥
 
--- what is recovered of the folder was printed: all of it went out; said where the files' bytes are known
+-- the recovered state of the folder was printed: all of it went out; said if the files' bytes are known
 abbrev pub PrintsAll : {R T : Type 0} → (R → Option (List ℕ)) → (T → Option (List ℕ)) → Folder R → Tally T → Tally T → Type 0
 PrintsAll remaining contents folder old new = (base : List ℕ) (names parts : List (List ℕ)) (log : List ℕ) → HoldsAll remaining folder base names parts log →
     (found : Recovery) × (recovery base parts log ≡ Ok found) × Appends (contents (inner_of old)) (contents (inner_of new)) (recovery_text names found)
 
--- it is what a recovery of the folder does without; said where the files' bytes are known
+-- these are the gaps of a recovery of the folder; said if the files' bytes are known
 abbrev pub IsLacking : {R : Type 0} → (R → Option (List ℕ)) → Folder R → Lacks → Type 0
 IsLacking remaining folder lacks = (base : List ℕ) (names parts : List (List ℕ)) (log : List ℕ) → HoldsAll remaining folder base names parts log →
     (found : Recovery) × (recovery base parts log ≡ Ok found) × (lacks ≡ lacks_of (is_ok folder.log) log found)
 
--- a beginning of what is printed of what is recovered went out, and nothing else; said where the files' bytes are known
+-- a beginning of the recovered state's output went out, and nothing else; said if the files' bytes are known
 abbrev pub PrintsInPart : {R T : Type 0} → (R → Option (List ℕ)) → (T → Option (List ℕ)) → Folder R → Tally T → Tally T → Type 0
 PrintsInPart remaining contents folder old new = (base : List ℕ) (names parts : List (List ℕ)) (log : List ℕ) → HoldsAll remaining folder base names parts log →
     (found : Recovery) × (recovery base parts log ≡ Ok found) × AppendsBeginning (contents (inner_of old)) (contents (inner_of new)) (recovery_text names found)
 
--- what went out where nothing was recovered: a beginning where the output failed, which was counted, and else nothing
+-- the output if nothing was recovered: a beginning if the output failed, which was counted, and otherwise nothing
 abbrev pub GoesOutUnrecovered : {R T : Type 0} → (R → Option (List ℕ)) → (T → Option (List ℕ)) → Folder R → Tally T → Tally T → Lost R → Type 0
 GoesOutUnrecovered remaining contents folder old new lost.Output = HasRisen (failures_of old) (failures_of new) × PrintsInPart remaining contents folder old new
 GoesOutUnrecovered remaining contents folder old new other = new ≡ old
 
--- the line that tells of a reason by a name
+-- the line of a reason by a name
 abbrev pub reason_text : List ℕ → List ℕ → List ℕ
 reason_text name reason = line_about name reason
 
--- it is told, as far as the writer takes it
+-- it is reported, as far as the writer takes it
 abbrev pub TellsReason : {T : Type 0} → (T → Option (List ℕ)) → Tally T → Tally T → List ℕ → List ℕ → Type 0
 TellsReason contents old new name reason = (told : Result (Unit {0}) Refusal) × Puts contents old new told (reason_text name reason)
 
--- what is told on the error writer, where the folder has this name: the name of the file or the folder, and the reason; of a
--- fault of the output nothing
+-- the report on the error writer, if the folder has this name: the name of the file or the folder, and the reason; nothing for a
+-- fault of the output
 abbrev pub IsRecoveryTold : {R T : Type 0} → (T → Option (List ℕ)) → Tally T → Tally T → List ℕ → Lost R → Type 0
 IsRecoveryTold contents old new dir (lost.Base why) = TellsOf contents old new (codes "base.pcb") (refusal_of why)
 IsRecoveryTold contents old new dir (lost.Part name why) = TellsOf contents old new name.items (refusal_of why)

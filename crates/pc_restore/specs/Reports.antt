@@ -1,4 +1,4 @@
--- What `pcalc recover` prints.
+-- The output of `pcalc recover`.
 use Rattle.std.specs.Prelude.{ℕ, Bool, true, false, if◌then◌else◌, List, [], ◌++◌, Option, Some, None, slice_get, codes, decimal}
 use Rattle.std.specs.List.{flat_map}
 use Rattle.pc_types.specs.Names.{name_of}
@@ -13,12 +13,12 @@ use Rattle.pc_texts.specs.Texts.{refusal_text, pair_text, printed_name}
 abbrev pub count_line : List ℕ → ℕ → List ℕ
 count_line word number = word ++ (decimal number ++ codes "\n")
 
--- a log's rest was only cut off
+-- a log's rest was only truncated
 abbrev pub is_cut : Refusal → Bool
 is_cut why.Short = true
 is_cut other = false
 
--- the line of the fault of the log's rest; none where it was only cut off
+-- the line of the fault of the log's rest; none if it was only truncated
 abbrev pub log_line : Option Refusal → List ℕ
 log_line None = []
 log_line (Some fault) = if is_cut fault then [] else codes "log " ++ (name_of fault ++ codes "\n")
@@ -32,22 +32,22 @@ name_at (Some name) = name
 abbrev pub skipped_line : List (List ℕ) → Skipped → List ℕ
 skipped_line names skipped = (codes "skipped " ++ printed_name (name_at (slice_get names skipped.place))) ++ (codes " " ++ (refusal_text skipped.reason ++ codes "\n"))
 
--- the counts: the point, and how many whole entries the log has
+-- the counts: the point, and the number of the log's whole entries
 abbrev pub counts_text : ℕ → ℕ → List ℕ
 counts_text point entries = count_line (codes "point ") point ++ count_line (codes "entries ") entries
 
--- the pairs, and how many there are before them
+-- the pairs, after their number
 abbrev pub pairs_text : List (List ℕ × List ℕ) → ℕ → List ℕ
 pairs_text pairs count = count_line (codes "pairs ") count ++ flat_map pair_text pairs
 
--- what is damaged or was skipped: the line of the log's fault, and those of the parts that were skipped, by their names
+-- the damage: the line of the log's fault, and those of the parts that were skipped, by their names
 abbrev pub damage_text : List (List ℕ) → Recovery → List ℕ
 damage_text names found = log_line found.fault ++ flat_map (skipped_line names) found.skipped
 
--- what stands behind the counts
+-- the output after the counts
 abbrev pub details_text : List (List ℕ) → Recovery → List ℕ
 details_text names found = damage_text names found ++ pairs_text found.pairs.entries (len found.pairs)
 
--- all that is printed of what was recovered, where the parts have these names
+-- the whole output of a recovery, if the parts have these names
 abbrev pub recovery_text : List (List ℕ) → Recovery → List ℕ
 recovery_text names found = counts_text found.point found.entries ++ details_text names found

@@ -1,4 +1,4 @@
-//! A base for a run that goes on from what a folder's files are worth.
+//! A base for a run that goes on from the state recovered from a folder's files.
 ghost use Rattle.std.specs.Prelude.{◌≡◌, ◌⊎◌, ◌+◌, ◌≤◌, ◌<◌, ◌^◌, None, length, IfErr, IfOk, IfSome};
 ghost use Rattle.pc_types.specs.declared.limits.TheConstants.{MOST_FILE_ENTRIES};
 ghost use Rattle.pc_model.specs.Database.{KeysRise, database_of};
@@ -15,15 +15,15 @@ use pc_types::{MOST_FILE_ENTRIES, Refusal, Tally};
 use std::alloc::Global;
 use std::io::{Read, Write};
 
-/// A base for a run that goes on from what a folder's files are worth: it has the pairs that are recovered of them, stands at
-/// point 0, and its run has the number behind that of the folder's base. What the folder's files lack is told on the error writer,
-/// as far as it takes that: a line of the fault of the log's rest, where it was not only cut off, and one of each part that was
+/// A base for a run that goes on from the state recovered from a folder's files: it has the recovered pairs, its point is 0,
+/// and its run's number is that of the folder's base plus 1. The gaps of the folder's files are reported on the error writer, as
+/// far as it takes that: a line of the fault of the log's rest, if it was not only truncated, and one of each part that was
 /// skipped.
 ///
-/// Where nothing is recovered nothing is told, and it is said why. Nor is there a base where the folder's run has the number
-/// 2^64 - 1, behind which there is none, or the pairs are more than the 4,294,967,295 that a base may have: then the folder is
-/// refused with `Full`. Where there would be a base, damage is not accepted, and the files lack more than what a process that is
-/// killed leaves (`Lacks::is_damaged`), that is told, and the folder is refused as damaged.
+/// If nothing is recovered nothing is reported, and the cause is returned. Nor is there a base if the number of the folder's run is
+/// 2^64 - 1, the greatest one, or if there are more pairs than the 4,294,967,295 that a base may have: then the error is `Full`. If
+/// there would be a base, damage is not accepted, and the files lack more than those of a killed process (`Lacks::is_damaged`),
+/// that is reported, and the folder is refused as damaged.
 pub fn recover_base<R: Read + Drop, E: Write>(
     alloc: Global,
     folder: Folder<R>,
@@ -50,14 +50,14 @@ pub fn recover_base<R: Read + Drop, E: Write>(
     }
 }
 
-// Whether no run starts from a folder that lacks this.
+// Whether no run starts from a folder with these gaps.
 fn refuses(accepts_damage: bool, lacks: &Lacks) -> bool
     ensures { result ≡ refuses accepts_damage lacks.now }
 {
     !accepts_damage && lacks.is_damaged()
 }
 
-// The number of the run behind the one of which something was recovered; none where it has none, or a base can't have the pairs.
+// The number of the run after the recovered one; none if that has the greatest number, or a base can't have the pairs.
 fn next_run(recovered: &Recovered) -> Option<u64>
     ensures next { IfSome result (λ run. (run ≡ recovered.now.run + 1) × (run < 2 ^ 64) × IsWithinLimit recovered.now.pairs.items) }
     ensures none { result ≡ None → (2 ^ 64 ≤ recovered.now.run + 1) ⊎ (MOST_FILE_ENTRIES < length recovered.now.pairs.items) }
@@ -68,7 +68,7 @@ fn next_run(recovered: &Recovered) -> Option<u64>
     recovered.run.checked_add(1)
 }
 
-// What was recovered, as the base of a run of this number.
+// The recovered state, as the base of a run of this number.
 fn start(run: u64, recovered: Recovered) -> Base
     requires rise { KeysRise recovered.pairs.items }
     requires limit { IsWithinLimit recovered.pairs.items }

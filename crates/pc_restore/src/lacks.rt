@@ -1,4 +1,4 @@
-//! What a recovery did without, and whether its folder is whole or damaged.
+//! The gaps of a recovery, and whether its folder is whole or damaged.
 ghost use Rattle.std.specs.Prelude.{◌≡◌, false, length, IfOk, IsErr};
 ghost use Rattle.pc_model.specs.Log.{has_token};
 ghost use Rattle.pc_log.specs.Orders.{no_token};
@@ -13,7 +13,7 @@ use pc_recover::Recovered;
 use pc_types::{Entry, Format, Phase, Point, Refusal};
 use std::alloc::{AllocError, Global};
 
-/// What is there of the header with which a log begins.
+/// The state of the header with which a log begins.
 #[derive(Clone, Copy)]
 pub enum LogHeader {
     /// The log isn't there.
@@ -24,18 +24,18 @@ pub enum LogHeader {
     Whole,
 }
 
-/// What a recovery did without.
+/// The gaps of a recovery.
 #[derive(Clone, Copy)]
 pub struct Lacks {
-    /// What is there of the log's header.
+    /// The state of the log's header.
     pub header: LogHeader,
-    /// The fault of the bytes behind the log's whole entries, where there are any: `Short` where the last entry is cut off. A log
+    /// The fault of the bytes after the log's whole entries, if there are any: `Short` if the last entry is truncated. A log
     /// without a whole header has none.
     pub fault: Option<Refusal>,
-    /// Where the log ends before the token of the recovered point, and so none of its entries was used: how many whole entries it
-    /// has. `None` where the token is there, or the point is 0.
+    /// If the log ends before the token of the recovered point, and so none of its entries was used: the number of its whole
+    /// entries. `None` if the token is in the log, or the point is 0.
     pub unused: Option<usize>,
-    /// How many parts were skipped.
+    /// The number of parts that were skipped.
     pub skipped: usize,
 }
 
@@ -48,8 +48,8 @@ impl Lacks {
         is_there(self.header) && self.fault.is_none() && self.unused.is_none() && self.skipped == 0
     }
 
-    /// Whether more is lacking than what a process that is killed leaves: the log isn't there or has no whole header, its rest has
-    /// a fault other than `Short`, or a part was skipped.
+    /// Whether more is lacking than a killed process leaves out: the log isn't there or has no whole header, its rest has a fault
+    /// other than `Short`, or a part was skipped.
     pub fn is_damaged(&self) -> bool
         ensures { result ≡ is_damaged self.now }
     {
@@ -66,7 +66,7 @@ fn is_there(header: LogHeader) -> bool
     }
 }
 
-// Whether a log's rest has a fault, and was not only cut off.
+// Whether a log's rest has a fault, and was not only truncated.
 fn is_bad(fault: Option<Refusal>) -> bool
     ensures { result ≡ is_bad fault }
 {
@@ -76,8 +76,7 @@ fn is_bad(fault: Option<Refusal>) -> bool
     }
 }
 
-/// What a recovery did without, where the log is there or not, and has these bytes. Memory is taken for one entry of the log at a
-/// time.
+/// The gaps of a recovery, if the log is there or not, and has these bytes. Memory is allocated for one entry of the log at a time.
 pub(crate) fn lacks_of(
     alloc: Global,
     is_there: bool,
@@ -107,7 +106,7 @@ fn header_of(is_there: bool, log: &[u8]) -> LogHeader
     }
 }
 
-// The count of the log's whole entries, where it ends before the token of the point.
+// The count of the log's whole entries, if it ends before the token of the point.
 fn unused_of(
     alloc: Global,
     point: Point,
@@ -136,7 +135,7 @@ fn has_token(alloc: Global, point: Point, log: &[u8]) -> Result<bool, AllocError
     }
 }
 
-// Whether one of the whole entries that the bytes behind the header begin with is the token of the point.
+// Whether one of the whole entries that come first after the header is the token of the point.
 fn has_token_in(
     alloc: Global,
     format: Format,
@@ -162,7 +161,7 @@ fn has_token_in(
     Ok(false)
 }
 
-// No more entries can be read for this fault, or memory ran out.
+// No more entries can be read because of this fault, or an allocation failed.
 fn stopped(fault: Refusal) -> Result<bool, AllocError>
     ensures read { IfOk result (λ has. has ≡ false) }
     ensures memory { fault ≡ Refusal.OutOfMemory → IsErr result }

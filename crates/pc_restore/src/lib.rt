@@ -1,4 +1,4 @@
-//! Recovers what a folder's files are worth, and makes the base of a next run of it; over any readers and writers.
+//! Recovers the state of a folder's files, and makes the base of a next run of it; over any readers and writers.
 #![tactic(auto)]
 
 mod bases;

@@ -1,4 +1,4 @@
-//! A recovery of a folder, from its readers to how it has ended.
+//! A recovery of a folder, from its readers to its end.
 ghost use Rattle.std.specs.Prelude.{◌≡◌, ◌≢◌, ◌⊎◌, ◌++◌, [], ◌∷◌, ℕ, List, Some, map, is_ok, IsOk, IfOk, IfErr, IfSome, MatchOption, OnOk};
 ghost use Rattle.std.specs.declared.result.Result.{Result};
 ghost use Rattle.std.specs.Io.KnownBytes.{Keeps};
@@ -21,8 +21,8 @@ use pc_types::{Refusal, Tally};
 use std::alloc::{AllocError, Global};
 use std::io::{Read, Write};
 
-/// What a folder has of a run: the base file, the part files in the byte order of their names, or why the folder can't be
-/// listed, and the log, which `NoFile` says isn't there.
+/// The files of a run in a folder: the base file, the part files in the byte order of their names, or why the folder can't be
+/// listed, and the log, with `NoFile` if it doesn't exist.
 #[derive(Drop)]
 pub struct Folder<R> {
     pub base: Result<R, Refusal>,
@@ -37,7 +37,7 @@ pub(crate) struct PartBytes {
     pub(crate) bytes: Vec<u8>,
 }
 
-// What was read of a folder.
+// The files of a folder that were read.
 #[derive(Drop)]
 struct FolderBytes {
     base: Vec<u8>,
@@ -46,10 +46,10 @@ struct FolderBytes {
     log: Vec<u8>,
 }
 
-/// Why nothing is recovered. A file whose device failed is handed back, and has counted that.
+/// Why nothing is recovered. A file whose device failed is returned, and has counted the failure.
 #[derive(Drop)]
 pub enum Lost<R> {
-    /// The base isn't there, or can't be read.
+    /// The base doesn't exist, or can't be read.
     Base(Unread<R>),
     /// The part of this name can't be read.
     Part(Vec<u8>, Unread<R>),
@@ -63,25 +63,25 @@ pub enum Lost<R> {
     Output,
 }
 
-/// How a recovery has ended.
+/// How a recovery ended.
 #[derive(Drop)]
 pub struct EndedRecovery<R> {
     pub status: u8,
-    /// What it did without, where all of it went out.
+    /// Its gaps, if all of the output went out.
     pub lacks: Option<Lacks>,
-    /// Why not all of it went out, where it didn't.
+    /// Why not all of the output went out, if so.
     pub lost: Option<Lost<R>>,
 }
 
-// The status of a strict recovery that did without something.
+// The status of a strict recovery with gaps.
 const LACKING: u8 = 4;
 
-/// Recovers what a folder's files are worth and prints it: the point, how many whole entries the log has, the fault of its
-/// rest where it was not only cut off, a line for each part that was skipped, and the pairs. Where all of that went out it tells
-/// what was lacking, and gives the status 0, or 4 where it is strict and the folder isn't whole. Else the status is 1: a file can't
-/// be opened or read, the folder can't be listed, its files are refused, or memory ran out, which a line on the error writer
-/// tells; or the output failed, of which nothing is told there. Then it is handed back why; a file of which `Device` is told, and
-/// that was opened, has counted the read that failed.
+/// Recovers the state of a folder's files and prints it: the point, the number of the log's whole entries, the fault of its rest if
+/// it was not only truncated, a line for each part that was skipped, and the pairs. If all of that went out it returns the gaps,
+/// and the status is 0, or 4 if it is strict and the folder isn't whole. Otherwise the status is 1: a file can't be opened or read,
+/// the folder can't be listed, its files are refused, or an allocation failed, which a line on the error writer reports; or the
+/// output failed, which isn't reported there. Then the cause is returned; a file for which `Device` is reported, and that was
+/// opened, has counted the read that failed.
 pub fn run_recover<R: Read + Drop, W: Write, E: Write>(
     alloc: Global,
     dir: &str,
@@ -120,7 +120,7 @@ pub fn run_recover<R: Read + Drop, W: Write, E: Write>(
     }
 }
 
-// The status of a recovery that did without this, where all of it went out.
+// The status of a recovery with these gaps, if all of the output went out.
 fn status_of(is_strict: bool, lacks: &Lacks) -> u8
     ensures given { result ≡ status_of is_strict (Some lacks.now) }
     ensures statuses { (result ≡ 0) ⊎ (result ≡ 4) }
@@ -155,7 +155,7 @@ fn recover_folder<R: Read + Drop, W: Write>(
     }
 }
 
-/// The part files of a folder that were read, what all of its files are worth, and what that lacks.
+/// The part files of a folder that were read, the state recovered from all of its files, and the gaps.
 #[derive(Drop)]
 pub(crate) struct Worth {
     pub(crate) parts: Vec<PartBytes>,
@@ -163,7 +163,7 @@ pub(crate) struct Worth {
     pub(crate) lacks: Lacks,
 }
 
-/// Reads all files of the folder, and recovers what they are worth.
+/// Reads all files of the folder, and recovers their state.
 pub(crate) fn recover_read<R: Read + Drop>(
     alloc: Global,
     folder: Folder<R>,
@@ -197,8 +197,8 @@ pub(crate) fn recover_read<R: Read + Drop>(
     })
 }
 
-/// Writes the line that tells why nothing is recovered of the folder of this name: by the name of the file or the folder. Of a
-/// fault of the output it tells nothing.
+/// Writes the line that says why nothing is recovered of the folder of this name: by the name of the file or the folder. It reports
+/// no fault of the output.
 pub fn tell_lost<R, E: Write>(dir: &[u8], lost: &Lost<R>, errors: &mut Tally<E>)
     ensures { IsRecoveryTold E.contents errors.old errors.new dir.now lost.now }
 {
@@ -212,8 +212,8 @@ pub fn tell_lost<R, E: Write>(dir: &[u8], lost: &Lost<R>, errors: &mut Tally<E>)
     };
 }
 
-/// Writes the line that tells of a reason that is no refusal, by the name of a file or a folder. `Device` is answered exactly where
-/// the device failed in this call.
+/// Writes the line of a reason that is no refusal, by the name of a file or a folder. Returns `Device` if and only if the device
+/// failed in this call.
 pub fn tell_reason<E: Write>(
     name: &[u8],
     reason: &[u8],
@@ -271,7 +271,7 @@ fn read_folder<R: Read + Drop>(alloc: Global, folder: Folder<R>) -> Result<Folde
     })
 }
 
-// The log's bytes, none where it isn't there.
+// The log's bytes, none if it doesn't exist.
 fn read_log<R: Read + Drop>(alloc: Global, opened: Result<R, Refusal>) -> Result<Vec<u8>, Unread<R>>
     ensures held { (held : List ℕ) → HoldsLog R.remaining opened held → IfOk result (λ bytes. bytes.items ≡ held) }
     ensures opened { OnOk result (IsLogOpened opened) }

@@ -1,4 +1,4 @@
-//! What `pcalc recover` prints. It goes out piece by piece and takes no memory.
+//! The output of `pcalc recover`. It goes out piece by piece and allocates nothing.
 ghost use Rattle.std.specs.Prelude.{◌≡◌, ◌++◌, codes, length, slice_get};
 ghost use Rattle.std.specs.List.{flat_map};
 ghost use Rattle.pc_types.specs.Tallies.{Puts};
@@ -15,7 +15,7 @@ use pc_texts::{put_name, put_pairs, put_reason};
 use pc_types::{Key, Point, Refusal, Tally, Value};
 use std::io::Write;
 
-/// Writes what was recovered of parts with these names.
+/// Writes the recovered state of parts with these names.
 pub(crate) fn put_recovered<W: Write>(
     out: &mut Tally<W>,
     parts: &[PartBytes],
@@ -28,7 +28,7 @@ pub(crate) fn put_recovered<W: Write>(
     put_details(out, parts, recovered)
 }
 
-// What stands behind the counts: what is damaged or was skipped, and the pairs.
+// The output after the counts: the damage and the skipped parts, and the pairs.
 fn put_details<W: Write>(
     out: &mut Tally<W>,
     parts: &[PartBytes],
@@ -41,8 +41,8 @@ fn put_details<W: Write>(
     put_all_pairs(out, &recovered.pairs)
 }
 
-/// Writes what was damaged or skipped of parts with these names and of the log: the line of the log's fault, where it has one
-/// and was not only cut off, and one of each part that was skipped.
+/// Writes the damage of parts with these names and of the log: the line of the log's fault, if it has one and was not only
+/// truncated, and one of each part that was skipped.
 pub(crate) fn put_damage<W: Write>(
     out: &mut Tally<W>,
     parts: &[PartBytes],
@@ -76,7 +76,7 @@ fn put_count<W: Write>(out: &mut Tally<W>, word: &[u8], number: u64) -> Result<(
     out.put_all(&[word, buffer.format(number).as_bytes(), b"\n"])
 }
 
-// The fault of the log's rest, where it was not only cut off.
+// The fault of the log's rest, if it was not only truncated.
 fn put_log<W: Write>(out: &mut Tally<W>, fault: Option<Refusal>) -> Result<(), Refusal>
     ensures { Puts W.contents out.old out.new result (log_line fault) }
 {
@@ -86,7 +86,7 @@ fn put_log<W: Write>(out: &mut Tally<W>, fault: Option<Refusal>) -> Result<(), R
     }
 }
 
-/// Whether a log with this fault of its rest was only cut off.
+/// Whether a log with this fault of its rest was only truncated.
 pub(crate) fn is_cut(fault: Refusal) -> bool
     ensures { result ≡ is_cut fault }
 {

@@ -21,7 +21,7 @@ if_some : {X : Type 0} (o : Option X) (P Q : X → Type 0) → ((x : X) → P x 
 if_some None P Q on has = tt
 if_some (Some x) P Q on has = on x has
 
--- what was read of the file is worth what its text is read as
+-- the file is read as the text that was read of it
 pub read_as : {R : Type 0} (remaining : R → Option (List ℕ)) (opened : Result R Refusal) (bytes text : List ℕ) (some worth : WorkloadReading)
     → IfOk opened (λ reader. IfSome (remaining reader) (λ script. bytes ≡ script)) → text ≡ bytes → some ≡ reading_of text → some ≡ worth → IsWorkloadReadAs remaining opened worth
 read_as remaining (Err why) bytes text some worth script same reads is = tt

@@ -1,4 +1,4 @@
--- What a session has committed by the log is what its receipts say.
+-- The commits of a session in the log are those of its receipts.
 use Rattle.std.proofs.Common.{◌≡◌, ◌==◌, ℕ, Bool, true, false, List, [], ◌∷◌, ◌++◌, map, refl, ap, sym, ◌∙◌, arith}
 use Rattle.std.specs.Prelude.{Some, None, if◌then◌else◌}
 use Rattle.std.proofs.lemmas.List.{append-nil, map-append}
@@ -83,7 +83,7 @@ module _ (s : ℕ) (h : History) (so_far : commits_of s (log_of h) ≡ written_i
   step asked.Rest r = more _ (move_case Then refl r moved)
   step (asked.Join a b) r = more _ (join_case Then refl a b r refl)
 
--- each commit of the session has its receipt, with what it wrote, in their order
+-- each commit of the session has its receipt, with its writes, in their order
 pub receipts_are_commits : (s : ℕ) (h : History) → commits_of s (log_of h) ≡ written_in (own_of s h).receipts
 receipts_are_commits s [] = refl
 receipts_are_commits s (c ∷ h) = step s h (receipts_are_commits s h) c.event c.reply

@@ -1,4 +1,4 @@
--- What holds of the clients of all workers holds of all clients.
+-- A fact of the clients of all workers is one of all clients.
 use Rattle.std.proofs.Common.{◌≡◌, ◌<◌, ◌≤◌, ◌+◌, ◌%◌, ℕ, zero, suc, Bool, true, false, List, [], ◌∷◌, ◌++◌, length, All, refl, ap, sym, ◌∙◌, subst, arith}
 use Rattle.std.specs.Prelude.{nat_eq, slice_index_or, if◌then◌else◌}
 use Rattle.std.proofs.lemmas.List.Elements.{All-nil, All-cons, All-head, All-tail, All-append}
@@ -8,7 +8,7 @@ use Rattle.pc_jobs.specs.Dealing.{share, IsDealt}
 use Rattle.pc_threads.specs.Clients.{clients_in}
 
 module _ (P : Client → Type 0) where
-  -- what holds of all clients holds of a share
+  -- a fact of all clients is one of a share
   pub share_has : (workers worker place : ℕ) (clients : List Client) → All P clients → All P (share workers worker place clients)
   share_has workers worker place [] all = All-nil P
   share_has workers worker place (c ∷ clients) all = by (nat_eq (place % workers) worker) (share_has workers worker (suc place) clients (All-tail P c clients all))
@@ -17,7 +17,7 @@ module _ (P : Client → Type 0) where
       by true others = All-cons P c (share workers worker (suc place) clients) (All-head P c clients all) others
       by false others = others
 
-  -- and what holds of all shares holds of all clients
+  -- and a fact of all shares is one of all clients
   pub shares_have : (workers place : ℕ) (clients : List Client) → 1 ≤ workers → ((worker : ℕ) → worker < workers → All P (share workers worker place clients)) → All P clients
   shares_have workers place [] some all = All-nil P
   shares_have workers place (c ∷ clients) some all =
@@ -60,7 +60,7 @@ module _ (f : Client → ℕ) where
   total-append (x ∷ xs) ys = ap (λ n. f x + n) (total-append xs ys) ∙ omega arith
 
   module _ (workers : ℕ) where
-    -- over the shares of so many workers, from one on
+    -- over the shares of the given number of workers, from one on
     abbrev of_shares : ℕ → ℕ → ℕ → List Client → ℕ
     of_shares worker zero place clients = 0
     of_shares worker (suc count) place clients = total (share workers worker place clients) + of_shares (suc worker) count place clients
@@ -85,14 +85,14 @@ module _ (f : Client → ℕ) where
       one worker true is = ap (λ b. total (if b then c ∷ share workers worker (suc place) clients else share workers worker (suc place) clients)) is
       one worker false is = ap (λ b. total (if b then c ∷ share workers worker (suc place) clients else share workers worker (suc place) clients)) is
 
-      -- the client stands at none of these workers
+      -- the client is at none of these workers
       before : (worker count : ℕ) → place % workers < worker → of_shares worker count place (c ∷ clients) ≡ of_shares worker count (suc place) clients
       before worker zero low = refl
       before worker (suc count) low =
           ap (λ n. n + of_shares (suc worker) count place (c ∷ clients)) (one worker false (grind (arith, nat_tests)))
           ∙ ap (λ n. total (share workers worker (suc place) clients) + n) (before (suc worker) count (omega (arith, low)))
 
-      -- it stands at one of them
+      -- it is at one of them
       among : (worker count : ℕ) → worker ≤ place % workers → place % workers < worker + count → of_shares worker count place (c ∷ clients) ≡ f c + of_shares worker count (suc place) clients
       among worker zero low high = absurd (omega (arith, low, high))
       among worker (suc count) low high = by (nat_eq (place % workers) worker) refl (λ off. among (suc worker) count off (omega (arith, high)))
@@ -120,7 +120,7 @@ module _ (f : Client → ℕ) where
       in_turn workers all 0 0 clients (λ w low. dealt.shares w (omega (arith, low, dealt.count)) ∙ ap (λ n. share workers n 0 clients) (omega arith))
       ∙ ap (λ n. of_shares workers 0 n 0 clients) dealt.count ∙ of_all workers some 0 clients
 
--- what holds of the clients of all workers holds of all clients, and the other way round
+-- a fact of the clients of all workers is one of all clients, and conversely
 pub of_dealt : (P : Client → Type 0) (workers : ℕ) (clients : List Client) (all : List (List Client)) → 1 ≤ workers → IsDealt workers clients all → All P (clients_in all) → All P clients
 of_dealt P workers clients all some dealt has =
     shares_have P workers 0 clients some (λ worker low. subst (All P) (dealt.shares worker low) (in_each P all has worker (omega (arith, low, dealt.count))))

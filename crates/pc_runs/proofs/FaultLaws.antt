@@ -1,4 +1,4 @@
--- Which faults end a run that has begun.
+-- The faults that end a run that has begun.
 use Rattle.std.proofs.Common.{◌≡◌, ◌⊎◌, inl, inr, ℕ, ◌<◌, ◌≤◌, Bool, true, false, List, [], ◌∷◌, Option, Some, None, length, length-append, refl, sym, subst, ◌∙◌, arith}
 use Rattle.std.specs.Prelude.{IsTrue, ◌||◌, is_some}
 use Rattle.std.specs.List.{flat_map}
@@ -36,7 +36,7 @@ count_is (c ∷ clients) = let behind = count_is clients in omega (arith, behind
 pub same_transactions : (workers : ℕ) (clients : List Client) (all : List (List Client)) → 1 ≤ workers → IsDealt workers clients all → transactions_in (clients_in all) ≡ transactions_in clients
 same_transactions workers clients all some dealt = count_is (clients_in all) ∙ (same_total (λ (c : Client). length (jobs_of c)) workers clients all some dealt ∙ sym (count_is clients))
 
--- there is a file for the log where there is a folder
+-- if there is a folder, it has a file for the log
 pub log_there : {D T : Type 0} (holds : D → FileName → List ℕ → Type 0) (contents : T → Option (List ℕ)) (blank : Option (List ℕ)) (base : BaseFile) (folder : Option D) (log : Option (Tally T))
     → HasBegunFiles holds contents blank base folder log → is_some log ≡ is_some folder
 log_there holds contents blank base None None begun = refl
@@ -44,20 +44,20 @@ log_there holds contents blank base (Some folder) (Some log) begun = refl
 log_there holds contents blank base None (Some log) begun = absurd begun
 log_there holds contents blank base (Some folder) None begun = absurd begun
 
--- there is a folder where its log is lost
+-- there is a folder if its log is lost
 pub log_lost_there : {D T : Type 0} (folder : Option D) (log : Option (Tally T)) (given : FileFault T) → IsLogLost folder log given → IsTrue (is_some folder)
 log_lost_there (Some folder) (Some log) given is = refl
 log_lost_there (Some folder) None given is = absurd is
 log_lost_there None log given is = absurd is
 
--- what is left of the folder is there where the folder was
+-- the folder is left if there was one
 pub folder_there : {D : Type 0} (holds : D → FileName → List ℕ → Type 0) (points : ℕ) (first later : Option D) (files : List File) → HasWritten holds points first later files → is_some later ≡ is_some first
 folder_there holds points None None files written = refl
 folder_there holds points (Some old) (Some new) files written = refl
 folder_there holds points None (Some new) files written = absurd written
 folder_there holds points (Some old) None files written = absurd written
 
--- a file is written only where there is a folder
+-- a file is written only if there is a folder
 pub one_there : (a b c there : Bool) → a ≡ there → b ≡ there → c ≡ there → IsTrue (a || b || c) → IsTrue there
 one_there a b c true x y z is = refl
 one_there true b c false x y z is = cc (x)
@@ -90,7 +90,7 @@ module _ (st : Setting) (workload : Workload) (there : Bool) where
   not_opened given (inl (full, few)) = subst (IsRunRefused st workload there) (sym full) (inl few)
   not_opened given (inr memory) = subst (IsRunRefused st workload there) (sym memory) tt
 
-  -- memory that was wanting
+  -- a failed allocation
   pub no_memory : (given : Refusal) → given ≡ why.OutOfMemory → IsRunRefused st workload there given
   no_memory given is = subst (IsRunRefused st workload there) (sym is) tt
 
@@ -98,7 +98,7 @@ module _ (st : Setting) (workload : Workload) (there : Bool) where
 pub too_large : (capacity : ℕ) (items : List (List ℕ × List ℕ)) (pairs : Database) → KeysRise items → database_of items ≡ pairs → capacity < length items → capacity < len pairs
 too_large capacity items pairs rise is many = subst (λ (l : List (List ℕ × List ℕ)). capacity < length l) (sym (pairs_of items pairs rise is)) many
 
--- nothing is told of what is left
+-- nothing is reported of the result
 pub untold_ends : (st : Setting) (workload : Workload) (there : Bool) (files : List File) (given : Refusal) → st.capacity ≤ MOST_KEYS → HaveJustTo workload.points files → IsUntoldAfter st files given
     → IsRunRefused st workload there given
 untold_ends st workload there files why.OutOfMemory room just untold = tt

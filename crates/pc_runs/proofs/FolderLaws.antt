@@ -1,4 +1,4 @@
--- What is left of a folder once all files of a run were written to it.
+-- The folder once all files of a run were written to it.
 use Rattle.std.proofs.Common.{◌≡◌, ℕ, zero, suc, ◌+◌, ◌<◌, ◌≤◌, List, ◌++◌, take, drop, length, All, sym, ap, subst, ◌∙◌, arith, append_assoc}
 use Rattle.std.specs.Prelude.{Option, Some, None, is_some, slice_index_or}
 use Rattle.std.specs.List.{flat_map}
@@ -19,7 +19,7 @@ use Rattle.pc_threads.specs.Files.{HasParts, HasWritten, KeepsOtherFiles}
 use Rattle.pc_threads.specs.Logs.{HasLogged}
 use Rattle.pc_runs.specs.Folders.{HasBegunFiles, HasFinished, LeavesFiles}
 
--- the text of what was handed out, and the rest's, are the text of the whole log
+-- the text of the entries that were handed out, and the rest's, are the text of the whole log
 log_whole : (run logged : ℕ) (log given : List Entry) → given ≡ take logged log → log_text run given ++ rest_text logged log ≡ log_text run log
 log_whole run logged log given is =
     ap (λ (l : List Entry). log_text run l ++ rest_text logged log) is
@@ -28,7 +28,7 @@ log_whole run logged log given is =
     ∙ ap (log_text run) (take-append-drop logged log)
 
 module _ (base : BaseFile) (log : List Entry) where
-  -- a file of one point, where it is that of its points
+  -- a file of one point, if it is that of its points
   abbrev one_point : ℕ → File
   one_point point = file_of base.run base.pairs log (set.insert set.empty point)
 

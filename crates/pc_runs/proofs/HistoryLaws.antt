@@ -1,4 +1,4 @@
--- What a closed store leaves, as what is asked of files that a legal history left.
+-- The result of a closed store, as files that a legal history left.
 use Rattle.std.proofs.Common.{◌≡◌, ℕ, List, [], ◌∷◌, ◌++◌, All, drop, length, refl, sym, subst}
 use Rattle.std.proofs.lemmas.List.Elements.{All-nil, All-cons, All-head, All-tail}
 use Rattle.pc_types.specs.declared.Entry.{Entry}
@@ -14,12 +14,12 @@ pub left_after : (st : Setting) (base : BaseFile) (log : List Entry) (logged : �
 left_after st base log logged sessions seat tickets files given same (h, left) =
     (h, record { legal = left.legal; start = left.base; log_is = left.log_is; worth = subst (All (IsOfItsPoints st.run st.base log)) (sym same) left.worth })
 
--- of some things and others, what holds of all holds of the first ones
+-- of some items and others, a fact of all is one of the first
 pub first_ones : {X : Type 0} (P : X → Type 0) (xs ys : List X) → All P (xs ++ ys) → All P xs
 first_ones P [] ys has = All-nil P
 first_ones P (x ∷ xs) ys has = All-cons P x xs (All-head P x (xs ++ ys) has) (first_ones P xs ys (All-tail P x (xs ++ ys) has))
 
--- and behind the first ones stand the others
+-- and after the first come the others
 pub behind_first : {X : Type 0} (xs ys : List X) → drop (length xs) (xs ++ ys) ≡ ys
 behind_first [] ys = refl
 behind_first (x ∷ xs) ys = behind_first xs ys

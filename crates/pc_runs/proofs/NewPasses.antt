@@ -1,4 +1,4 @@
--- How many passes a new board has.
+-- The number of passes of a new board.
 use Rattle.std.proofs.Common.{◌≡◌, ℕ, zero, suc, ◌<◌, ◌≤◌, [], ◌∷◌, length, length-append, refl, arith}
 use Rattle.pc_board.specs.Passes.{Board, new_passes}
 

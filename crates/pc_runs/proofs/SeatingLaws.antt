@@ -1,4 +1,4 @@
--- A workload that was read has a session of the store for each client, and keeps it where its clients are dealt to workers.
+-- A workload that was read has a session of the store for each client, and keeps it when its clients are dealt to workers.
 use Rattle.std.proofs.Common.{◌≡◌, ◌==◌, ◌≤◌, ◌+◌, ◌||◌, ◌&&◌, ℕ, zero, suc, Bool, true, false, List, [], ◌∷◌, ◌++◌, Option, Some, None, map, All, refl, ap, subst, ◌∙◌, arith}
 use Rattle.std.specs.Prelude.{⊤, ℤ, codes, if◌then◌else◌, nat_eq, nat_le}
 use Rattle.std.specs.List.{AllByRecursion, IsDistinct}
@@ -22,7 +22,7 @@ use Rattle.pc_threads.specs.Clients.{AreSeated, HaveSeats, HaveWorked, clients_i
 use Rattle.pc_threads.proofs.SeatLaws.{neither}
 use Rattle.pc_runs.proofs.DealingLaws.{same_total, to_dealt, total}
 
--- one where a test holds
+-- one if a test holds
 abbrev count_of : Bool → ℕ
 count_of true = 1
 count_of false = 0
@@ -96,7 +96,7 @@ is_new (suc count) n low high = list_any-append (λ (s : Sitter). s.number == n)
         let below : n ≤ count = grind (arith, nat_tests) in
         ap (λ b. b || false) (rest below)
 
--- the client's session is one of so many
+-- the client's session is one of the given number
 abbrev pub IsOfCount : ℕ → Client → Type 0
 IsOfCount count client = (1 ≤ client.session) × (client.session ≤ count)
 
@@ -122,13 +122,13 @@ same_there st n (c ∷ clients) given_up (s ∷ sessions) (own, others, sum, has
 same_there st n [] given_up (s ∷ sessions) have = absurd have
 same_there st n (c ∷ clients) given_up [] have = absurd have
 
--- where the clients' sessions come back, all are there
+-- if the clients' sessions come back, all are there
 pub all_back : (st : Setting) (count : ℕ) (clients : List Client) (given_up : ℕ) (idle worked : List Sitter) → AreSeated clients (new_sitters count) idle → HaveWorked st clients given_up worked → HasAll count (idle ++ worked)
 all_back st count clients given_up idle worked seated have k low =
     list_any-append (λ (s : Sitter). s.number == k + 1) idle worked ∙ ap (λ b. is_there idle (k + 1) || b) (same_there st (k + 1) clients given_up worked have)
     ∙ seated (k + 1) (is_new count (k + 1) (omega arith) (omega (arith, low)))
 
--- a line that a client's work begins with names a session of so many
+-- a line that a client's work begins with names a session of the given number
 abbrev IsInRange : Phrase → Type 0
 IsInRange (phrase.Client session) = (1 ≤ session) × (session ≤ MOST_SESSIONS)
 IsInRange other = ⊤

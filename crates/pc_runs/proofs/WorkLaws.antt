@@ -1,4 +1,4 @@
--- What the clients have done as their sessions is what the log of a closed store says of them.
+-- The transactions that the clients have done as their sessions are those in the log of a closed store.
 use Rattle.std.proofs.Common.{◌≡◌, ◌==◌, ◌≤◌, ◌+◌, ◌-◌, ◌||◌, ℕ, zero, suc, Bool, true, false, List, [], ◌∷◌, ◌++◌, length, All, refl, ap, sym, subst, ◌∙◌, arith}
 use Rattle.std.specs.Prelude.{IsFalse}
 use Rattle.std.proofs.lemmas.List.Elements.{All-nil, All-cons, All-head, All-push, All-tail}
@@ -17,7 +17,7 @@ use Rattle.pc_runs.proofs.HistoryLaws.{first_ones}
 use Rattle.pc_runs.proofs.DealingLaws.{of_dealt, same_total, to_dealt, total}
 
 module _ (st : Setting) (h : History) where
-  -- how many of a client's transactions have not committed
+  -- the number of a client's transactions that have not committed
   abbrev left_of : Client → ℕ
   left_of client = length (jobs_of client) - length (commits_of client.session (log_of h))
 
@@ -25,7 +25,7 @@ module _ (st : Setting) (h : History) where
   same_left [] = refl
   same_left (c ∷ clients) = ap (λ n. left_of c + n) (same_left clients)
 
-  -- what the session has committed is what its receipts say
+  -- the commits of the session are those of its receipts
   committed : (s : Sitter) → IsSitterSettled st h s → commits_of s.number (log_of h) ≡ written_in s.receipts
   committed s settled = receipts_are_commits s.number h ∙ ap written_in (sym settled.own)
 
@@ -49,7 +49,7 @@ module _ (st : Setting) (h : History) where
   clients_ran [] given_up (s ∷ sessions) have settled = absurd have
   clients_ran (c ∷ clients) given_up [] have settled = absurd have
 
-  -- the session of the number has committed nothing where it is one of which nothing was asked
+  -- the session of the number has committed nothing if it is one without calls
   idle_alone : (n : ℕ) (idle : List Sitter) → All IsFresh idle → All (IsSitterSettled st h) idle → is_there idle n ≡ true → commits_of n (log_of h) ≡ []
   idle_alone n [] fresh settled there = absurd (cc (there))
   idle_alone n (s ∷ idle) fresh settled there =
@@ -61,7 +61,7 @@ module _ (st : Setting) (h : History) where
           ap (λ m. commits_of m (log_of h)) (sym at) ∙ committed s (All-head (IsSitterSettled st h) s idle settled) ∙ ap (λ (r : Sitter). written_in r.receipts) (All-head IsFresh s idle fresh)
       by false is some rest = rest some
 
-  -- and else it is a client's
+  -- otherwise it is a client's
   taken : (n : ℕ) (clients : List Client) (given_up : ℕ) (sessions : List Sitter) → HaveWorked st clients given_up sessions → All (λ (c : Client). (c.session == n) ≡ false) clients → is_there sessions n ≡ false
   taken n [] given_up [] have none = refl
   taken n (c ∷ clients) given_up (s ∷ sessions) (own, others, sum, has, have) none =
@@ -91,7 +91,7 @@ module _ (st : Setting) (h : History) where
       by true at none rest = absurd (cc (none))
       by false at none rest = All-cons (λ (k : Client). (k.session == n) ≡ false) c clients at (rest none)
 
-  -- what the clients of all workers have done, where all sessions of the store are there
+  -- the transactions of all workers' clients, if all sessions of the store are there
   pub have_run : (workers : ℕ) (clients : List Client) (dealt : List (List Client)) (given_up : ℕ) (idle worked : List Sitter) → 1 ≤ workers → IsDealt workers clients dealt
       → HaveWorked st (clients_in dealt) given_up worked → All IsFresh idle → All (IsSitterSettled st h) (idle ++ worked) → HasAll st.sessions (idle ++ worked) → HaveRunBy st h clients given_up
   have_run workers clients dealt given_up idle worked some is have fresh settled all =
@@ -109,7 +109,7 @@ module _ (st : Setting) (h : History) where
           idle_alone (suc k) idle fresh (first_ones (IsSitterSettled st h) idle worked settled) (there_append (suc k) idle worked (taken (suc k) (clients_in dealt) given_up worked have none) there)
       alone zero low high free = absurd (omega (arith, low))
 
--- of new sessions nothing was asked
+-- new sessions have no calls
 pub all_fresh : (count : ℕ) → All IsFresh (new_sitters count)
 all_fresh zero = All-nil IsFresh
 all_fresh (suc count) = All-push IsFresh (new_sitters count) (sitter (suc count) [] []) (all_fresh count) refl

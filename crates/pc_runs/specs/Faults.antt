@@ -1,4 +1,4 @@
--- Which fault ends a run that has begun.
+-- The faults that end a run that has begun.
 use Rattle.std.specs.Prelude.{◌⊎◌, ◌≤◌, ◌<◌, ◌^◌, ⊤, Bool, IsTrue}
 use Rattle.pc_types.specs.declared.limits.TheConstants.{MOST_POINTS}
 use Rattle.pc_types.specs.declared.refusal.Refusal.{Refusal}
@@ -10,8 +10,8 @@ use Rattle.pc_threads.specs.Clients.{transactions_in}
 use Rattle.pc_threads.specs.declared.fault.ThreadsFault.{ThreadsFault}
 use Rattle.pc_threads.specs.declared.fault.ThreadsFault.TheVariants as fault
 
--- Why a run of the workload is refused, over a store of this setting, where there is a folder or not:
--- * memory ran out;
+-- Why a run of the workload is refused, over a store of this setting, if there is a folder or not:
+-- * an allocation failed;
 -- * a file of the folder can't be written;
 -- * the store has no room for all pairs of its base, or more transactions were given up than 64 bits can count;
 -- * there are too many points;

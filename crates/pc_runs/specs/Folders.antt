@@ -28,7 +28,7 @@ pub record HasFiles (holds : FileName → List ℕ → Type 0) (base : BaseFile)
   pub parts_are : (point : ℕ) → 1 ≤ point → point ≤ points → holds (Part point) (part_text (file_of base.run base.pairs log (set.insert set.empty point)))
   pub log_is : holds Log (log_text base.run log)
 
--- the same of what is left where there is a folder
+-- the same of the folder that is left, if there is one
 abbrev pub LeavesFiles : {D : Type 0} → (D → FileName → List ℕ → Type 0) → BaseFile → List Entry → ℕ → Bool → Option D → Type 0
 LeavesFiles holds base log points true (Some folder) = HasFiles (holds folder) base log points
 LeavesFiles holds base log points false None = ⊤
@@ -49,7 +49,7 @@ abbrev pub IsLogLost : {D T : Type 0} → Option D → Option (Tally T) → File
 IsLogLost (Some folder) (Some log) lost = IsFileLost Log log.failures lost
 IsLogLost folder log lost = ⊥
 
--- Behind whatever text was written to the log's file the rest was, and the file is whole; the other files stay.
+-- After the text that was written to the log's file the rest was, and the file is whole; the other files stay.
 abbrev pub HasFinished : {D T : Type 0} → (D → FileName → List ℕ → Type 0) → (T → Option (List ℕ)) → Option (List ℕ) → List ℕ → Option D → Option (Tally T) → Option D → Type 0
 HasFinished {D} {T} holds contents blank rest (Some old) (Some log) (Some new) = KeepsOtherFiles (holds old) (holds new) Log
     × ((first : Tally T) (text : List ℕ) → contents (inner_of first) ≡ blank → Puts contents first log (Ok tt) text → holds new Log (text ++ rest))

@@ -5,16 +5,16 @@ use Rattle.pc_jobs.specs.declared.works.Client.{Client}
 use Rattle.pc_jobs.specs.declared.works.ClientTask.{ClientTask}
 use Rattle.pc_jobs.specs.declared.works.ClientTask.TheVariants as work
 
--- how many transactions the work has
+-- the number of the work's transactions
 abbrev pub count_of : ClientTask → ℕ
 count_of (work.Once job) = 1
 count_of (work.Fill fill) = fill.count
 
--- how many the client is to make, up to the greatest number of 32 bits
+-- the number of the client's, up to the greatest number of 32 bits
 abbrev pub most_in : Client → ℕ
 most_in client = min (sum_by count_of client.works) (2 ^ 32 - 1)
 
--- how many are to commit between two points: as many as are asked for, or else those of the clients, up to that number, by the points
+-- the number that commit between two points: the one that is asked for, or those of the clients, up to that limit, divided by the points
 abbrev pub every_of : Option ℕ → ℕ → List Client → ℕ
 every_of (Some every) points clients = every
 every_of None points clients = min (sum_by most_in clients) (2 ^ 32 - 1) / max points 1

@@ -1,5 +1,4 @@
--- A run of a workload: what its store starts from, what its text is read as, what is printed, why it may fail, and what is told of
--- that.
+-- A run of a workload: the state that its store starts from, the reading of its text, its output, why it may fail, and the report of that.
 use Rattle.std.specs.Prelude.{◌≡◌, ℕ, Bool, List, Option, Result, Err, [], is_some, IsOk, IfOk, IfSome, MatchOption, codes}
 use Rattle.std.specs.Io.KnownBytes.{Appends}
 use Rattle.pc_types.specs.Counted.{HasRisen, AppendsBeginning}
@@ -39,38 +38,39 @@ use Rattle.pc_runs.specs.Worked.{HaveRunBy}
 use Rattle.pc_texts.specs.FileNames.{name_of}
 use Rattle.pc_texts.specs.declared.file_names.FileName.{FileName}
 
--- the store of a run over this base: 64 sessions, and room for so many keys
+-- the store of a run over this base: 64 sessions, and room for this many keys
 abbrev pub run_setting : BaseFile → ℕ → Setting
 run_setting base capacity = record { run = base.run; base = base.pairs; sessions = MOST_SESSIONS; capacity = capacity }
 
--- It is the base that a run starts from. Of no folder it has no pairs and the run's number, and nothing is told; else it is made of
--- the folder, which isn't damaged where that is not accepted, and what is damaged there was told.
+-- It is the base that a run starts from. Without a folder it has no pairs and the run's number, and nothing is reported; otherwise
+-- it is made of the folder, which isn't damaged if that is not accepted, and its damage was reported.
 abbrev pub IsStart : {S T : Type 0} → (S → Option (List ℕ)) → (T → Option (List ℕ)) → Start S → Tally T → Tally T → BaseFile → Type 0
 IsStart remaining contents (start.Empty run) old new base = (base ≡ record { run = run; point = 0; pairs = database_of [] }) × (new ≡ old)
 IsStart remaining contents (start.Folder old_run) old new base = IsBaseMade remaining contents old_run.folder old_run.accepts_damage old new base
 
--- A run was to start from the folder of this name, and there is no base of it for this reason: nothing was told yet, or, where the
--- folder is damaged and that is not accepted, what is damaged there.
+-- A run was to start from the folder of this name, and there is no base of it for this reason: nothing was reported yet, or, if the
+-- folder is damaged and that is not accepted, its damage.
 abbrev pub IsUnstarted : {R S T : Type 0} → (S → Option (List ℕ)) → (T → Option (List ℕ)) → Start S → Tally T → Tally T → RunFailure R S → Type 0
 IsUnstarted remaining contents (start.Folder old_run) old new (failure.Start name lost) = (name ≡ old_run.name) × IsBaseUnmade remaining contents old_run.folder old_run.accepts_damage old new lost
 IsUnstarted remaining contents other old new why = ⊥
 
--- how far a run has come: nothing was begun; it has nothing to start from, for this reason; or its store was to be opened so
+-- how far a run has come: nothing was begun; it has nothing to start from, for this reason; or the setting with which its store was
+-- to be opened
 pub data Beginning (R S : Type 0) : Type 0 where
   NotBegun : Beginning R S
   Unstarted : (why : RunFailure R S) → Beginning R S
   Begun : (st : Setting) → Beginning R S
 
--- A run has come so far, and this was told till then: what is damaged of the folder that it starts from, once it has begun or for
--- this was refused.
+-- A run has come this far, and this was reported until then: the damage of the folder that it starts from, once it has begun or was
+-- refused for the damage.
 abbrev pub RunBegins : {R S T : Type 0} → (S → Option (List ℕ)) → (T → Option (List ℕ)) → Origin S → Tally T → Tally T → Beginning R S → Type 0
 RunBegins remaining contents origin old new NotBegun = new ≡ old
 RunBegins remaining contents origin old new (Unstarted why) = IsUnstarted remaining contents origin.start old new why
 RunBegins remaining contents origin old new (Begun st) = (base : BaseFile) × IsStart remaining contents origin.start old new base × (st ≡ run_setting base origin.capacity)
 
--- The workload was run over a store of this setting, told by one legal history of it: its clients have run, so many transactions
--- were committed and so many given up; of some files, which have just the points from 1 to the last one that was asked for and are
--- those that the log gives their points, this is left; and where there is a folder, it has the files of the run.
+-- The workload was run over a store of this setting, in one legal history of it: its clients have run, this many transactions were
+-- committed and this many given up; the result is that of some files, which have just the points from 1 to the last one that was
+-- asked for and are those that the log gives their points; and if there is a folder, it has the files of the run.
 pub record IsWorkloadRun {D : Type 0} (holds : D → FileName → List ℕ → Type 0) (st : Setting) (workload : Workload) (there : Bool) (left : Option D) (outcome : RunReport) : Type 0 where
   pub history : History
   pub legal : IsLegalHistory st history
@@ -82,15 +82,15 @@ pub record IsWorkloadRun {D : Type 0} (holds : D → FileName → List ℕ → T
   pub legacy : IsLegacy (base_of st) (log_of history) files outcome.left
   pub folder_has : LeavesFiles holds (base_of st) (log_of history) outcome.points there left
 
--- what a file holds is worth this; said where its bytes are known
+-- the file is read as this; said if its bytes are known
 abbrev pub IsWorkloadReadAs : {R : Type 0} → (R → Option (List ℕ)) → Result R Refusal → WorkloadReading → Type 0
 IsWorkloadReadAs remaining opened worth = IfOk opened (λ reader. IfSome (remaining reader) (λ text. reading_of text ≡ worth))
 
--- where there is a folder, something makes files there
+-- if there is a folder, it has a maker of files
 abbrev pub IsUsable : {D : Type 0} → Option (RunFolder D) → Type 0
 IsUsable folder = IfSome folder (λ f. IsOk f.files)
 
--- there is a folder of this name, and this keeps files from being made there
+-- there is a folder of this name, and this prevents files from being made there
 abbrev pub IsUnusable : {R S D : Type 0} → Option (RunFolder D) → RunFailure R S → Type 0
 IsUnusable folder (failure.Folder name why) = MatchOption folder ⊥ (λ f. (name ≡ f.name) × (f.files ≡ Err why))
 IsUnusable folder other = ⊥
@@ -99,30 +99,29 @@ IsUnusable folder other = ⊥
 abbrev pub CanRun : {R : Type 0} → (R → Option (List ℕ)) → Result R Refusal → Type 0
 CanRun remaining opened = IsOk opened × ((workload : Workload) × IsWorkloadReadAs remaining opened (reading.Runs workload))
 
--- The workload that the file holds was run, where the folder is usable, over a store with which the run has begun; and this fault has
--- ended it.
+-- The workload of the file was run, if the folder is usable, over a store with which the run has begun; and this fault has ended it.
 abbrev pub RunHasFailed : {R S D : Type 0} → (R → Option (List ℕ)) → Result R Refusal → Option (RunFolder D) → (Beginning R S → Type 0) → ThreadsFault → Type 0
 RunHasFailed remaining opened folder begins why = IsOk opened × IsUsable folder
     × ((workload : Workload) × IsWorkloadReadAs remaining opened (reading.Runs workload)
     × ((st : Setting) × begins (Begun st) × EndsRun st workload (is_some folder) why))
 
--- It is printed of the workload that the file holds, and this is left of the folder: of a bad line, before anything is begun; else
--- the workload was run, of a setting with which it has begun, and only where the folder is usable.
+-- This is the output of the workload of the file, and the folder that is left: of a bad line, before anything is begun; otherwise
+-- the workload was run, of a setting with which it has begun, and only if the folder is usable.
 abbrev pub IsAnswer : {R S D : Type 0} → (R → Option (List ℕ)) → (D → FileName → List ℕ → Type 0) → Result R Refusal → Option (RunFolder D) → (Beginning R S → Type 0) → Option D → Printed → Type 0
 IsAnswer remaining holds opened folder begins left (printed.BadLine line) = IsWorkloadReadAs remaining opened (reading.BadLine line) × begins NotBegun
 IsAnswer remaining holds opened folder begins left (printed.Whole outcome) = IsUsable folder
     × ((workload : Workload) × IsWorkloadReadAs remaining opened (reading.Runs workload)
     × ((st : Setting) × begins (Begun st) × IsWorkloadRun holds st workload (is_some folder) left outcome))
 
--- what is printed of the workload that the file holds went out, all of it, and this is its status, and what is left of the folder
+-- the output of the workload of the file went out, all of it, and this is its status, and the folder that is left
 abbrev pub GoesOut : {R S D T : Type 0} → (R → Option (List ℕ)) → (D → FileName → List ℕ → Type 0) → (T → Option (List ℕ)) → Result R Refusal → Option (RunFolder D) → (Beginning R S → Type 0) → Tally T → Tally T
     → Option D → ℕ → Type 0
 GoesOut remaining holds contents opened folder begins old new left status = (some : Printed) × IsAnswer remaining holds opened folder begins left some × (status ≡ status_of some)
     × Appends (contents (inner_of old)) (contents (inner_of new)) (printed_text some) × (failures_of new ≡ failures_of old)
 
--- Why nothing is printed: where the file wasn't opened, the reason for that; where it was, that it couldn't be read, or that memory
--- ran out; where its workload can be run, and the folder can't be used, the reason for this; where it can be used, and there is
--- nothing to start from, that; and else the fault that has ended the run.
+-- Why nothing is printed: if the file wasn't opened, the reason for that; if it was, that it couldn't be read, or that an
+-- allocation failed; if its workload can be run, and the folder can't be used, the reason for this; if it can be used, and there is
+-- nothing to start from, that; and otherwise the fault that has ended the run.
 abbrev pub IsRunUnanswered : {R S D : Type 0} → (R → Option (List ℕ)) → Result R Refusal → Option (RunFolder D) → (Beginning R S → Type 0) → RunFailure R S → Type 0
 IsRunUnanswered remaining opened folder begins (failure.Unread why) = IsUnread opened why × begins NotBegun
 IsRunUnanswered remaining opened folder begins (failure.Run why) = RunHasFailed remaining opened folder begins why
@@ -130,15 +129,14 @@ IsRunUnanswered {R} {S} remaining opened folder begins (failure.Folder name why)
 IsRunUnanswered remaining opened folder begins (failure.Start name why) = CanRun remaining opened × IsUsable folder × begins (Unstarted (failure.Start name why))
 IsRunUnanswered remaining opened folder begins failure.Output = ⊥
 
--- Why not all was printed: the output failed, which was counted, and a beginning of what is printed went out; or there is nothing
--- to print.
+-- Why not all was printed: the output failed, which was counted, and a beginning of it went out; or there is nothing to print.
 abbrev pub IsCauseOfUnprinted : {R S D T : Type 0} → (R → Option (List ℕ)) → (D → FileName → List ℕ → Type 0) → (T → Option (List ℕ)) → Result R Refusal → Option (RunFolder D) → (Beginning R S → Type 0) → Tally T → Tally T
     → RunFailure R S → Type 0
 IsCauseOfUnprinted {R} {S} {D} remaining holds contents opened folder begins old new failure.Output = HasRisen (failures_of old) (failures_of new)
     × ((left : Option D) × (some : Printed) × IsAnswer remaining holds opened folder begins left some × AppendsBeginning (contents (inner_of old)) (contents (inner_of new)) (printed_text some))
 IsCauseOfUnprinted remaining holds contents opened folder begins old new other = (new ≡ old) × IsRunUnanswered remaining opened folder begins other
 
--- what is told of a failure, where the workload has this name; of an output that failed nothing
+-- the report of a failure, if the workload has this name; nothing if the output failed
 abbrev pub IsRunTold : {R S T : Type 0} → (T → Option (List ℕ)) → Tally T → Tally T → List ℕ → RunFailure R S → Type 0
 IsRunTold contents old new name (failure.Unread why) = TellsOf contents old new name (refusal_of why)
 IsRunTold contents old new name (failure.Run (fault.Refused why)) = TellsOf contents old new name why
@@ -149,6 +147,6 @@ IsRunTold contents old new name (failure.Folder folder (unusable.Unlisted why)) 
 IsRunTold contents old new name (failure.Start folder lost) = recoveries.IsRecoveryTold contents old new folder.items lost
 IsRunTold contents old new name failure.Output = new ≡ old
 
--- it is handed back why, which is a cause by what was told till then, and was told behind that
+-- the cause is returned, which is one after the reports until then, and was reported after them
 abbrev pub IsFailed : {R S T : Type 0} → (T → Option (List ℕ)) → List ℕ → Tally T → Option (RunFailure R S) → (Tally T → RunFailure R S → Type 0) → Type 0
 IsFailed {R} {S} {T} contents name new handed cause = MatchOption handed ⊥ (λ why. (between : Tally T) × cause between why × IsRunTold contents between new name why)

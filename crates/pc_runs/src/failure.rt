@@ -1,4 +1,4 @@
-//! What is told of a run that failed, and of an output that did.
+//! The reports of a run that failed, and of an output that did.
 ghost use Rattle.std.specs.Prelude.{◌≡◌, IfErr, IfOk, OnOk, is_some};
 ghost use Rattle.std.specs.Io.KnownBytes.{Appends};
 ghost use Rattle.pc_types.specs.Counted.{HasRisen, AppendsBeginning};
@@ -14,8 +14,7 @@ use pc_threads::ThreadsFault;
 use pc_types::Tally;
 use std::io::Write;
 
-/// Why nothing, or not all, is printed of a workload. A file that was to be read, and whose device failed, is handed back, and has
-/// counted that.
+/// Why nothing, or not all, is printed of a workload. An input file whose device failed is returned, and has counted the failure.
 #[derive(Drop)]
 pub enum RunFailure<R, S> {
     /// It was not run: it isn't there, can't be read, or is too large for memory.
@@ -24,7 +23,7 @@ pub enum RunFailure<R, S> {
     Run(ThreadsFault),
     /// It was not run: the folder of this name can't be used for its files.
     Folder(Vec<u8>, Unusable),
-    /// It was not run: of the folder of this name, which it was to start from, nothing can be recovered, or it is damaged.
+    /// It was not run: nothing can be recovered of the folder of this name, which it was to start from, or it is damaged.
     Start(Vec<u8>, Lost<S>),
     /// The output failed.
     Output,
@@ -50,7 +49,7 @@ impl<R, S> From<Unread<R>> for RunFailure<R, S> {
     }
 }
 
-/// What makes the files of the folder, where there is one.
+/// The maker of the folder's files, if there is a folder.
 pub fn usable<R, S, D: Drop>(folder: Option<RunFolder<D>>) -> Result<Option<D>, RunFailure<R, S>>
     ensures usable { OnOk result (IsUsable folder) }
     ensures there { IfOk result (λ files. is_some files ≡ is_some folder) }
@@ -65,7 +64,7 @@ pub fn usable<R, S, D: Drop>(folder: Option<RunFolder<D>>) -> Result<Option<D>, 
     }
 }
 
-/// Writes the lines out, or else the output has failed, and a beginning went out.
+/// Writes the lines out; if that fails, the output has failed, and a beginning went out.
 pub fn print<R, S, W: Write>(printed: &Printed, out: &mut Tally<W>) -> Result<(), RunFailure<R, S>>
     ensures printed { OnOk result (Appends (W.contents (inner_of out.old)) (W.contents (inner_of out.new)) (printed_text printed.now) × (failures_of out.new ≡ failures_of out.old)) }
     ensures failed { IfErr result (λ why. (why ≡ RunFailure.Output) × HasRisen (failures_of out.old) (failures_of out.new)
@@ -79,7 +78,7 @@ pub fn print<R, S, W: Write>(printed: &Printed, out: &mut Tally<W>) -> Result<()
 }
 
 impl<R, S> RunFailure<R, S> {
-    /// Writes the line that tells why, by the name of the workload, of a file or of a folder; of an output that failed nothing.
+    /// Writes the line of the failure, by the name of the workload, of a file or of a folder; nothing if the output failed.
     pub fn report<E: Write>(&self, workload: &[u8], errors: &mut Tally<E>)
         ensures { IsRunTold E.contents errors.old errors.new workload.now self.now }
     {

@@ -23,14 +23,14 @@ pub enum Unusable {
     Unlisted(Refusal),
 }
 
-/// A folder for the files of a run: its name, and what makes them there, or why none are made.
+/// A folder for the files of a run: its name, and the maker of its files, or why none are made.
 #[derive(Drop)]
 pub struct RunFolder<D> {
     pub name: Vec<u8>,
     pub files: Result<D, Unusable>,
 }
 
-/// Writes the line that tells why the file can't be made.
+/// Writes the line that says why the file can't be made.
 pub fn report_unmade<E: Write>(
     file: FileName,
     why: Refusal,
@@ -60,8 +60,8 @@ fn write_base<F: Write + Drop, D: NewFiles<F>>(
     }
 }
 
-/// Writes the file of the base, and makes that of the log, to which nothing is written yet. It fails only where one of them can't be
-/// made, or the device failed in a call of the base's file, which is then handed back.
+/// Writes the file of the base, and makes that of the log, to which nothing is written yet. It fails only if one of them can't be
+/// made, or the device failed in a call of the base's file, which is then returned.
 pub fn begin_files<F: Write + Drop, D: NewFiles<F>>(
     folder: &mut D,
     base: &Base,

@@ -1,4 +1,4 @@
-//! A workload: clients run it on threads, beside a checkpointer, collapsers and a logger, from its reader to the status.
+//! A workload: clients run it on threads, concurrently with a checkpointer, collapsers and a logger, from its reader to the status.
 #![tactic(auto)]
 
 mod crew;

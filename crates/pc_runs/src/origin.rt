@@ -1,4 +1,4 @@
-//! What the store of a run starts from.
+//! The state from which the store of a run starts.
 ghost use Rattle.std.specs.Prelude.{◌≤◌};
 ghost use Rattle.pc_types.specs.declared.limits.TheConstants.{MOST_KEYS};
 
@@ -9,20 +9,20 @@ use pc_restore::Folder;
 pub struct NamedFolder<R> {
     pub name: Vec<u8>,
     pub folder: Folder<R>,
-    /// Whether a run starts from it also where its files lack more than what a process that is killed leaves.
+    /// Whether a run starts from it even if its files lack more than the files of a killed process do.
     pub accepts_damage: bool,
 }
 
-/// What the store of a run starts from.
+/// The state from which the store of a run starts.
 #[derive(Drop)]
 pub enum Start<R> {
     /// No pairs; the run has this number.
     Empty(u64),
-    /// The pairs that the files of this folder are worth; the run has the number behind that of the folder's.
+    /// The pairs recovered from the files of this folder; the run's number is that of the folder's run plus 1.
     Folder(NamedFolder<R>),
 }
 
-/// What the store of a run is opened with.
+/// The arguments with which the store of a run is opened.
 #[derive(Drop)]
 pub struct Origin<R> {
     pub start: Start<R>,

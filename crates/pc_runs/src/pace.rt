@@ -6,7 +6,7 @@ ghost use Rattle.pc_runs.specs.Pace.{count_of, every_of, most_in};
 use pc_jobs::{Client, ClientTask};
 use pc_types::Items;
 
-// How many transactions the work has.
+// The number of the work's transactions.
 fn count_of(work: &ClientTask) -> u32
     ensures { result ≡ count_of work.now }
 {
@@ -16,7 +16,7 @@ fn count_of(work: &ClientTask) -> u32
     }
 }
 
-// How many transactions the works have, up to the greatest number of 32 bits.
+// The number of the works' transactions, up to the greatest number of 32 bits.
 fn transactions_in(works: &[ClientTask]) -> u32
     ensures { result ≡ min (sum_by count_of works.now) (2 ^ 32 - 1) }
 {
@@ -27,7 +27,7 @@ fn transactions_in(works: &[ClientTask]) -> u32
     count
 }
 
-// How many transactions the clients are to make, up to that.
+// The number of the clients' transactions, up to the same limit.
 fn transactions_of(clients: &[Client]) -> u32
     ensures { result ≡ min (sum_by most_in clients.now) (2 ^ 32 - 1) }
 {
@@ -38,7 +38,7 @@ fn transactions_of(clients: &[Client]) -> u32
     count
 }
 
-/// How many transactions are to commit between two points: as many as are asked for, or else those of the clients by the points.
+/// The number of transactions that commit between two points: `asked`, or those of the clients divided by the points.
 pub fn every_of(asked: Option<u32>, points: u32, clients: &Items<Client>) -> u32
     ensures { result ≡ every_of asked points clients.now }
 {

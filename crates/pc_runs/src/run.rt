@@ -28,35 +28,35 @@ use std::marker::Brand;
 use std::sync::Wait;
 use std::thread::Threads;
 
-/// How a run has ended.
+/// How a run ended.
 #[derive(Drop)]
 pub struct Finished<R, S, D> {
     pub status: u8,
-    /// What makes the files of the folder, where there is one and the workload was run.
+    /// The maker of the folder's files, if there is a folder and the workload was run.
     pub folder: Option<D>,
-    /// Why nothing, or not all, was printed, where that is so.
+    /// Why nothing, or not all, was printed, if so.
     pub failure: Option<RunFailure<R, S>>,
 }
 
-/// Reads a workload, runs its clients on threads beside a checkpointer and collapsers, over a store without pairs or with those that
-/// a folder's files are worth, and prints what they leave: how many transactions were committed and given up, how many points were taken, the file of all points, and whether the files are
-/// right by the log. It gives the status
+/// Reads a workload, runs its clients on threads concurrently with a checkpointer and collapsers, over a store without pairs or
+/// with those recovered from a folder's files, and prints the result: the number of transactions that were committed and given up,
+/// the number of points that were taken, the file of all points, and whether the files are correct by the log. Its status is
 ///
-/// - 0 where all of that was done;
-/// - 3 where the workload has a bad line, whose number is printed: nothing is run;
-/// - else 1, and a line on the error writer tells why: the workload isn't there, can't be read or is too large for memory, a
+/// - 0 if all of that was done;
+/// - 3 if the workload has a bad line, whose number is printed: nothing is run;
+/// - otherwise 1, and a line on the error writer says why: the workload doesn't exist, can't be read or is too large for memory, a
 ///   file of the folder can't be made or written, a thread can't be started, or a call was refused; or, by the folder's name, the
-///   folder can't be used, or by the names that a recovery tells, nothing can be recovered of the one that the store was to start
-///   from, or it is damaged and that isn't accepted: then nothing is run, and no file is made. Of an output that fails nothing is
-///   told. It is handed back why; where `Device` is told of the workload or of a file of that folder, and the file was opened, its
-///   reader is handed back too, which has counted the read that failed.
+///   folder can't be used, or, by the names that a recovery prints, nothing can be recovered of the folder that the store was to
+///   start from, or it is damaged and that isn't accepted: then nothing is run, and no file is made. An output that fails isn't
+///   reported. The cause is returned; if `Device` is reported of the workload or of a file of that folder, and the file was opened,
+///   its reader is returned too, which has counted the read that failed.
 ///
-/// What is damaged or lacks of the files that the store starts from is told on the error writer before the run begins. Where there
-/// is a folder for files, the base, the log and the file of each point are written to it, the log as it grows, and the folder is handed
-/// back where all of that was done.
+/// The damage and the gaps of the files that the store starts from are reported on the error writer before the run begins. If there
+/// is a folder for files, the base, the log and the file of each point are written to it, the log as it grows, and the folder is
+/// returned if all of that was done.
 ///
-/// The seed is that of the hashes of the store's keys: two words given by chance (`RandomState::new`), so that no workload can
-/// pick keys that all share a chain.
+/// The seed of the hashes of the store's keys is a random 128-bit number (`RandomState::new`), so that no workload can pick keys
+/// that all share a chain.
 pub fn run_workload<
     R: Read + Drop,
     S: Read + Drop,
@@ -97,7 +97,7 @@ pub fn run_workload<
     }
 }
 
-// What is printed of the workload goes out; the status.
+// Writes the output of the workload; gives the status.
 fn run_opened<
     R: Read + Drop,
     S: Read + Drop,
@@ -132,7 +132,7 @@ fn run_opened<
     })
 }
 
-// What is to be printed of the workload: the first bad line, or what its run left; and what is left of the folder.
+// The output of the workload: the first bad line, or the result of its run; and the folder, if it is left.
 fn answer<
     R: Read + Drop,
     S: Read + Drop,
@@ -174,7 +174,7 @@ fn answer<
     }
 }
 
-// Runs the workload over a new store, which starts from the base and has room for so many keys. Where the base has more of them no
+// Runs the workload over a new store, which starts from the base and has room for this many keys. If the base has more of them no
 // file is made.
 fn run_read<
     F: Write + Drop + Send,
@@ -205,7 +205,7 @@ fn run_read<
     run_store::<Brand, F, D, G, H>(rt, alloc, seed, opened, workload, crew, folder, log)
 }
 
-// Begins the files of the folder, where there is one. A file of which a call failed is handed back.
+// Begins the files of the folder, if there is one. A file of which a call failed is returned.
 fn begin<F: Write + Drop, D: NewFiles<F> + Drop>(
     folder: Option<D>,
     base: &Base,

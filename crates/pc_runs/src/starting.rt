@@ -10,8 +10,8 @@ use pc_types::Tally;
 use std::alloc::Global;
 use std::io::{Read, Write};
 
-/// The base of a run. What a folder's files lack is told on the error writer, also where they are damaged and that isn't accepted;
-/// where nothing is recovered of them nothing is told yet. Where there is no base, the failure says why.
+/// The base of a run. The gaps of a folder's files are reported on the error writer, even if they are damaged and that isn't
+/// accepted; if nothing is recovered of them nothing is reported yet. If there is no base, the failure says why.
 pub fn base_of<R, S: Read + Drop, E: Write>(
     alloc: Global,
     start: Start<S>,

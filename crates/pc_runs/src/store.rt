@@ -1,4 +1,4 @@
-//! A store of a workload, from its opening to what it leaves.
+//! A store of a workload, from its opening to its result.
 ghost use Rattle.std.specs.Prelude.{◌≡◌, ◌≤◌, ◌<◌, ◌||◌, ◌++◌, [], All, List, length, drop, is_some, IfErr, IfOk};
 ghost use Rattle.pc_types.specs.declared.limits.TheConstants.{MOST_KEYS};
 ghost use Rattle.pc_types.specs.declared.refusal.Refusal.{Refusal};
@@ -44,7 +44,7 @@ use std::sync::Wait;
 use std::sync::atomic::AtomicU64;
 use std::thread::Threads;
 
-// What the threads leave of a store: its sessions, tickets of its files, and the folder, if there is one.
+// The remains of a store after the threads: its sessions, tickets of its files, and the folder, if there is one.
 #[derive(Drop)]
 struct EndedStore<N: StoreName, D> {
     sessions: Vec<Session<N>>,
@@ -52,13 +52,12 @@ struct EndedStore<N: StoreName, D> {
     seat: CheckpointerSeat<N>,
     // A ticket of each point whose file was written.
     written: Vec<PartTicket<N>>,
-    // Tickets that are to be joined.
+    // Tickets to join.
     joined: Vec<PartTicket<N>>,
     folder: Option<D>,
 }
 
-// Takes back what the threads had: the sessions of all clients, and the tickets of the collapsers with those of the points that
-// they left.
+// Collects the threads' results: the sessions of all clients, and the tickets of the collapsers with those of the points that they left.
 fn take_back<N: StoreName, D: Drop, R: Wait>(
     rt: &R,
     shared: &Shared<N>,
@@ -135,7 +134,7 @@ fn use_store<
     Ok((ended, written))
 }
 
-// The tickets of a run, those of points whose files were written first, and how many these are.
+// The tickets of a run, those of points whose files were written first, and the number of these.
 fn all_tickets<N: StoreName>(
     written: Vec<PartTicket<N>>,
     joined: Vec<PartTicket<N>>,
@@ -149,11 +148,11 @@ fn all_tickets<N: StoreName>(
     Ok((tickets, singles))
 }
 
-/// Runs the workload over the store, which has a session for each of its clients, to its close, and tells what it leaves. Where there
-/// is a folder, which has the base's file and that of the log, which is blank, the log is written to it beside the threads, and its
-/// rest once the store is closed; and so is the file of each point, once the point was taken. What goes out to such a file has to count
-/// as gone out by the store's name. The seed is that of the hashes of keys where what is left is compared with the log. It fails for
-/// nothing but what `specs/Faults` names.
+/// Runs the workload over the store, which has a session for each of its clients, to its close, and returns the result. If there is
+/// a folder, which has the base's file and that of the log, which is blank, the log is written to it concurrently with the threads,
+/// and its rest once the store is closed; the file of each point too, once the point was taken. Text that goes out to such a file
+/// must count as gone out by the store's name. The seed is that of the hashes of keys in the comparison of the result with the log.
+/// Its faults are those that `specs/Faults` names.
 pub fn run_store<
     N: StoreName + Send + Sync,
     F: Write + Drop + Send,
@@ -219,14 +218,14 @@ pub fn run_store<
     Ok((outcome, folder))
 }
 
-// What a closed store leaves.
+// The result of a closed store.
 #[derive(Drop)]
 struct Legacy {
     commits: u64,
     files: StoreReport,
 }
 
-// Tells what the closed store leaves. So many of the tickets are of a point whose file was written.
+// The result of the closed store. The first `singles` tickets are each of a point whose file was written.
 fn leave<N: StoreName, G: Gate + Sync, R: Threads + Wait + Sync>(
     rt: &R,
     alloc: Global,
@@ -275,8 +274,8 @@ fn files_of<N: StoreName>(
     Ok(files)
 }
 
-// Writes the rest of the log, of which so many entries were handed out and written, and the file is whole; where there is one. Where
-// a call of it failed it is handed back.
+// Writes the rest of the log, of which the given number of entries were handed out and written, and makes the file whole, if there
+// is one. If a call of it failed it is returned.
 fn finish_log<N: StoreName, F: Write + Drop, D: NewFiles<F> + Drop>(
     closed: &Closed<N>,
     folder: Option<D>,

@@ -23,7 +23,7 @@ use Rattle.pc_script.specs.declared.run.ScriptFault.{ScriptFault}
 use Rattle.pc_script.specs.declared.run.ScriptFault.TheVariants as fault
 use Rattle.pc_texts.proofs.Begun.{appends_kept, begins_kept, whole_begins}
 
--- a beginning of what some first lines print went out
+-- a prefix of what some first lines print went out
 abbrev pub BeginsAnswers : Setup → List ℕ → Option (List ℕ) → Option (List ℕ) → Type 0
 BeginsAnswers setup script old new = (text : List ℕ) × AppendsBeginning old new text × IsAnsweredInPart setup script text
 
@@ -65,7 +65,7 @@ module _ {R T : Type 0} (remaining : R → Option (List ℕ)) (contents : T → 
     (read : IfOk opened (λ reader. IfSome (remaining reader) (λ script. bytes ≡ script))) (answered : Result Status Refusal)
     (all : IfOk answered (λ status. (text : List ℕ) × Appends (contents (inner_of a)) (contents (inner_of b)) text × IsScriptAnswered setup bytes status text))
     (kept : Keeps (contents (inner_of b)) (contents (inner_of c))) where
-  -- a beginning of what was printed of them went out
+  -- a prefix of what was printed of them went out
   pub part_of_read : IfErr answered (λ e. BeginsAnswers setup bytes (contents (inner_of a)) (contents (inner_of b))) → AnswersInPart remaining contents setup opened a c
   part_of_read in_part =
       of_read remaining (λ script. BeginsAnswers setup script (contents (inner_of a)) (contents (inner_of c))) opened bytes read (answers_begin setup bytes (contents (inner_of a)) (contents (inner_of b)) (contents (inner_of c)) answered kept all in_part)
@@ -91,7 +91,7 @@ pub not_lost : (answered : Result Status Refusal) (status : Status) → answered
 not_lost answered status is lost = let both : Ok status ≡ Err Device = sym is ∙ lost in cc
 
 module _ {T : Type 0} (a b c : Tally T) where
-  -- the output failed, while it was answered or at the flush behind it
+  -- the output failed, while it was answered or at the flush after it
   pub output_failed : (answered : Result Status Refusal) → IfErr answered (λ e. (e ≡ OutOfMemory) ⊎ (e ≡ Device)) → (answered ≡ Err Device → HasRisen (failures_of a) (failures_of b))
       → (¬ (answered ≡ Err Device) → failures_of b ≡ failures_of a) → IsUnprinted answered b c Device → HasRisen (failures_of a) (failures_of c)
   output_failed (Ok status) refusals device sound (inl both) = absurd (let other : Ok status ≡ Err Device = both.0 in cc)

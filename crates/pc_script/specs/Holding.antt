@@ -1,4 +1,4 @@
--- What a script has made, against the stage that it has come to.
+-- The state that a script has made, and the stage that it has reached.
 use Rattle.std.specs.Prelude.{◌≡◌, ◌≤◌, ⊤, ℕ, List, Bool, true, false}
 use Rattle.pc_model.specs.Maps.{len}
 use Rattle.pc_model.specs.Database.{Database}
@@ -35,6 +35,6 @@ abbrev pub IsSaid : Setup → Made → Line → Made → (List ℕ → Type 0) �
 IsSaid setup old l new Known =
     (stage : ScriptStage) → StageHolds setup old stage → (said : LineAnswer) × (next : ScriptStage) × StageHolds setup new next × AnswersAtStage setup stage l said next × Known (answer_text said)
 
--- the same where the text didn't go out whole
+-- the same if the text didn't go out whole
 abbrev pub IsSaidInPart : Setup → Made → Line → (List ℕ → Type 0) → Type 0
 IsSaidInPart setup old l Known = (stage : ScriptStage) → StageHolds setup old stage → (said : LineAnswer) × (next : ScriptStage) × AnswersAtStage setup stage l said next × Known (answer_text said)

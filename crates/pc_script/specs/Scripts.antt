@@ -1,5 +1,5 @@
--- What a script prints. Its first lines may give the base of the store; the first line of another kind ends the base,
--- and the store then stands on it. Memory may run out at any line, so this is a relation and no function.
+-- The output of a script. Its first lines may give the base of the store; the first line of another kind ends the base,
+-- and the store then starts from it. An allocation may fail at any line, so this is a relation and no function.
 use Rattle.std.specs.Prelude.{◌≡◌, ℕ, ◌⊎◌, ◌&&◌, not, nat_lt, Bool, true, false, List, [], ◌∷◌, ◌++◌, MatchBool, if◌then◌else◌, is_none, codes}
 use Rattle.std.specs.List.{list_any}
 use Rattle.pc_types.specs.declared.Reply.{Reply}
@@ -25,7 +25,7 @@ use Rattle.pc_script.specs.Views.{AnswersView}
 pub data ScriptStage : Type 0 where
   -- the base has these pairs so far
   Reading : Database → ScriptStage
-  -- the store stands on this base, after this history
+  -- the store started from this base, and represents this history
   Running : Database → History → ScriptStage
   -- the store couldn't be made
   Ended : ScriptStage
@@ -38,17 +38,17 @@ setting setup base = record { run = setup.run; base = base; sessions = setup.ses
 abbrev pub refusal_answer : Refusal → LineAnswer
 refusal_answer why = answer.Says (told.Refused why)
 
--- a new key, where the base has as many pairs as the capacity
+-- a new key, if the base has as many pairs as the capacity
 abbrev pub is_base_full : ℕ → Database → List ℕ → Bool
 is_base_full capacity base key = is_none (map_of.get base key) && not (nat_lt (map_of.len base) capacity)
 
--- a pair of the base: refused, or set; or memory ran out, and the base is as it was
+-- a pair of the base: refused, or set; or an allocation failed, and the base is as it was
 abbrev pub AnswersPair : ℕ → Database → List ℕ → List ℕ → LineAnswer → Database → Type 0
 AnswersPair capacity base key value said next =
     MatchBool (is_base_full capacity base key) ((said ≡ refusal_answer why.Full) × (next ≡ base))
     (((said ≡ answer.Says told.Ok) × (next ≡ map_of.insert base key value)) ⊎ ((said ≡ refusal_answer why.OutOfMemory) × (next ≡ base)))
 
--- a line once the store stands: an event has some legal reply, and the history grows by it; no other line changes anything
+-- a line once there is a store: an event has some legal reply, and the history grows by it; no other line changes anything
 abbrev pub AnswersLine : Setting → History → Line → LineAnswer → History → Type 0
 AnswersLine st history line.Silent said next = (said ≡ answer.Nothing) × (next ≡ history)
 AnswersLine st history line.Malformed said next = (said ≡ answer.BadLine) × (next ≡ history)
@@ -59,7 +59,7 @@ AnswersLine st history (line.Asks event) said next =
     (reply : Reply) × IsLegal st history event reply × (said ≡ answer.Says reply) × (next ≡ record { event = event; reply = reply } ∷ history)
 AnswersLine st history (line.Shows view) said next = AnswersView st history view said × (next ≡ history)
 
--- the first line after the base: the store is made and answers it, or memory ran out
+-- the first line after the base: the store is made and answers it, or an allocation failed
 abbrev pub AnswersFirst : Setup → Database → Line → LineAnswer → ScriptStage → Type 0
 AnswersFirst setup base l said next =
     ((history : History) × AnswersLine (setting setup base) [] l said history × (next ≡ Running base history)) ⊎ ((said ≡ refusal_answer why.OutOfMemory) × (next ≡ Ended))
@@ -85,7 +85,7 @@ answer_text (answer.State base) = state_text base
 answer_text (answer.Text text) = hex_line text
 answer_text (answer.Check sound) = check_line sound
 
--- the text that the lines may print one after the other, from a stage to the last one
+-- the text that the lines may print in order, from a stage to the last one
 abbrev pub Prints : Setup → ScriptStage → List (List ℕ) → List ℕ → ScriptStage → Type 0
 Prints setup stage [] text last = (text ≡ []) × (last ≡ stage)
 Prints setup stage (l ∷ lines) text last =

@@ -1,4 +1,4 @@
--- What is shown of a store.
+-- The views of a store.
 use Rattle.std.specs.Prelude.{◌≡◌, ◌⊎◌, ◌↔◌, Bool, true, IsTrue, MatchOption}
 use Rattle.pc_types.specs.declared.Refusal.TheVariants as why
 use Rattle.pc_types.specs.declared.Reply.TheVariants as told
@@ -20,20 +20,20 @@ use Rattle.pc_script.specs.declared.script.LineAnswer.TheVariants as answer
 abbrev pub base_of : Setting → BaseFile
 base_of st = record { run = st.run; point = 0; pairs = st.base }
 
--- the base with the file laid on it, or why it can't be, or that memory ran out
+-- the base with the file applied to it, or why it can't be, or that an allocation failed
 abbrev pub ShowsState : BaseFile → LineAnswer → File → Type 0
 ShowsState base said file =
     MatchOption (first_cause (lay_causes base file)) ((said ≡ answer.State (laid_file base file)) ⊎ (said ≡ answer.Says (told.Refused why.OutOfMemory))) (λ due. said ≡ answer.Says (told.Refused due))
 
--- the file's text, or that memory ran out
+-- the file's text, or that an allocation failed
 abbrev pub ShowsText : LineAnswer → File → Type 0
 ShowsText said file = (said ≡ answer.Text (part_text file)) ⊎ (said ≡ answer.Says (told.Refused why.OutOfMemory))
 
--- whether the store is what its log says, or that memory ran out
+-- whether the store is what its log says, or that an allocation failed
 abbrev pub ShowsCheck : Store → LineAnswer → Type 0
 ShowsCheck w said = ((sound : Bool) × (said ≡ answer.Check sound) × (IsTrue sound ↔ IsStoreSound w)) ⊎ (said ≡ answer.Says (told.Refused why.OutOfMemory))
 
--- where the line asks for a check, what it found of this store is shown
+-- if the line asks for a check, what it found of this store is shown
 abbrev pub ShowsItsCheck : Store → View → LineAnswer → Type 0
 ShowsItsCheck w view.Check said = ShowsCheck w said
 ShowsItsCheck w other said = Unit {0}

@@ -26,21 +26,22 @@ enum ScriptFault<R> {
     Output,
 }
 
-/// How the run of a script has ended.
+/// The outcome of a script's run.
 #[derive(Drop)]
 pub struct EndedScript<R> {
     pub status: u8,
-    /// Why the script isn't answered to its end, where that is told: it isn't there, can't be read, or is too large for memory.
+    /// Why the script isn't answered to its end, if that is reported: it isn't there, can't be read, or is too large for
+    /// memory.
     pub unread: Option<Unread<R>>,
 }
 
-/// Reads a script, answers its lines and gives the exit status: 0 where each line was answered, 3 where some line is a
-/// bad line, and else 1. Where the script isn't there, can't be read or is too large for memory, a line on the error
-/// writer tells; where the output fails, or the store can't be made for want of memory, nothing is told there. It gives 1
-/// for no other cause: the script's fault is told, the output's failures have risen, or the lines end with the store not
-/// made. Of a script that can't be read nothing went out; else at the status 1 a beginning of what its first lines print.
-/// The seed is that of the hashes of the store's keys: two words given by chance (`RandomState::new`), so that no script can
-/// pick keys that all share a chain. What may be printed doesn't depend on it.
+/// Reads a script, answers its lines and returns the exit status: 0 if each line was answered, 3 if some line is a bad line,
+/// and otherwise 1. If the script isn't there, can't be read or is too large for memory, a line on the error writer reports it;
+/// if the output fails, or the store can't be made because an allocation failed, nothing is reported there. It gives 1 for no
+/// other cause: the script's fault is reported, the output's failures have increased, or the lines end with the store not made.
+/// Of a script that can't be read nothing went out; otherwise at the status 1 a prefix of what its first lines print. The seed
+/// is that of the hashes of the store's keys: a random 128-bit number (`RandomState::new`), so that no script can pick keys
+/// that all share a chain. What may be printed doesn't depend on it.
 pub fn run_script<R: Read + Drop, W: Write, E: Write>(
     alloc: Global,
     setup: Setup,

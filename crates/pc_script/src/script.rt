@@ -1,4 +1,4 @@
-//! A script's lines are answered one after the other.
+//! A script's lines are answered in order.
 ghost use Rattle.std.specs.Prelude.{◌≡◌, ◌≤◌, ◌⊎◌, ℕ, List, [], IfOk, IfErr, IfSome, OnErr, MatchResult, if◌then◌else◌};
 ghost use Rattle.std.specs.Io.KnownBytes.{Appends};
 ghost use Rattle.pc_types.specs.Counted.{HasRisen, AppendsBeginning};
@@ -25,24 +25,24 @@ use std::alloc::Global;
 use std::hash::RandomState;
 use std::io::Write;
 
-/// How a script that was read to its end has ended.
+/// The outcome of a script that was read to its end.
 #[derive(Clone, Copy, Debug, PartialEq, Eq)]
 pub enum Status {
     /// Each line was answered.
     Done,
     /// Each line was answered, some of them as a bad line.
     BadLines,
-    /// Memory ran out where the store was to be made.
+    /// An allocation failed when the store was to be made.
     NoStore,
 }
 
-/// What is printed for a line.
+/// The output of a line.
 #[derive(Drop)]
 pub enum LineAnswer {
     Nothing,
     BadLine,
     Says(Reply),
-    /// The base with a file laid on it.
+    /// The base with a file applied to it.
     State(Base),
     /// The bytes of a file.
     Text(Items<u8>),
@@ -50,19 +50,19 @@ pub enum LineAnswer {
     Check(bool),
 }
 
-/// What the lines so far have made.
+/// The state that the lines so far have made.
 #[derive(Drop)]
 pub enum Made {
     /// The pairs of the base.
     Base(Pairs),
     /// The store.
     Store(World),
-    /// Nothing: memory ran out where the store was to be made.
+    /// Nothing: an allocation failed when the store was to be made.
     Ended,
 }
 
-/// Answers the lines of a script. A bad line doesn't end it. Refuses with `OutOfMemory` where a line can't be read for
-/// want of memory, and with `Device` exactly where the writer failed in this call; then a beginning of what some first
+/// Answers the lines of a script. A bad line doesn't end it. Refuses with `OutOfMemory` if a line can't be read for an
+/// allocation failure, and with `Device` if and only if the writer failed in this call; then a prefix of what some first
 /// lines print was written. The seed is that of the hashes of the store's keys; what may be printed doesn't depend on it.
 pub fn answer_script<W: Write>(
     alloc: Global,
@@ -237,7 +237,7 @@ fn add_pair(capacity: u32, pairs: &mut Pairs, key: Key, value: Value) -> LineAns
     }
 }
 
-// The store on the base, where memory suffices.
+// The store on the base; `None` if an allocation fails.
 fn start(alloc: Global, setup: Setup, seed: RandomState, pairs: Pairs) -> Option<World>
     requires { len pairs ≤ setup.capacity }
     ensures { IfSome result (λ world. (setting_of world ≡ setting setup pairs) × Stands world []) }
@@ -249,7 +249,7 @@ fn start(alloc: Global, setup: Setup, seed: RandomState, pairs: Pairs) -> Option
     }
 }
 
-/// Answers a line by a store that stands. A line of the base is refused with `WrongPhase`.
+/// Answers a line once there is a store. A line of the base is refused with `WrongPhase`.
 pub fn answer_stored(alloc: Global, world: &mut World, line: Line) -> LineAnswer
     ensures setting { setting_of world.new ≡ setting_of world.old }
     ensures answer { (history : History) → Stands world.old history
@@ -273,7 +273,7 @@ fn say<W: Write>(out: &mut Tally<W>, answer: LineAnswer) -> Result<(), Refusal>
     put_answer(out, &answer)
 }
 
-/// Writes an answer, with the end of its line. `Device` is answered exactly where the device failed in this call.
+/// Writes an answer, with the end of its line. Returns `Device` if and only if the device failed in this call.
 pub fn put_answer<W: Write>(out: &mut Tally<W>, answer: &LineAnswer) -> Result<(), Refusal>
     ensures { Puts W.contents out.old out.new result (answer_text answer.now) }
 {

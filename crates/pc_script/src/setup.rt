@@ -1,8 +1,8 @@
-//! What a store is made with.
+//! The setup of a store.
 ghost use Rattle.std.specs.Prelude.{◌≤◌};
 ghost use Rattle.pc_types.specs.declared.limits.TheConstants.{MOST_KEYS, MOST_SESSIONS};
 
-/// What a store is made with: its run's number; how many sessions it has, from 1 to 64; and its capacity, the greatest
+/// The setup of a store: its run's number; the number of its sessions, from 1 to 64; and its capacity, the greatest
 /// number of keys that it has room for, from 1 to 1,048,576.
 #[derive(Clone, Copy, Debug)]
 pub struct Setup {

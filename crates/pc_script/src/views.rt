@@ -1,4 +1,4 @@
-//! What a script asks to be shown of the store, which changes nothing.
+//! The views of the store that a script asks for; they change nothing.
 ghost use Rattle.std.specs.Prelude.{◌≡◌};
 ghost use Rattle.pc_model.specs.History.{History};
 ghost use Rattle.pc_engine.specs.Stands.{Stands};
@@ -31,7 +31,7 @@ pub(crate) fn answer_view(alloc: Global, world: &World, view: View) -> LineAnswe
     }
 }
 
-// The base with the file laid on it.
+// The base with the file applied to it.
 fn shown_state(alloc: Global, base: &Base, file: &Part) -> LineAnswer
     ensures { ShowsState base.now result file.now }
 {

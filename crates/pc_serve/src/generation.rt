@@ -19,7 +19,8 @@ use std::io::{BufReader, Read, Write};
 pub enum Failure {
     /// A read of the input failed.
     Input,
-    /// Memory ran out, the checkpointer was refused an event, the file of a point can't be kept, or the next generation can't begin.
+    /// An allocation failed, the checkpointer was refused an event, the file of a point can't be kept, or the next generation can't
+    /// begin.
     Refused(Refusal),
     /// The log of the generation of this number can't be opened or written.
     Log(u32, Refusal),
@@ -58,7 +59,7 @@ pub fn serve_generations<R: Read + Drop, W: Write + Drop>(
     Err(Failure::Refused(Refusal::Full))
 }
 
-// Answers the lines of the input until it ends; or else until the generation is full, and gives the next one.
+// Answers the lines of the input until it ends; or else until the generation is full, and returns the next one.
 fn serve_generation<R: Read + Drop, W: Write + Drop>(
     store: &Store<'_>,
     generation: Generation<W>,
@@ -103,7 +104,7 @@ fn answer_lines<R: Read + Drop, W: Write + Drop>(
     }
 }
 
-// Begins the generation behind this one, which starts from the pairs that are committed in its store.
+// Begins the generation after this one, which starts from the pairs that are committed in its store.
 fn next_generation<W: Write + Drop>(
     store: &Store<'_>,
     number: u32,

@@ -50,14 +50,14 @@ impl<'a> GenerationFolders<'a> {
         sync_folder(self.dir.rt, self.dir.path)
     }
 
-    // Why a call failed, which is noted.
+    // The cause of a failed call, which is noted.
     fn failed(&self, doing: Doing, path: &str, e: io::Error) -> Refusal {
         self.dir.causes.note(doing, path, e);
         why_unmade(&e)
     }
 }
 
-// What is on a disk is known to no contract.
+// No contract knows the contents of a disk.
 impl<'a> Generations for GenerationFolders<'a> {
     ghost use Rattle.std.specs.Prelude.{⊤};
 

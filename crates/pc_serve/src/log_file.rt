@@ -7,7 +7,7 @@ use std::io;
 use std::io::Write;
 use std::string::String;
 
-/// A log's file. What was written is kept when the process is killed; where it is synced, it is on the disk.
+/// A log's file. What was written is kept when the process is killed; if it is synced, it is on the disk.
 #[derive(Drop)]
 pub struct LogFile<'a> {
     file: Noted<'a, File>,
@@ -31,7 +31,7 @@ impl<'a> LogFile<'a> {
     }
 }
 
-// What is on a disk is known to no contract.
+// No contract knows the contents of a disk.
 impl<'a> LogDevice for LogFile<'a> {
     ghost use Rattle.std.specs.Prelude.{None};
 

@@ -17,7 +17,7 @@ const LOCK: &str = "lock";
 pub enum Unowned {
     /// Another process has it.
     Busy,
-    /// It has the files of a run, or a store where one is to be made of another folder.
+    /// It has the files of a run, or a store if one is to be made of another folder.
     NotEmpty,
     /// It has no generation that counts.
     NoStore,
@@ -26,7 +26,7 @@ pub enum Unowned {
 }
 
 impl Unowned {
-    /// The word that tells of it.
+    /// The word that reports it.
     pub fn word(&self) -> &'static [u8] {
         match self {
             Unowned::Busy => b"Busy",
@@ -37,15 +37,15 @@ impl Unowned {
     }
 }
 
-/// A folder that is this process's own as long as this stands, and the generation of it that counts.
+/// A folder that this process owns as long as this value lives, and the generation of it that counts.
 #[derive(Drop)]
 pub struct Owned {
     lock: File,
     pub latest: Option<u32>,
 }
 
-/// Takes the folder. Where there is none, or none with a generation that counts, it is made where that is asked for. Where a store is
-/// to be made of another folder, it may have no generation that counts.
+/// Takes the folder. If there is none, or none with a generation that counts, it is made if that is asked for. If a store is to be
+/// made of another folder, it may have no generation that counts.
 pub fn own(dir: ReadFolder<'_>, creates: bool, imports: bool) -> Result<Owned, Unowned> {
     if creates {
         make_folder(dir)?;
@@ -68,7 +68,7 @@ fn latest_in(dir: ReadFolder<'_>) -> Result<Option<u32>, Unowned> {
     }
 }
 
-// Makes the folder, where there is none of this path, and brings its name to the disk. One that is there may have no files of a run.
+// Makes the folder, if there is none of this path, and brings its name to the disk. One that is there may have no files of a run.
 fn make_folder(dir: ReadFolder<'_>) -> Result<(), Unowned> {
     let made = match fs::create_dir(dir.rt, dir.path) {
         Ok(()) => sync_folder(dir.rt, folder_of(dir.path.trim_end_matches('/'))),
@@ -98,7 +98,7 @@ fn look(dir: ReadFolder<'_>) -> Result<(), Unowned> {
     Ok(())
 }
 
-// The folder is this process's own until the file is dropped. The system lets it go where the process is killed.
+// The folder is this process's own until the file is dropped. The system lets it go if the process is killed.
 fn lock_folder(dir: ReadFolder<'_>) -> Result<File, Unowned> {
     let path = match path_in(dir.rt.alloc(), dir.path, LOCK) {
         Ok(path) => path,

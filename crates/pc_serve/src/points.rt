@@ -7,7 +7,7 @@ use pc_types::{Point, Refusal, Tally};
 use std::fs::File;
 use std::io::{BufWriter, Write};
 
-/// How many bytes of a file are written at once.
+/// The number of bytes of a file written at a time.
 const ROOM: usize = 65_536;
 
 /// The folder of a generation, in which each point has a file, which has its name once it is whole.
@@ -16,7 +16,7 @@ pub struct DiskPoints<'a> {
     pub dir: ReadFolder<'a>,
     /// The folder's path.
     pub folder: &'a str,
-    /// Whether a file is to be on the disk before it has its name.
+    /// Whether to sync a file to the disk before it gets its name.
     pub is_synced: bool,
 }
 
@@ -49,7 +49,7 @@ impl<'a> DiskPoints<'a> {
     }
 }
 
-// What is on a disk is known to no contract.
+// No contract knows the contents of a disk.
 impl<'a> PointFiles for DiskPoints<'a> {
     ghost use Rattle.std.specs.Prelude.{⊤};
 

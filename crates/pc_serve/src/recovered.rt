@@ -1,4 +1,4 @@
-//! The folder whose files are recovered where a folder is named: its own, or one in it.
+//! The folder whose files are recovered if a folder is named: its own, or one in it.
 use crate::generations::{GenerationFolders, generation_path};
 use itoa::Buffer;
 use pc_disk::{BASE, ReadFolder, path_in};
@@ -14,13 +14,13 @@ use std::string::String;
 pub struct RecoveredFolder {
     /// Its path.
     pub path: String,
-    /// The generation whose folder it is, where the folder of a served store was named.
+    /// The generation whose folder it is, if the folder of a served store was named.
     pub generation: Option<u32>,
 }
 
 impl RecoveredFolder {
-    /// The folder of this path; where that is the folder of a served store, and has no base of its own, the folder of the generation that
-    /// counts. It is an error only where memory ran out.
+    /// The folder of this path; if that is the folder of a served store, and has no base of its own, the folder of the generation that
+    /// counts. It is an error only if an allocation failed.
     pub fn find(dir: ReadFolder<'_>) -> Result<RecoveredFolder, AllocError> {
         let generation = generation_in(dir)?;
         let path = match generation {
@@ -30,7 +30,7 @@ impl RecoveredFolder {
         Ok(RecoveredFolder { path, generation })
     }
 
-    /// Tells by the line `generation N` which generation is recovered, where one is.
+    /// Prints the line `generation N` for the recovered generation, if there is one.
     pub fn tell<E: Write>(&self, errors: &mut Tally<E>) -> Result<(), Refusal> {
         match self.generation {
             Some(number) => {
@@ -42,7 +42,7 @@ impl RecoveredFolder {
     }
 }
 
-// The generation that counts, where the folder is that of a served store, and has no base of its own.
+// The generation that counts, if the folder is that of a served store, and has no base of its own.
 fn generation_in(dir: ReadFolder<'_>) -> Result<Option<u32>, AllocError> {
     let base = path_in(dir.rt.alloc(), dir.path, BASE)?;
     if fs::exists(dir.rt, base.as_str()).unwrap_or(true) {

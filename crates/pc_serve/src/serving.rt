@@ -30,7 +30,7 @@ use std::string::String;
 /// The status of a process that failed before its input ended.
 const FAILED: u8 = 1;
 
-/// How many bytes of lines are read at once at most, so that a turn has no more.
+/// How many bytes of lines are read at most at a time, so that a turn has no more.
 const ROOM: usize = 65_536;
 
 /// The greatest number of a run that is drawn.
@@ -57,12 +57,12 @@ pub fn serve_folder<'a>(rt: &'a HostRuntime, options: &'a ServeOptions<'a>) -> i
     status
 }
 
-// What is drawn at random before anything is opened.
+// The random numbers, drawn before anything is opened.
 #[derive(Clone, Copy)]
 struct Drawn {
     // The seed of the hashes of its stores.
     seed: RandomState,
-    // The number of the run of a first generation; it is drawn where none was asked for.
+    // The number of the run of a first generation; it is drawn if none was asked for.
     run: u32,
 }
 
@@ -88,7 +88,7 @@ fn run_of(drawn: u64) -> u32
     1 + (drawn % u64::from(MOST_DRAWN)) as u32
 }
 
-// Tells why the folder isn't this process's own.
+// Reports why the folder isn't this process's own.
 fn tell_unowned(dir: ReadFolder<'_>, options: &ServeOptions<'_>, why: Unowned) {
     let explainer = Explainer {
         rt: dir.rt,
@@ -101,14 +101,14 @@ fn tell_unowned(dir: ReadFolder<'_>, options: &ServeOptions<'_>, why: Unowned) {
     let _ = report_words(options.dir.as_bytes(), why.word(), &mut errors);
 }
 
-/// A store that is to be served.
+/// A store to serve.
 #[derive(Drop)]
 pub struct Store<'a> {
     pub dir: ReadFolder<'a>,
     pub options: &'a ServeOptions<'a>,
     drawn: Drawn,
     latest: Option<u32>,
-    // The folder from whose state it starts; its path is empty where there is none.
+    // The folder from whose state it starts; its path is empty if there is none.
     from: &'a RecoveredFolder,
 }
 
@@ -123,7 +123,7 @@ fn serve_owned<'a>(
     serve_told(store_of(dir, options, drawn, latest, &from))
 }
 
-// Serves the store, and tells its faults; the status.
+// Serves the store, and reports its faults; the status.
 fn serve_told<'a>(store: Store<'a>) -> io::Result<u8> {
     let explainer = Explainer {
         rt: store.dir.rt,
@@ -140,7 +140,7 @@ fn serve_told<'a>(store: Store<'a>) -> io::Result<u8> {
 }
 
 // The folder from whose state the store starts: that of the generation that counts, or else the one that is imported; without a path
-// where there is neither.
+// if there is neither.
 fn start_of(
     dir: ReadFolder<'_>,
     options: &ServeOptions<'_>,
@@ -163,7 +163,7 @@ fn start_of(
     })
 }
 
-// What its faults are about.
+// The subject of its faults.
 fn about<'a>(options: &ServeOptions<'_>, from: &'a str) -> About<'a> {
     if from.is_empty() {
         About::Run
@@ -206,7 +206,7 @@ fn serve_from<E: Write>(store: &Store<'_>, errors: &mut Tally<E>) -> io::Result<
     }
 }
 
-// The base from which the store starts: what the folder is worth from whose state it does, or no pairs.
+// The base from which the store starts: the state recovered from the given folder, or no pairs.
 fn base_of<'a, E: Write>(
     store: &Store<'a>,
     errors: &mut Tally<E>,
@@ -231,7 +231,7 @@ fn base_of<'a, E: Write>(
     recover_base(alloc, folder, store.options.accepts_damage, errors)
 }
 
-/// Opens a store over its base, and begins the generation behind the one that counts.
+/// Opens a store over its base, and begins the generation after the one that counts.
 pub fn open(store: &Store<'_>, latest: Option<u32>, base: Base) -> Result<OpenedStore, Refusal>
     requires { base.point ≡ 0 }
     ensures { IfOk result (λ opened. Stands opened.world []) }
@@ -302,7 +302,7 @@ fn put_ready<W: Write>(world: &World, out: &mut Tally<W>) -> Result<(), Refusal>
     }
 }
 
-// Tells why the process ended before its input did; the status. Of a fault of the output it tells nothing.
+// Reports why the process ended before its input did; the status. A fault of the output isn't reported.
 fn tell_failure<E: Write>(
     store: &Store<'_>,
     failure: Failure,

@@ -1,4 +1,4 @@
-//! Lines that somebody types at a terminal.
+//! Lines that a user types at a terminal.
 ghost use Rattle.std.specs.Prelude.{◌≡◌, ◌↔◌, Some, IfOk, IfSome, IsSome, IsTrue};
 ghost use Rattle.pc_lines.specs.declared.lines.Line.TheVariants.{Malformed};
 ghost use Rattle.pc_reasons.specs.Scripts.{script_fault};
@@ -13,17 +13,17 @@ use std::alloc::Global;
 use std::io;
 use std::io::{IsTerminal, Read, Write};
 
-/// What stands on standard error before each line that is typed.
+/// The prompt on standard error before each line that is typed.
 const PROMPT: &[u8] = b"> ";
 
-/// Standard input. Where it is a terminal a prompt stands on standard error before each line, and behind a bad line why it is one;
-/// else nothing does.
+/// Standard input. If it is a terminal a prompt is printed on standard error before each line, and after a bad line the reason why
+/// it is bad; otherwise nothing is.
 #[derive(Drop)]
 pub struct Typed<'a, R> {
     inner: R,
     rt: &'a HostRuntime,
     is_terminal: bool,
-    // What was read since the last prompt.
+    // The bytes read since the last prompt.
     line: Vec<u8>,
 }
 
@@ -38,7 +38,7 @@ impl<'a, R> Typed<'a, R> {
         }
     }
 
-    // Shows the prompt, where a line begins, and before it why the last one is bad, if it is. All of its answers were sent before.
+    // Shows the prompt, when a line begins, and before it why the last one is bad, if it is. All of its answers were sent before.
     fn prompt(&mut self) {
         if !self.line.is_empty() && self.line.last() != Some(&b'\n') {
             return;
@@ -73,7 +73,7 @@ impl<'a, R: Read> Read for Typed<'a, R> {
     }
 }
 
-// Tells of each of the lines that is bad why it is one.
+// Reports why a line is bad.
 fn explain_lines<W: Write>(alloc: Global, lines: &[u8], out: &mut Tally<W>) -> Result<(), Refusal> {
     for line in lines.split(|byte| *byte == b'\n') {
         if let Some(fault) = line_fault(alloc, line)? {

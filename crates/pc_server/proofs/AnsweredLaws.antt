@@ -42,7 +42,7 @@ abbrev first : List ℕ → ℕ
 first [] = 0
 first (b ∷ bs) = b
 
--- and the one behind it
+-- and the one after it
 abbrev second : List ℕ → ℕ
 second [] = 0
 second (b ∷ bs) = first bs
@@ -249,7 +249,7 @@ module _ (st : Setting) (after : History) (n : ℕ) (fits : n < 2 ^ 64) (few : l
   request_tells before request.Stats text x (t, is) e = other text x 101 (ap (λ u. first (u ++ x)) t) (λ same. omega (arith, same)) e
   request_tells before request.Quit text x (t, is) e = inl t
 
--- a line that stands first in the answers of some acts is that of a commit
+-- a line that comes first in the answers of some acts is that of a commit
 acts_tell : (st : Setting) (from to : History) (acts : List Act) (n : ℕ) (x y : List ℕ) → n < 2 ^ 64 → length (log_of to) < 2 ^ 64 → Lead st from acts to → answers_of acts ++ x ≡ committed_line n ++ y
     → (answers_of acts ≡ []) ⊎ IsCommitEntry (log_of to) n
 acts_tell st from to [] n x y fits few led e = inl refl

@@ -204,7 +204,7 @@ abbrev IsNoPart : Reply → Type 0
 IsNoPart (told.PartDone point file entries) = ⊥
 IsNoPart other = ⊤
 
--- no file is told of
+-- no file is reported
 abbrev IsQuiet : Result Turned Refusal → Type 0
 IsQuiet (Ok (turned.Shelved file)) = ⊥
 IsQuiet other = ⊤

@@ -28,7 +28,7 @@ one_entry (Moves to point) h = omega arith
 one_entry (Shelves point) h = omega arith
 one_entry other h = omega arith
 
--- where the log has no place left, the effect adds none
+-- if the log has no place left, the effect adds none
 abbrev Keeps : History → Effect → Type 0
 Keeps h e = log_is_full h ≡ true → entries_by e h ≡ []
 
@@ -43,7 +43,7 @@ not_yet_idle count = by (eqb count 0)
     by true = tt
     by false = λ event. not_yet_does_nothing event count
 
--- the causes with that of a full log behind them
+-- the causes with that of a full log after them
 abbrev with_full : List (Bool × Refusal) → History → List (Bool × Refusal)
 with_full causes h = causes ++ (log_is_full h, why.LogFull) ∷ []
 
@@ -54,7 +54,7 @@ module _ (st : Setting) (h : History) where
   idle_keeps : (event : Event) (reply : Reply) → IsIdle reply → Keeps h (effect_of event reply)
   idle_keeps event reply idle = subst (Keeps h) (sym (idle event)) (λ full. refl)
 
-  -- a reply that is certain does nothing, and where none is the log has a place
+  -- a reply that is certain does nothing, and if none is the log has a place
   placed : (event : Event) (reply : Reply) → IsIdleIfAny (certain st h event) → (certain st h event ≡ None → log_is_full h ≡ false) → IsLegal st h event reply → Keeps h (effect_of event reply)
   placed event reply idle room legal = by (settled (certain st h event) (Answers st h event reply) reply idle legal)
     where

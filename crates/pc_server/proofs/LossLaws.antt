@@ -191,7 +191,7 @@ module _ (law : EveryCutOfAWorldIsRecovered) {T U : Type 0} (written keeps : T �
     λ base parts log back. loses_none law written keeps contents before sent lag gone turn at history device answers first holds st base parts log known cut (subst (HasOnlyFiles first holds) (sym there) only) none back,
   )
 
-  -- and where all was sent
+  -- and if all was sent
   pub all_lose_none : (service : Service T U) (files : List File) → contents (inner_of service.out) ≡ Some (before ++ sent)
       → HasStopped written keeps contents (Some (header_text st.run)) (Some before) input st lag left files service stopped ⊎ EndsServed written keeps contents (Some (header_text st.run)) (Some before) input st lag files service.log (inner_of service.out)
       → HasOnlyFiles first holds files → LosesNoAnswer holds (written service.log) (keeps service.log) sent input st lag

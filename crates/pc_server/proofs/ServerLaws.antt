@@ -66,7 +66,7 @@ due_is_checkpoint pace Complete = refl
 awaits_on : (st : Setting) (s : ℕ) (step : Step) (h : History) → is_checkpoint step.event ≡ true → awaits st s h ≡ awaits st s (step ∷ h)
 awaits_on st s step h e = sym (ap (λ b. cond b (awaits st s h) (waits_after st s (step ∷ h) && ((is_wait step.reply && (s == session_of step.event)) || awaits st s h))) e)
 
--- the later history's log has more behind that of the earlier one
+-- the later history's log has more after that of the earlier one
 abbrev pub Extends : History → History → Type 0
 Extends before after = (more : List Entry) × (log_of after ≡ log_of before ++ more)
 
@@ -211,19 +211,19 @@ pub puts_ok : (old new : Tally (Vec ℕ)) (result : Result (Unit {0}) Refusal) (
 puts_ok old new (Ok u) text other same puts = subst (λ t. Puts items_known old new (Ok tt) t) same puts
 puts_ok old new (Err e) text other same puts = tt
 
--- a request that asks no event was answered, where that has succeeded
+-- a request that asks no event was answered, if that has succeeded
 pub put_told_ok : (st : Setting) (gone turn : List Act) (at history : History) (old : Server) (answers : Tally (Vec ℕ)) (result : Result (Unit {0}) Refusal) (text : List ℕ) (asked : Request) → Stays st gone at turn history old
     → AnswersRequest st history asked text history → OnOk result (Puts items_known old.answers answers (Ok tt) text) → OnOk result (Told st gone at turn history old asked (after_answer old old.served answers old.pace old.counts))
 put_told_ok st gone turn at history old answers (Ok u) text asked stays told puts = put_told st gone turn at history old answers (Ok u) text asked stays told puts
 put_told_ok st gone turn at history old answers (Err e) text asked stays told puts = tt
 
--- the same numbers are told by the same line
+-- the same numbers are printed by the same line
 same_stats : {a b c d e f p q r s t u : ℕ} → a ≡ p → b ≡ q → c ≡ r → d ≡ s → e ≡ t → f ≡ u → stats_line a b c d e f ≡ stats_line p q r s t u
 same_stats {a} {b} {c} {d} {e} {f} {p} {q} {r} {s} {t} {u} one two three four five six =
     ap (λ n. stats_line n b c d e f) one ∙ (ap (λ n. stats_line p n c d e f) two ∙ (ap (λ n. stats_line p q n d e f) three
     ∙ (ap (λ n. stats_line p q r n e f) four ∙ (ap (λ n. stats_line p q r s n f) five ∙ ap (stats_line p q r s t) six))))
 
--- the numbers that are told
+-- the numbers that are printed
 pub stats_told : (st : Setting) (gone turn : List Act) (at history : History) (old : Server) → Stays st gone at turn history old
     → stats_line (length old.served.world.log) old.counts.commits (length old.served.world.shelf) (open_now old.served.world) old.counts.bytes (committed_in old.served.world) ≡ stats_of st history
 stats_told st gone turn at history old stays =
@@ -235,7 +235,7 @@ stats_told st gone turn at history old stays =
     ap (λ log. len (after old.served.world.base.pairs log)) stays.serves.stands.parts.log ∙ ap (λ (s : Setting). len (after s.base (log_of history))) stays.serves.setting in
     same_stats entries commits points opened (stays.counts.1) pairs
 
--- where the log has no more than before, no commit counts
+-- if the log has no more than before, no commit counts
 pub same_pace : (pace : Pace) (n : ℕ) → pace ≡ paced pace n n
 same_pace pace n = by (nat_lt n n) refl
   where
@@ -250,7 +250,7 @@ pub always_ok : {X E P : Type 0} (r : Result X E) → P → OnOk r P
 always_ok (Ok x) p = p
 always_ok (Err e) p = tt
 
--- acts behind others
+-- acts after others
 pub lead_on : (st : Setting) (start at history : History) (gone turn : List Act) → Lead st start gone at → Lead st at turn history → Lead st start (turn ++ gone) history
 lead_on st start at history gone [] before e = subst (Lead st start gone) (sym e) before
 lead_on st start at history gone (Answered line text ∷ turn) before (between, led, told) = (between, lead_on st start at between gone turn before led, told)
@@ -263,7 +263,7 @@ same_ends written kept contents entries log lag sent answers before after log_ol
     subst (λ l. TurnEnds written kept contents l lag answers before after log_old log_new out_old out_new result) same
     (subst (λ t. TurnEnds written kept contents entries lag t before after log_old log_new out_old out_new result) told ends)
 
--- where the log went out, no more entries aren't kept than the lag
+-- if the log went out, at most as many entries as the lag are not kept
 pub kept_enough : {T : Type 0} (written kept : T → Option (List ℕ)) (log : List Entry) (lag before after : ℕ) (old new : T) → IsLogOut written kept log lag before after old new true → length log ≤ after + lag
 kept_enough written kept log lag before after old new out = by (is_due lag before log) refl out
   where
@@ -271,7 +271,7 @@ kept_enough written kept log lag before after old new out = by (is_due lag befor
     by true e (kept, all) = omega (arith, all)
     by false e (same, none) = grind (arith, nat_tests, e, none)
 
--- behind a whole turn no more entries aren't kept than the lag
+-- after a whole turn at most as many entries as the lag are not kept
 pub turn_keeps : {T U : Type 0} (written kept : T → Option (List ℕ)) (contents : U → Option (List ℕ)) (log : List Entry) (answers : List ℕ) (before after : ℕ) (log_old log_new : T) (out_old out_new : Tally U) (result : TurnEnd) (lag : ℕ)
     → TurnEnds written kept contents log lag answers before after log_old log_new out_old out_new result → result ≡ end.Whole → length log ≤ after + lag
 turn_keeps written kept contents log answers before after log_old log_new out_old out_new result lag ends whole =
@@ -299,7 +299,7 @@ lead_extends st before after [] e = same_extends before after e
 lead_extends st before after (Answered line text ∷ acts) (between, led, told) = extends_on before between after (lead_extends st before between acts led) (answer_extends st between after (request_of line) text told)
 lead_extends st before after (WentOn step ∷ acts) (between, led, is, legal, e) = extends_on before between after (lead_extends st before between acts led) (one_more between after step e)
 
--- the answers of acts behind others
+-- the answers of acts after others
 pub answers_on : (gone turn : List Act) → answers_of (turn ++ gone) ≡ answers_of gone ++ answers_of turn
 answers_on gone [] = sym (append-nil (answers_of gone))
 answers_on gone (Answered line text ∷ turn) = ap (λ t. t ++ text) (answers_on gone turn) ∙ append_assoc (answers_of gone) (answers_of turn) text

@@ -31,13 +31,13 @@ use Rattle.pc_server.specs.declared.server.Server.{Server}
 use Rattle.pc_server.specs.declared.service.Service.{Service}
 use Rattle.pc_server.proofs.ServerLaws.{Extends, answer_extends, answers_on, kept_enough, lead_extends, lead_on, step_extends}
 
--- all of a text is a beginning of it
+-- all of a text is a prefix of it
 all_begins : (a b : Option (List ℕ)) (x : List ℕ) → Appends a b x → AppendsBeginning a b x
 all_begins None b x p = tt
 all_begins (Some a) None x p = absurd p
 all_begins (Some a) (Some b) x p = (length x, omega arith, p ∙ ap (λ t. a ++ t) (sym (take_all (length x) x (omega arith))))
 
--- what was appended is a beginning of a longer text
+-- what was appended is a prefix of a longer text
 appended_begins : (a b : Option (List ℕ)) (x y : List ℕ) → Appends a b x → AppendsBeginning a b (x ++ y)
 appended_begins None b x y p = tt
 appended_begins (Some a) None x y p = absurd p
@@ -60,7 +60,7 @@ less_grown a b x y (between, p, q) = by a between p q
 first_stay : (count : ℕ) (before after : History) → Extends before after → count ≤ length (log_of before) → first_text count (log_of before) ≡ first_text count (log_of after)
 first_stay count before after (more, e) within = ap (flat_map entry_text) (sym (take-append-le count (log_of before) more within) ∙ ap (take count) (sym e))
 
--- the first entries, and those behind them
+-- the first entries, and those after them
 all_entries : (count : ℕ) (log : List Entry) → first_text count log ++ rest_text count log ≡ first_text (length log) log
 all_entries count log = sym (flat_map-append entry_text (take count log) (drop count log)) ∙ ap (flat_map entry_text) (take-append-drop count log ∙ sym (take_all (length log) log (omega arith)))
 
@@ -73,7 +73,7 @@ take_begins zero xs ys = ([], refl)
 take_begins (suc n) [] ys = (take (suc n) ys, refl)
 take_begins (suc n) (x ∷ xs) ys = let r = take_begins n xs ys in (r.0, ap (λ t. x ∷ t) r.1)
 
--- the first entries of an earlier log are a beginning of the first ones of a later one
+-- the first entries of an earlier log are a prefix of the first ones of a later one
 first_begin : (count : ℕ) (before after : History) → Extends before after → (rest : List ℕ) × (first_text count (log_of after) ≡ first_text count (log_of before) ++ rest)
 first_begin count before after (more, e) =
     let r = take_begins count (log_of before) more in
@@ -150,7 +150,7 @@ module _ {T U : Type 0} (written keeps : T → Option (List ℕ)) (contents : U 
         kept = logged.1;
       }
 
-  -- of a log some first entries are written, so a beginning of it
+  -- of a log some first entries are written, so a prefix of it
   begun_log : (count : ℕ) (entries : List Entry) (device : T) → Appends log (written device) (first_text count entries) → AppendsBeginning log (written device) (entries_text entries)
   begun_log count entries device p =
       subst (AppendsBeginning log (written device)) (two_pieces count entries) (appended_begins log (written device) (first_text count entries) (rest_text count entries) p)

@@ -36,7 +36,7 @@ all_first : (input : Option (List ℕ)) (lines : List (List ℕ)) → AreAllLine
 all_first None lines all = tt
 all_first (Some text) lines all = ([], all ∙ sym (append-nil lines))
 
--- the lines of acts behind others
+-- the lines of acts after others
 lines_on : (gone turn : List Act) → lines_of (turn ++ gone) ≡ lines_of gone ++ lines_of turn
 lines_on gone [] = sym (append-nil (lines_of gone))
 lines_on gone (Answered line text ∷ turn) = ap (λ l. l ++ line ∷ []) (lines_on gone turn) ∙ append_assoc (lines_of gone) (lines_of turn) (line ∷ [])
@@ -82,7 +82,7 @@ module _ {T U : Type 0} (written keeps : T → Option (List ℕ)) (contents : U 
         → TurnSent gone at turn history before new result → HasSent written keeps contents log out st lag lines files new
     sent_whole gone turn at history lines before new result u these same there is sent = (turn ++ gone, history, subst (TurnSent gone at turn history before new) is sent, these, same, there)
 
-    -- or cut off
+    -- or truncated
     pub sent_part : (gone turn : List Act) (at history : History) (lines : List (List ℕ)) (before : ℕ) (new : Service T U) (result : Result (Unit {0}) CutOff) (why : CutOff) → lines_of (turn ++ gone) ≡ lines → before ≡ lag → shelf st.run history ≡ files → result ≡ Err why
         → TurnSent gone at turn history before new result → EndsWithin written keeps contents log out st lag lines files new.log (inner_of new.out)
     sent_part gone turn at history lines before new result why these same there is sent = by (subst (TurnSent gone at turn history before new) is sent)
@@ -198,7 +198,7 @@ module _ {T U : Type 0} (written keeps : T → Option (List ℕ)) (contents : U 
       abbrev pub LinesOutcome : Service T U → Result Stopped ServeFault → Type 0
       LinesOutcome new result = MatchResult result (λ s. WithFiles first now (λ files. StopsAt written keeps contents log out input st lag left files new s)) (λ _. WithSomeFiles first now (λ files. EndsServed written keeps contents log out input st lag files new.log (inner_of new.out)))
 
-      -- what is served where no more lines are answered, and what is left once all answers are sent
+      -- what is served if no more lines are answered, and what is left once all answers are sent
       abbrev pub Closes : Service T U → Stopped → Type 0
       Closes new s = (files : List File) × (lines : List (List ℕ)) × AreFirstLines input lines × Serving written keeps contents log out st lag lines files new × HasAllFiles now files × HasOnlyFiles first now files
           × ((later : Service T U) → HasSent written keeps contents log out st lag lines files later → HasStopped written keeps contents log out input st lag left files later s)
@@ -218,7 +218,7 @@ module _ {T U : Type 0} (written keeps : T → Option (List ℕ)) (contents : U 
       all_sent lines files new result s u is all only stops sent =
           (files, stops new (subst (λ r. MatchResult r (λ _. HasSent written keeps contents log out st lag lines files new) (λ _. EndsWithin written keeps contents log out st lag lines files new.log (inner_of new.out))) is sent), all, only)
 
-      -- or cut off
+      -- or truncated
       pub last_cut : (lines : List (List ℕ)) (files : List File) (new : Service T U) (result : Result (Unit {0}) ServeFault) (why : ServeFault) → result ≡ Err why → AreFirstLines input lines → HasOnlyFiles first now files
           → MatchResult result (λ _. HasSent written keeps contents log out st lag lines files new) (λ _. EndsWithin written keeps contents log out st lag lines files new.log (inner_of new.out))
           → WithSomeFiles first now (λ files. EndsServed written keeps contents log out input st lag files new.log (inner_of new.out))

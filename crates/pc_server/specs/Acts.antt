@@ -1,4 +1,4 @@
--- What a process that serves has done, and what it has answered.
+-- The acts of a process that serves, and its answers.
 use Rattle.std.specs.Prelude.{◌≡◌, ◌+◌, ◌-◌, ◌^◌, min, ℕ, Bool, true, false, List, [], ◌∷◌, ◌++◌, codes, decimal, length}
 use Rattle.pc_types.specs.declared.Entry.{Entry}
 use Rattle.pc_types.specs.declared.Entry.TheVariants.{Commit, Token}
@@ -27,7 +27,7 @@ abbrev pub is_quit : Request → Bool
 is_quit request.Quit = true
 is_quit other = false
 
--- the line that tells the number of the run
+-- the line with the number of the run
 abbrev pub run_line : ℕ → List ℕ
 run_line run = codes "run " ++ (decimal run ++ codes "\n")
 
@@ -42,7 +42,7 @@ commits_in [] = 0
 commits_in (Commit session writes ∷ log) = commits_in log + 1
 commits_in (Token phase point ∷ log) = commits_in log
 
--- how many bytes the log's text has, or the greatest number of 64 bits, where it has more
+-- how many bytes the log's text has, or the greatest number of 64 bits, if it has more
 abbrev pub log_size : ℕ → List Entry → ℕ
 log_size run log = min (length (log_text run log)) (2 ^ 64 - 1)
 
@@ -55,7 +55,7 @@ abbrev pub stats_line : ℕ → ℕ → ℕ → ℕ → ℕ → ℕ → List ℕ
 stats_line entries commits points open_sessions bytes pairs =
     codes "entries=" ++ (decimal entries ++ (codes " commits=" ++ (decimal commits ++ (codes " points=" ++ (decimal points ++ (codes " open=" ++ (decimal open_sessions ++ (codes " bytes=" ++ (decimal bytes ++ (codes " pairs=" ++ (decimal pairs ++ codes "\n")))))))))))
 
--- the line that tells what was done so far, in numbers
+-- the line with the counts so far
 abbrev pub stats_of : Setting → History → List ℕ
 stats_of st history = stats_line (length (log_of history)) (commits_in (log_of history)) (length (shelf st.run history)) (open_after st history) (log_size st.run (log_of history)) (len (contents st.base history))
 
@@ -66,7 +66,7 @@ AnswersRequest st before request.Run text after = (text ≡ run_line st.run) × 
 AnswersRequest st before request.Stats text after = (text ≡ stats_of st before) × (after ≡ before)
 AnswersRequest st before request.Quit text after = (text ≡ []) × (after ≡ before)
 
--- the acts, of which the last stands first, lead from the one history to the other
+-- the acts, of which the last comes first, lead from the one history to the other
 abbrev pub Lead : Setting → History → List Act → History → Type 0
 Lead st before [] after = after ≡ before
 Lead st before (Answered line text ∷ acts) after = (between : History) × Lead st before acts between × AnswersRequest st between (request_of line) text after

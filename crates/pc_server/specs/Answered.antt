@@ -1,4 +1,4 @@
--- What is recovered of a process that served: nothing that was answered is lost.
+-- The recovery of a process that served: nothing that was answered is lost.
 use Rattle.std.specs.Prelude.{◌≡◌, ◌≤◌, ◌<◌, ◌+◌, ◌^◌, ℕ, List, [], ◌∷◌, ◌++◌, codes, length, take, Option, Some, All, ◌⊎◌, MatchResult}
 use Rattle.pc_types.specs.Counted.{AppendsBeginning}
 use Rattle.pc_types.specs.declared.Entry.{Entry}
@@ -17,11 +17,11 @@ use Rattle.pc_turn.specs.Devices.{Grows}
 use Rattle.pc_server.specs.Acts.{Act, Lead, answers_of, lines_of}
 use Rattle.pc_server.specs.Inputs.{AreFirstLines}
 
--- the line that tells of the commit with this number
+-- the line of the commit with this number
 abbrev pub committed_line : ℕ → List ℕ
 committed_line number = reply_text (told.Committed number) ++ codes "\n"
 
--- that line went out whole: behind the answers of some first acts the bytes that were sent go on with it
+-- that line went out whole: after the answers of some first acts the bytes that were sent go on with it
 abbrev pub IsAnswered : List Act → List ℕ → ℕ → Type 0
 IsAnswered acts sent number = (later earlier : List Act) × (rest : List ℕ) × (acts ≡ later ++ earlier) × (sent ≡ answers_of earlier ++ (committed_line number ++ rest))
 
@@ -36,8 +36,8 @@ pub record KeepsAnswered (st : Setting) (lag : ℕ) (acts : List Act) (sent : Li
   pub pairs : found.pairs ≡ after st.base (take first log)
   pub answered : (number : ℕ) → number < 2 ^ 64 → IsAnswered acts sent number → IsCommitEntry log number × (number ≤ first + lag)
 
--- What came back: a text of the base, texts that the points' files have, or none of the run, and of the log all that was kept, and no more
--- than was written.
+-- The files that came back: a text of the base, texts that the points' files have, or none of the run, and of the log all that was kept,
+-- and no more than was written.
 pub record CameBackServed (st : Setting) (holds : ℕ → List ℕ → Type 0) (written kept : Option (List ℕ)) (base : List ℕ) (parts : List (List ℕ)) (log : List ℕ) : Type 0 where
   pub base_is : IsBaseText base (start_of st)
   pub base_fits : IsBaseFile (start_of st)
@@ -45,7 +45,7 @@ pub record CameBackServed (st : Setting) (holds : ℕ → List ℕ → Type 0) (
   pub all_kept : Grows kept (Some log)
   pub as_written : Grows (Some log) written
 
--- There is a history that answers some first lines of the input; of its answers a beginning was sent, and nothing else; and whatever came
+-- There is a history that answers some first lines of the input; of its answers a prefix was sent, and nothing else; and whatever came
 -- back, recovery gives each commit that was answered, but for the last entries of the log, as many as the lag.
 abbrev pub LosesNoAnswer : (ℕ → List ℕ → Type 0) → Option (List ℕ) → Option (List ℕ) → List ℕ → Option (List ℕ) → Setting → ℕ → Type 0
 LosesNoAnswer holds written kept sent input st lag =

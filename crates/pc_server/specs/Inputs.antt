@@ -1,4 +1,4 @@
--- How far the input of a process that serves was read and answered.
+-- The progress of reading and answering the input of a process that serves.
 use Rattle.std.specs.Prelude.{◌≡◌, ◌⊎◌, ⊤, ℕ, Bool, true, false, List, [], ◌∷◌, ◌++◌, Option, Some, None}
 use Rattle.pc_model.specs.Files.{File, shelf}
 use Rattle.pc_model.specs.History.{History}
@@ -38,7 +38,7 @@ AreAllLines (Some text) lines = whole_lines text ≡ lines
 abbrev pub AskForEnd : List (List ℕ) → Type 0
 AskForEnd lines = (front : List (List ℕ)) × (line : List ℕ) × (lines ≡ front ++ line ∷ []) × (is_quit (request_of line) ≡ true)
 
--- nothing more is to be answered behind these lines of the input
+-- nothing more is to be answered after these lines of the input
 abbrev pub IsEnd : Option (List ℕ) → List (List ℕ) → Type 0
 IsEnd input lines = AreFirstLines input lines × (AreAllLines input lines ⊎ AskForEnd lines)
 
@@ -52,8 +52,8 @@ abbrev pub HasSent : {T U : Type 0} → (T → Option (List ℕ)) → (T → Opt
 HasSent written keeps contents log out st lag lines files service =
     (gone : List Act) × (at : History) × Holds written keeps contents log out st gone at [] at service × (lines_of gone ≡ lines) × (service.server.lag ≡ lag) × (shelf st.run at ≡ files)
 
--- Some first ones of these lines were answered, and of their answers a beginning was sent, and nothing else; of the log as it was then no
--- more entries aren't kept than the lag.
+-- Some first ones of these lines were answered, and of their answers a prefix was sent, and nothing else; of the log as it was then at
+-- most as many entries as the lag are not kept.
 abbrev pub EndsWithin : {T U : Type 0} → (T → Option (List ℕ)) → (T → Option (List ℕ)) → (U → Option (List ℕ)) → Option (List ℕ) → Option (List ℕ) → Setting → ℕ → List (List ℕ) → List File → T → U → Type 0
 EndsWithin written keeps contents log out st lag lines files log_device out_device =
     (gone turn : List Act) × (at history : History) × (rest : List (List ℕ)) × IsCutOff written keeps contents log out st lag gone at turn history log_device out_device × (lines ≡ lines_of (turn ++ gone) ++ rest) × (shelf st.run history ≡ files)
@@ -76,7 +76,7 @@ abbrev pub ServesLine : {T U : Type 0} → (T → Option (List ℕ)) → (T → 
 ServesLine written keeps contents log out input st lag left files service true = ServesOn written keeps contents log out input st lag left files service
 ServesLine written keeps contents log out input st lag left files service false = HasServed written keeps contents log out input st lag files service
 
--- what is left where no more lines are answered
+-- what is left if no more lines are answered
 abbrev pub StopsAt : {T U : Type 0} → (T → Option (List ℕ)) → (T → Option (List ℕ)) → (U → Option (List ℕ)) → Option (List ℕ) → Option (List ℕ) → Option (List ℕ) → Setting → ℕ → Option (List ℕ) → List File → Service T U → Stopped → Type 0
 StopsAt written keeps contents log out input st lag left files service stopped.Ended = HasServed written keeps contents log out input st lag files service
 StopsAt written keeps contents log out input st lag left files service stopped.Filled = ServesOn written keeps contents log out input st lag left files service

@@ -1,4 +1,4 @@
--- What a process that serves has put out, and what of it comes back.
+-- The output of a process that serves, and the part of it that comes back.
 use Rattle.std.specs.Prelude.{◌≡◌, ◌≤◌, ◌+◌, ℕ, List, [], Option, take, length}
 use Rattle.std.specs.List.{flat_map}
 use Rattle.std.specs.Io.KnownBytes.{Appends}
@@ -28,7 +28,8 @@ abbrev pub GrowsFrom : Option (List ℕ) → Option (List ℕ) → List ℕ → 
 GrowsFrom old new text = (between : Option (List ℕ)) × Appends old between text × Grows between new
 
 -- Since the log's device had the one and the output the other text: the answers of the acts `gone` were sent, and no others; the first
--- entries of the log are written and kept, and of those that it had when the last answers were sent no more aren't than the lag.
+-- entries of the log are written and kept, and of those that it had when the last answers were sent at most as many as the lag are not
+-- kept.
 pub record Holds {T U : Type 0} (written keeps : T → Option (List ℕ)) (contents : U → Option (List ℕ)) (log out : Option (List ℕ)) (st : Setting) (gone : List Act) (at : History) (turn : List Act) (history : History)
     (service : Service T U) : Type 0 where
   pub stays : Stays st gone at turn history service.server
@@ -36,9 +37,9 @@ pub record Holds {T U : Type 0} (written keeps : T → Option (List ℕ)) (conte
   pub logged : Appends log (written service.log) (first_text service.server.written (log_of history))
   pub kept : GrowsFrom log (keeps service.log) (first_text service.server.written (log_of history))
 
--- What is left, wherever it ends, maybe in the middle of a text. It did the acts `gone`, of whose answers a beginning was sent, and nothing
--- else, and then those of the turn, and a store stands after all of them. Of the log a beginning is written; and of the log as it was
--- behind `gone` no more entries aren't kept than the lag.
+-- The state wherever it ends, maybe in the middle of a text. It did the acts `gone`, of whose answers a prefix was sent, and nothing
+-- else, and then those of the turn, and a store represents all of them. Of the log a prefix is written; and of the log as it was after
+-- `gone` at most as many entries as the lag are not kept.
 pub record IsCutOff {T U : Type 0} (written keeps : T → Option (List ℕ)) (contents : U → Option (List ℕ)) (log out : Option (List ℕ)) (st : Setting) (lag : ℕ) (gone : List Act) (at : History) (turn : List Act) (history : History)
     (log_device : T) (out_device : U) : Type 0 where
   pub stands : (world : Store) × Stands world history × (setting_of world ≡ st)

@@ -1,4 +1,4 @@
--- How far a process that serves has come.
+-- The progress of a process that serves.
 use Rattle.std.specs.Prelude.{◌≡◌, ◌≤◌, ◌+◌, ◌-◌, ◌^◌, ℕ, List, [], length, min, nat_lt, slice_get, Bool, Some, if◌then◌else◌}
 use Rattle.pc_types.specs.Tallies.{inner_of}
 use Rattle.pc_types.specs.declared.Entry.{Entry}
@@ -11,7 +11,7 @@ use Rattle.pc_server.specs.Acts.{Act, Lead, answers_of, commits_in, log_size}
 use Rattle.pc_server.specs.declared.counts.Counts.{Counts}
 use Rattle.pc_server.specs.declared.server.Server.{Server}
 
--- the pace behind a line, which has made a commit where the log has more entries than before
+-- the pace after a line, which has made a commit if the log has more entries than before
 abbrev pub paced : Pace → ℕ → ℕ → Pace
 paced pace before after = if nat_lt before after then record pace { commits = min (pace.commits + 1) (2 ^ 64 - 1) } else pace
 
@@ -19,13 +19,13 @@ paced pace before after = if nat_lt before after then record pace { commits = mi
 abbrev pub AreCounts : ℕ → List Entry → Counts → Type 0
 AreCounts run log counts = (counts.commits ≡ min (commits_in log) (2 ^ 64 - 1)) × (counts.bytes ≡ log_size run log)
 
--- the entry that the log has behind its first so many was counted, if there is one: a commit, or else a token
+-- the entry that the log has after that many first ones was counted, if there is one: a commit, or else a token
 pub record IsNoted (commits : Bool) (log : List Entry) (before : ℕ) (old new : Counts) : Type 0 where
   pub none : length log ≤ before → new ≡ old
   pub some : (entry : Entry) → slice_get log before ≡ Some entry → new ≡ record { commits = if commits then min (old.commits + 1) (2 ^ 64 - 1) else old.commits; bytes = min (old.bytes + length (entry_text entry)) (2 ^ 64 - 1) }
 
 -- It did the acts `gone`, whose answers were sent, and then those of the turn, whose answers wait. Of the log as it was when the last
--- answers were sent no more entries aren't kept than the lag.
+-- answers were sent at most as many entries as the lag are not kept.
 pub record Stays (st : Setting) (gone : List Act) (at : History) (turn : List Act) (history : History) (server : Server) : Type 0 where
   pub serves : Serves st server.served.world server.served.waiting history
   pub gone_by : Lead st [] gone at

@@ -1,14 +1,14 @@
-//! What the log of a store that is served has, in numbers.
+//! The counts of a served store's log.
 ghost use Rattle.std.specs.Prelude.{◌≡◌};
 ghost use Rattle.pc_kept_log.specs.Logs.{entries_of};
 ghost use Rattle.pc_server.specs.Turns.{IsNoted};
 
 use pc_kept_log::Log;
 
-// How many bytes a log without entries has: its header's.
+// The number of bytes that a log without entries has: its header's.
 const HEADER: u64 = 20;
 
-/// How many commits a log has, and how many bytes.
+/// The numbers of commits and bytes of a log.
 #[derive(Drop)]
 pub struct Counts {
     pub commits: u64,
@@ -26,7 +26,7 @@ impl Counts {
         }
     }
 
-    /// Counts the entry that the log has behind its first `before`, if it has one: a commit, or else a token. A count stays at the
+    /// Counts the entry that the log has after its first `before`, if it has one: a commit, or else a token. A count stays at the
     /// greatest of 64 bits.
     pub fn note(&mut self, log: &Log, before: usize, commits: bool)
         ensures { IsNoted commits (entries_of log.now) before self.old self.new }

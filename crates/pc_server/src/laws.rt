@@ -17,10 +17,10 @@ use pc_turn::LogDevice;
 use std::io::Write;
 
 /// Of what `serve_input` leaves, wherever it ends, of a store whose log's device had a header alone at first, and whose `points` had no
-/// file of the run: one history answers some first lines of the input, and of its answers a beginning was sent, and nothing else.
-/// Whatever came back, a text of the base, any texts that `points` has, and of the log all that was kept and no more than was written:
-/// `recover` gives the database after the first entries of the log, and each line `committed N` that was sent whole names a commit that
-/// is among them, but for the last entries, as many as the lag. Only the entry limit refuses.
+/// file of the run: one history answers some first lines of the input, and of its answers a prefix was sent, and nothing else. Whatever
+/// came back, a text of the base, any texts that `points` has, and of the log all that was kept and no more than was written: `recover`
+/// gives the database after the first entries of the log, and each line `committed N` that was sent whole names a commit that is among
+/// them, but for the last entries, as many as the lag. Only the entry limit refuses.
 pub fn serving_loses_no_answer<L: LogDevice + Drop, W: Write + Drop, P: PointFiles>(
     service: &Service<L, W>,
     points: &P,

@@ -1,4 +1,4 @@
-//! A process that serves a store: it answers lines and takes points between them, and at the end of a turn what the log has more is kept
+//! A process that serves a store: it answers lines and takes points between them, and at the end of a turn the new log entries are kept
 //! before the answers go out.
 #![tactic(auto)]
 

@@ -23,7 +23,7 @@ use std::io::{BufRead, BufReader, Read, Write};
 pub enum ServeFault {
     /// A read of the input failed.
     Input,
-    /// Memory ran out, the checkpointer was refused an event, or the file of a point can't be kept; `Full` where 2^64 - 1 lines were
+    /// An allocation failed, the checkpointer was refused an event, or the file of a point can't be kept; `Full` if 2^64 - 1 lines were
     /// answered.
     Refused(Refusal),
     /// A device failed at the end of a turn.
@@ -39,8 +39,8 @@ pub enum Stopped {
     Filled,
 }
 
-/// Where the files of points go. Contracts see the texts that it has under the points' numbers; of one of which that isn't known each
-/// text counts as had.
+/// The destination of the files of points. Contracts see the texts that it has under the points' numbers; for a number of which that isn't
+/// known each text counts as there.
 pub trait PointFiles {
     ghost use Rattle.std.specs.Prelude.{ℕ, List, OnOk};
     ghost use Rattle.pc_server.specs.Files.{HasFile, HasNoMore, KeepsOthers};
@@ -48,8 +48,8 @@ pub trait PointFiles {
     // It has this text under this point.
     ghost holds: { Self → ℕ → List ℕ → Type 0 };
 
-    /// Keeps the file of a point that was taken, or tells why it can't be. The files of other points stay. Where it can't be kept, it may
-    /// have the file all the same, whole or not at all.
+    /// Keeps the file of a point that was taken, or returns the reason why it can't be. The files of other points stay. If it can't be
+    /// kept, it may have the file all the same, whole or not at all.
     fn keep(&mut self, file: &Part) -> Result<(), Refusal>
         ensures kept { OnOk result (HasFile (holds self.new) file.now) }
         ensures others { KeepsOthers (holds self.old) (holds self.new) file.now }
@@ -99,7 +99,7 @@ fn send_all<L: LogDevice + Drop, W: Write + Drop>(
     }
 }
 
-// The turn ends where no whole line is left of what was read.
+// The turn ends when no whole line is left of what was read.
 fn send_if_idle<R: Read + Drop, L: LogDevice + Drop, W: Write + Drop>(
     alloc: Global,
     service: &mut Service<L, W>,
@@ -115,7 +115,7 @@ fn send_if_idle<R: Read + Drop, L: LogDevice + Drop, W: Write + Drop>(
     send(alloc, service)
 }
 
-// Answers the line; false where it asks for the end.
+// Answers the line; false if it asks for the end.
 fn answer_line<L: LogDevice + Drop, W: Write + Drop>(
     alloc: Global,
     service: &mut Service<L, W>,
@@ -131,7 +131,7 @@ fn answer_line<L: LogDevice + Drop, W: Write + Drop>(
     }
 }
 
-// Asks the next event of the point's cycle, where one is due, and keeps the file that it has put on the shelf.
+// Asks the next event of the point's cycle, if one is due, and keeps the file that it has put on the shelf.
 fn go_on<L: LogDevice + Drop, W: Write + Drop, P: PointFiles>(
     service: &mut Service<L, W>,
     points: &mut P,
@@ -191,7 +191,7 @@ fn keep_file<L: LogDevice + Drop, W: Write + Drop, P: PointFiles>(
     }
 }
 
-// Answers the line that was read, and takes the checkpointer's turn; false where the line asks for the end.
+// Answers the line that was read, and takes the checkpointer's turn; false if the line asks for the end.
 fn take_turns<L: LogDevice + Drop, W: Write + Drop, P: PointFiles>(
     alloc: Global,
     service: &mut Service<L, W>,
@@ -213,7 +213,7 @@ fn take_turns<L: LogDevice + Drop, W: Write + Drop, P: PointFiles>(
     }
 }
 
-// Reads the next line, answers it, and takes the checkpointer's turn; false at the end of the input, or where the line asks for the end.
+// Reads the next line, answers it, and takes the checkpointer's turn; false at the end of the input, or if the line asks for the end.
 fn serve_next<R: Read + Drop, L: LogDevice + Drop, W: Write + Drop, P: PointFiles>(
     alloc: Global,
     service: &mut Service<L, W>,
@@ -233,7 +233,7 @@ fn serve_next<R: Read + Drop, L: LogDevice + Drop, W: Write + Drop, P: PointFile
     }
 }
 
-// The same, once the turn has ended where no whole line is left of what was read.
+// The same, once the turn has ended because no whole line is left of what was read.
 fn serve_line<R: Read + Drop, L: LogDevice + Drop, W: Write + Drop, P: PointFiles>(
     alloc: Global,
     service: &mut Service<L, W>,
@@ -282,14 +282,14 @@ fn serve_lines<R: Read + Drop, L: LogDevice + Drop, W: Write + Drop, P: PointFil
     Err(ServeFault::Refused(Refusal::Full))
 }
 
-/// Answers the lines of the input, one after the other, until it ends, a line asks for the end (`quit`), or the generation is full: its log
-/// has at least `roll` entries, or 60,000 points were taken, and no session has a transaction open. A turn ends where no whole
-/// line is left of what was read, so it has at most as many bytes of lines as the reader's buffer; the points that are due are taken
-/// between the lines. Where nothing fails all lines were answered, or all up to that one, or all that were read before the generation was
-/// full, whose rest the input still has; all answers are sent, and all of the log is kept, whatever the lag. At every other end,
-/// and so whatever device fails at whatever call: some first lines of the input were answered, of their answers a beginning was sent, and
-/// nothing else, and of the log as it was then no more entries aren't kept than the lag. Each file of a point was given to `points`,
-/// which has its text, and nothing else of that run; where the service ends because one can't be kept, `points` may lack that one.
+/// Answers the lines of the input, in order, until it ends, a line asks for the end (`quit`), or the generation is full: its log has at
+/// least `roll` entries, or 60,000 points were taken, and no session has a transaction open. A turn ends when no whole line is left of what
+/// was read, so it has at most as many bytes of lines as the reader's buffer; the points that are due are taken between the lines. If
+/// nothing fails all lines were answered, or all up to that one, or all that were read before the generation was full, whose rest the input
+/// still has; all answers are sent, and all of the log is kept, whatever the lag. At every other end, and so whatever device fails at
+/// whatever call: some first lines of the input were answered, of their answers a prefix was sent, and nothing else, and of the log as it
+/// was then at most as many entries as the lag are not kept. Each file of a point was given to `points`, which has its text, and nothing
+/// else of that run; if the service ends because one can't be kept, `points` may lack that one.
 pub fn serve_input<R: Read + Drop, L: LogDevice + Drop, W: Write + Drop, P: PointFiles>(
     alloc: Global,
     service: &mut Service<L, W>,

@@ -33,14 +33,14 @@ use std::mem;
 /// Once this many points were taken a generation is full, whatever its log has: no more than 65,535 can be.
 const MOST_POINTS: usize = 60_000;
 
-/// A store that is served in turns: the answers of a turn wait until what the log has more is kept.
+/// A store that is served in turns: the answers of a turn wait until the new log entries are kept.
 #[derive(Drop)]
 pub struct Server {
     served: Served,
     pace: Pace,
     answers: Tally<Vec<u8>>,
     counts: Counts,
-    // How many entries of the log are kept.
+    // The number of entries of the log kept.
     written: usize,
     lag: usize,
 }
@@ -68,9 +68,8 @@ impl Server {
     }
 
     /// Answers a line, which is given without its end, and keeps the answer until the turn ends; a commit counts towards the next
-    /// point. False if and only if the line asks for
-    /// the end: nothing is answered then. Refuses only with `OutOfMemory`; the line may then have been asked of the store, and what was
-    /// kept is no more what was answered.
+    /// point. False if and only if the line asks for the end: nothing is answered then. Refuses only with `OutOfMemory`; the line
+    /// may then have been asked of the store, and what was kept is no more what was answered.
     pub fn answer(&mut self, alloc: Global, line: &[u8]) -> Result<bool, Refusal>
         ensures answered { (st : Setting) (gone turn : List Act) (at history : History) → Stays st gone at turn history self.old
             → OnOk result ((text : List ℕ) × (next : History) × AnswersRequest st history (request_of line.now) text next × Stays st gone at (Answered line.now text ∷ turn) next self.new) }
@@ -121,7 +120,7 @@ impl Server {
         }
     }
 
-    // Counts what the log has more than before a line: a commit, of which no other one adds any.
+    // Counts the log entry that a line has added, if any: a commit, since no other line adds one.
     fn note_since(&mut self, before: usize)
         ensures changed { self.new ≡ record self.old { pace = paced self.old.pace before (length self.old.served.world.log); counts = self.new.counts } }
         ensures noted { IsNoted true self.old.served.world.log before self.old.counts self.new.counts }
@@ -130,7 +129,7 @@ impl Server {
         self.note_pace(before);
     }
 
-    // Counts a commit towards the next point where the log has more entries than before a line.
+    // Counts a commit towards the next point if the log has more entries than before a line.
     fn note_pace(&mut self, before: usize)
         ensures { self.new ≡ record self.old { pace = paced self.old.pace before (length self.old.served.world.log) } }
     {
@@ -139,7 +138,7 @@ impl Server {
         }
     }
 
-    // Tells what was done so far, in numbers, and how many pairs are committed.
+    // Prints the counts so far, and how many pairs are committed.
     fn tell_stats(&mut self) -> Result<(), Refusal>
         ensures told { (history : History) → Stands self.old.served.world history
             → OnOk result (Puts (λ bytes. Some bytes.items) self.old.answers self.new.answers (Ok tt) (stats_line (length self.old.served.world.log) self.old.counts.commits (length self.old.served.world.shelf) (open_now self.old.served.world) self.old.counts.bytes (committed_in self.old.served.world))) }
@@ -149,7 +148,7 @@ impl Server {
         self.put_stats(pairs)
     }
 
-    // How many pairs are committed. It takes time, and memory, in proportion to them.
+    // The number of committed pairs. It takes time, and memory, in proportion to them.
     fn count_pairs(&self) -> Result<usize, Refusal>
         ensures { (history : History) → Stands self.now.served.world history → IfOk result (λ count. count ≡ committed_in self.now.served.world) }
     {
@@ -157,7 +156,7 @@ impl Server {
         Ok(pairs.len())
     }
 
-    // Tells what was done so far, in numbers, and this number of pairs.
+    // Prints the counts so far, and this number of pairs.
     fn put_stats(&mut self, pairs: usize) -> Result<(), Refusal>
         ensures told { Puts (λ bytes. Some bytes.items) self.old.answers self.new.answers result (stats_line (length self.old.served.world.log) self.old.counts.commits (length self.old.served.world.shelf) (open_now self.old.served.world) self.old.counts.bytes pairs) }
         ensures others { self.new ≡ record self.old { answers = self.new.answers } }
@@ -174,8 +173,8 @@ impl Server {
         put_stats(numbers, &self.counts, &mut self.answers)
     }
 
-    /// Asks the next event of the point's cycle, where one is due, as `Pace::go_on` does, and tells of a file exactly where its reply
-    /// put one on the shelf. No client is answered by it.
+    /// Asks the next event of the point's cycle, if one is due, as `Pace::go_on` does, and reports a file if and only if its reply put
+    /// one on the shelf. No client is answered by it.
     pub fn go_on(&mut self) -> Result<Turned, Refusal>
         ensures went { (st : Setting) (gone turn : List Act) (at history : History) → Stays st gone at turn history self.old
             → (Stays st gone at turn history self.new × (result ≡ Ok turned.Nothing)) ⊎ ((step : Step) × Stays st gone at (WentOn step ∷ turn) (step ∷ history) self.new × IsShelvedAs step.reply result) }
@@ -225,8 +224,8 @@ impl Server {
         world
     }
 
-    /// The turn ends, as `pc_turn` `end_turn` says: what the log has more than was kept goes out, where it is more than this lag, which
-    /// is at most the server's own, and is kept; and then the answers of the turn are sent.
+    /// Ends the turn, as `pc_turn` `end_turn`: the log entries that aren't kept yet are written and kept if they are more than this lag,
+    /// which is at most the server's own; and then the answers of the turn are sent.
     pub fn end_turn<L: LogDevice, W: Write>(
         &mut self,
         alloc: Global,
@@ -263,7 +262,7 @@ fn put_run<W: Write>(run: u64, out: &mut Tally<W>) -> Result<(), Refusal>
     out.put_all(&[b"run ", buffer.format(run).as_bytes(), b"\n"])
 }
 
-// What `stats` tells beside the counts of the log.
+// The numbers of `stats` besides the counts of the log.
 #[derive(Clone, Copy)]
 struct Numbers {
     entries: usize,

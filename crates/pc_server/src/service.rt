@@ -60,7 +60,7 @@ impl<L: LogDevice + Drop, W: Write + Drop> Service<L, W> {
         Service { server, log, out }
     }
 
-    /// The log's device and the output, as they stand.
+    /// The log's device and the output.
     pub fn into_devices(self) -> (L, Tally<W>)
         ensures { result ≡ (self.log, self.out) }
     {
@@ -72,7 +72,7 @@ impl<L: LogDevice + Drop, W: Write + Drop> Service<L, W> {
         (log, out)
     }
 
-    /// The store, which is served no more, and the output, as they stand.
+    /// The store, which is served no more, and the output.
     pub fn into_world(self) -> (World, Tally<W>)
         ensures { result ≡ (self.server.served.world, self.out) }
     {
@@ -96,7 +96,7 @@ impl<L: LogDevice + Drop, W: Write + Drop> Service<L, W> {
         self.server.answer(alloc, line)
     }
 
-    /// Asks the next event of the point's cycle, where one is due, as `Server::go_on` does; nothing goes out.
+    /// Asks the next event of the point's cycle, if one is due, as `Server::go_on` does; nothing goes out.
     pub fn go_on(&mut self) -> Result<Turned, Refusal>
         ensures went { (st : Setting) (log out : Option (List ℕ)) (gone turn : List Act) (at history : History) → Holds L.written L.kept W.contents log out st gone at turn history self.old
             → (Holds L.written L.kept W.contents log out st gone at turn history self.new × (result ≡ Ok turned.Nothing))
@@ -121,9 +121,9 @@ impl<L: LogDevice + Drop, W: Write + Drop> Service<L, W> {
         self.server.is_filled(entries)
     }
 
-    /// The turn ends: what the log has more than was kept is kept, where it is more than the lag, and then the answers of the turn are
-    /// sent. Where a device fails, what was sent before, or a beginning of it with the answers of this turn, is all that was, and of the
-    /// log as it was then no more entries aren't kept than the lag.
+    /// Ends the turn: the log entries that aren't kept yet are kept if they are more than the lag, and then the answers of the turn
+    /// are sent. If a device fails, only the answers sent before were sent, or a prefix of them with those of this turn, and of the
+    /// log as it was then at most as many entries as the lag are not kept.
     pub fn end_turn(&mut self, alloc: Global) -> Result<(), CutOff>
         requires within { self.old.server.written ≤ length self.old.server.served.world.log }
         ensures ended { (st : Setting) (log out : Option (List ℕ)) (gone turn : List Act) (at history : History) → Holds L.written L.kept W.contents log out st gone at turn history self.old

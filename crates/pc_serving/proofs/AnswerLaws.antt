@@ -55,7 +55,7 @@ numbered st s h few waits = by_session (no_session st s) refl waits
     by_session true e waits = cc
     by_session false e waits = grind (arith, nat_tests, few, e)
 
--- who was told to wait, or is told so now, and waits
+-- who was answered that it waits, or is answered so now, and waits
 still_waits : (there wait number own waits : Bool) → (waits ≡ true → own ≡ true → number ≡ true) → ((there || (wait && (number && own))) && waits) ≡ (waits && ((wait && own) || there))
 still_waits there wait number own false known = none (there || (wait && (number && own)))
   where
@@ -83,18 +83,18 @@ still_waits there wait number own true known = all (there || (wait && (number &&
     by_own false e =
         ap (λ b. there || (wait && (number && b))) e ∙ (ap (λ b. there || (wait && b)) (none number) ∙ (turned there (wait && false) ∙ ap (λ b. (wait && b) || there) (sym e)))
 
--- what is so where the test is true
+-- what is so if the test is true
 asked_by : (Then Else : Type 0) (b : Bool) → b ≡ true → Then → MatchBool b Then Else
 asked_by Then Else true e so = so
 asked_by Then Else false e so = cc
 
 module _ {T : Type 0} (contents : T → Option (List ℕ)) where
-  -- a text that went out, and then one that is told
+  -- a text that went out, and then one that is printed
   pub told_then : (a b c : Tally T) (result : Result (Unit {0}) Refusal) (x y : List ℕ) → Puts contents a b (Ok tt) x → IsTold contents b c result y → IsTold contents a c result (x ++ y)
   told_then a b c (Ok u) x y p q = puts_then contents a b c (Ok tt) x y p q
   told_then a b c (Err e) x y p q = (q.0, omega (arith, q.1, p.1))
 
-  -- An event of a client that was asked of a world, and then told.
+  -- An event of a client that was asked of a world, and whose reply was then printed.
   pub event_answered : (st : Setting) (h : History) (event : Event) (reply : Reply) (own : ℕ) (old world new : Store) (was left : ℕ) (a b : Tally T) (result : Result (Unit {0}) Refusal) → Serves st old was h → Follows (setting_of old) h event reply world
       → setting_of world ≡ setting_of old → is_of_client event ≡ true → own ≡ session_of event → new ≡ world
       → OnOk result ((s : ℕ) → has_session left s ≡ ((has_session was s || (is_wait reply && (is_number own && (eqb s own)))) && waits_now world s))
@@ -166,7 +166,7 @@ served_as st h next (line.Asks event) said other a = absurd (other event refl)
 served_as st h next (line.Shows view) said other a = (said, a, refl)
 
 module _ {T : Type 0} (contents : T → Option (List ℕ)) where
-  -- A line that asks no event was answered by a world, and then told.
+  -- A line that asks no event was answered by a world, and the answer was then printed.
   pub line_answered : (st : Setting) (h next : History) (l : Line) (said : LineAnswer) (old new : Store) (was left : ℕ) (a b : Tally T) (result : Result (Unit {0}) Refusal) → ((event : Event) → l ≢ line.Asks event) → Serves st old was h → Stands new next → setting_of new ≡ setting_of old
       → left ≡ was → AnswersLine (setting_of old) h l said next → Puts contents a b result (answer_text said)
       → OnOk result ((after : History) × (text : List ℕ) × Serves st new left after × AnswersServed st h l text after × Puts contents a b (Ok tt) text)

@@ -8,7 +8,7 @@ use Rattle.bstr.proofs.lemmas.LineLemmas.{lines-nil, lines-step}
 use Rattle.pc_lines.specs.Lines.{lines_in}
 use Rattle.pc_serving.specs.Inputs.{IsNextLine, has_feed, whole_lines, whole_part}
 
--- a line with its end is what stands up to the first line feed
+-- a line with its end is the text up to the first line feed
 through_is_taken : (text : List ℕ) → take (line_len text) text ≡ take_through 10 text
 unfolding line_len
 through_is_taken [] = refl
@@ -18,7 +18,7 @@ through_is_taken (x ∷ text) = by_end (eqb x 10) (through_is_taken text)
     by_end true behind = refl
     by_end false behind = ap (λ (t : List ℕ). x ∷ t) behind
 
--- and what is left stands behind it
+-- and the rest comes after it
 through_is_dropped : (text : List ℕ) → drop (line_len text) text ≡ drop_through 10 text
 unfolding line_len
 through_is_dropped [] = refl
@@ -32,7 +32,7 @@ through_is_dropped (x ∷ text) = by_end (eqb x 10) (through_is_dropped text)
 some_ends : (x : ℕ) (text : List ℕ) → ends_with_byte 10 (x ∷ text) ≡ eqb (slice_index (x ∷ text) (length (x ∷ text) - 1)) 10
 some_ends x text = ap (λ b. b && eqb (slice_index (x ∷ text) (length (x ∷ text) - 1)) 10) (let some : nat_lt 0 (length (x ∷ text)) ≡ true = grind (arith, nat_tests) in some)
 
--- what stands up to the first line feed ends with it, where there is one
+-- the text up to the first line feed ends with it, if there is one
 ends_by_feed : (text : List ℕ) → ends_with_byte 10 (take_through 10 text) ≡ has_feed text
 ends_by_feed [] = refl
 ends_by_feed (x ∷ text) = by_end (eqb x 10) refl (ends_by_feed text)
@@ -62,7 +62,7 @@ whole_taken (x ∷ text) e = by_end (eqb x 10) (has_feed text) refl e (whole_tak
     by_end false true is some behind = ap (λ b. cond b (x ∷ []) (x ∷ take_through 10 (whole_part text))) is ∙ ap (λ (t : List ℕ). x ∷ t) (behind refl)
     by_end false false is some behind = cc
 
--- and what stands behind it is the whole part of what is left
+-- and the text after it is the whole part of the rest
 whole_dropped : (text : List ℕ) → has_feed text ≡ true → drop_through 10 (whole_part text) ≡ whole_part (drop_through 10 text)
 whole_dropped [] e = cc
 whole_dropped (x ∷ text) e = by_end (eqb x 10) (has_feed text) refl e (whole_dropped text)

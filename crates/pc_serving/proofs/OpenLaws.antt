@@ -1,4 +1,4 @@
--- How many sessions have a transaction open, by the store and by the history.
+-- The number of sessions that have a transaction open, by the store and by the history.
 use Rattle.std.proofs.Common.{◌≡◌, ℕ, zero, suc, ◌+◌, Bool, cond, refl, ap, ◌∙◌}
 use Rattle.pc_types.specs.declared.limits.TheConstants.{MOST_SESSIONS}
 use Rattle.pc_model.specs.History.{History}

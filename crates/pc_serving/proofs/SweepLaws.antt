@@ -9,7 +9,7 @@ use Rattle.pc_engine.specs.Waiting.{waits_after}
 use Rattle.pc_serving.specs.Serving.{awaits, granted_line, granted_to}
 use Rattle.pc_serving.specs.Sweeps.{swept_line, swept_to}
 
--- a test that ends in the same way, where the own session is left out
+-- a test that ends in the same way, if the own session is left out
 line_by : (a b c d e : Bool) (text : List ℕ) → c ≡ d → (e ≡ false → a ≡ b) → cond (a && not c && not e) text [] ≡ cond (b && not d && not e) text []
 line_by a b c d true text same others = left_out a c ∙ sym (left_out b d)
   where
@@ -22,7 +22,7 @@ line_by a b c d true text same others = left_out a c ∙ sym (left_out b d)
     left_out x y = ap (λ k. cond k text []) (none x y)
 line_by a b c d false text same others = ap (λ k. cond (k && not c && true) text []) (others refl) ∙ ap (λ k. cond (b && not k && true) text []) same
 
--- a sweep of those who were told to wait tells whom the step has granted
+-- a sweep of the waiting sessions reports which of them the step has granted
 pub sweep_is_granting : (st : Setting) (step : Step) (h : History) (waits was : ℕ → Bool) (own : ℕ) → own ≡ session_of step.event → ((s : ℕ) → waits s ≡ waits_after st s (step ∷ h)) → ((s : ℕ) → eqb s own ≡ false → was s ≡ awaits st s h) → (n : ℕ)
     → swept_to waits was own n ≡ granted_to st step h n
 sweep_is_granting st step h waits was own asks now before zero = refl
@@ -32,7 +32,7 @@ sweep_is_granting st step h waits was own asks now before (suc n) =
     (line_by (was (suc n)) (awaits st (suc n) h) (waits (suc n)) (waits_after st (suc n) (step ∷ h)) (eqb (suc n) own) (granted_line (suc n)) (now (suc n)) (before (suc n))
     ∙ ap (λ k. cond (awaits st (suc n) h && not (waits_after st (suc n) (step ∷ h)) && not (eqb (suc n) k)) (granted_line (suc n)) []) asks)
 
--- the next one's line, where those before it were looked at
+-- the next one's line, if those before it were looked at
 pub next_line : (waits looked now was : ℕ → Bool) (own place : ℕ) → ((s : ℕ) → looked s ≡ waits s) → ((s : ℕ) → now s ≡ (was s && (waits s || nat_lt place s))) → swept_line looked now own (place + 1) ≡ swept_line waits was own (place + 1)
 next_line waits looked now was own place same left =
     ap (λ b. cond (b && not (looked (place + 1)) && not (eqb (place + 1) own)) (granted_line (place + 1)) []) (left (place + 1) ∙ later (was (place + 1)) (waits (place + 1)))
@@ -49,7 +49,7 @@ next_line waits looked now was own place same left =
     later true w = any w (nat_lt place (place + 1)) next
     later false w = refl
 
--- who is left behind the next one
+-- who is left after the next one
 pub left_behind : (waits looked now was behind : ℕ → Bool) (place : ℕ) → ((s : ℕ) → looked s ≡ waits s) → ((s : ℕ) → now s ≡ (was s && (waits s || nat_lt place s))) → ((s : ℕ) → behind s ≡ (now s && (looked s || not (eqb s (place + 1)))))
     → (s : ℕ) → behind s ≡ (was s && (waits s || nat_lt (place + 1) s))
 left_behind waits looked now was behind place same left then s =

@@ -1,4 +1,4 @@
--- How many sessions have a transaction open.
+-- The number of sessions that have a transaction open.
 use Rattle.std.specs.Prelude.{ℕ, zero, suc, ◌+◌, Bool, is_some, if◌then◌else◌}
 use Rattle.pc_types.specs.declared.limits.TheConstants.{MOST_SESSIONS}
 use Rattle.pc_model.specs.History.{History}

@@ -1,4 +1,4 @@
--- What happens between the lines of a store that is served.
+-- The events between the lines of a served store.
 use Rattle.std.specs.Prelude.{◌≡◌, ◌==◌, ◌||◌, ◌⊎◌, ⊤, Bool, true, false, nat_lt, ◌∷◌, Option, Some, None, Result, Ok, Err, if◌then◌else◌}
 use Rattle.pc_types.specs.declared.Event.{Event}
 use Rattle.pc_types.specs.declared.Event.TheVariants as asked
@@ -23,7 +23,7 @@ is_checkpoint asked.Done = true
 is_checkpoint asked.Rest = true
 is_checkpoint other = false
 
--- A file is told of if and only if the reply put it on the shelf; and a refusal is that of the reply.
+-- A file is reported if and only if the reply put it on the shelf; and a refusal is that of the reply.
 abbrev pub IsShelvedAs : Reply → Result Turned Refusal → Type 0
 IsShelvedAs (told.PartDone point file entries) result = result ≡ Ok (turned.Shelved file)
 IsShelvedAs (told.Refused why) result = result ≡ Err why
@@ -31,7 +31,7 @@ IsShelvedAs other (Ok (turned.Shelved file)) = ⊥
 IsShelvedAs other (Ok t) = ⊤
 IsShelvedAs other (Err why) = ⊥
 
--- The event of a point's cycle that is due in the phase, if one is: at rest a point begins once there were so many commits, and with 0
+-- The event of a point's cycle that is due in the phase, if one is: at rest a point begins once there were that many commits, and with 0
 -- none does; in capture keys are taken, until none is left.
 abbrev pub due_in : Pace → Phase → Option Event
 due_in pace Rest = if (pace.every == 0) || nat_lt pace.commits pace.every then None else Some asked.StartPoint
@@ -40,7 +40,7 @@ due_in pace Resolve = Some asked.OpenCapture
 due_in pace Capture = if pace.has_left then Some asked.Take else Some asked.Done
 due_in pace Complete = Some asked.Rest
 
--- what is due behind the reply: commits are counted from where a point begins, and keys are left until the reply says that none is
+-- what is due after the reply: commits are counted from where a point begins, and keys are left until the reply says that none is
 abbrev pub noted : Pace → Reply → Pace
 noted pace told.NoneLeft = record pace { has_left = false }
 noted pace (told.Phase Prepare point) = record pace { commits = 0; has_left = true }

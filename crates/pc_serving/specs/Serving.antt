@@ -1,4 +1,4 @@
--- How the lines of a store that is served are answered.
+-- The answers to the lines of a served store.
 use Rattle.std.specs.Prelude.{◌≡◌, ◌==◌, ◌&&◌, ◌||◌, not, ℕ, zero, suc, Bool, true, false, List, [], ◌∷◌, ◌++◌, codes, decimal, MatchBool, if◌then◌else◌}
 use Rattle.pc_types.specs.declared.Event.{Event}
 use Rattle.pc_types.specs.declared.Event.TheVariants as asked
@@ -31,18 +31,18 @@ abbrev pub is_wait : Reply → Bool
 is_wait told.Wait = true
 is_wait other = false
 
--- The session was told to wait, and its request still stood ungranted behind the last event of a client.
+-- The session was answered that it waits, and its request was still not granted after the last event of a client.
 abbrev pub awaits : Setting → ℕ → History → Bool
 awaits st s [] = false
 awaits st s (step ∷ history) =
     if is_checkpoint step.event then awaits st s history
     else waits_after st s (step ∷ history) && ((is_wait step.reply && (s == session_of step.event)) || awaits st s history)
 
--- the step, behind this history, has granted the request of another session that was told to wait
+-- the step, after this history, has granted the request of another waiting session
 abbrev pub is_granted_by : Setting → ℕ → Step → History → Bool
 is_granted_by st s step history = awaits st s history && not (waits_after st s (step ∷ history)) && not (s == session_of step.event)
 
--- the line that tells that the session's request was granted
+-- the line that reports that the session's request was granted
 abbrev pub granted_line : ℕ → List ℕ
 granted_line s = codes "granted " ++ (decimal s ++ codes "\n")
 
@@ -59,8 +59,8 @@ granted_text st step history = granted_to st step history MOST_SESSIONS
 abbrev pub wrong_phase : List ℕ
 wrong_phase = answer_text (refusal_answer why.WrongPhase)
 
--- An event of a client has some legal reply, and the history grows by it; the reply is told, and behind it whose requests it has
--- granted. One that isn't a client's is refused, and changes nothing.
+-- An event of a client has some legal reply, and the history grows by it; the reply is printed, and after it whose requests it
+-- has granted. One that isn't a client's is refused, and changes nothing.
 abbrev pub AnswersEvent : Setting → History → Event → List ℕ → History → Type 0
 AnswersEvent st before event text after =
     MatchBool (is_of_client event)
@@ -73,7 +73,7 @@ abbrev pub AnswersServed : Setting → History → Line → List ℕ → History
 AnswersServed st before (line.Asks event) text after = AnswersEvent st before event text after
 AnswersServed st before other text after = (said : LineAnswer) × AnswersLine st before other said after × (text ≡ answer_text said)
 
--- the store that is served, whose waiting sessions are these, stands after the history
+-- the store that is served, whose waiting sessions are these, represents the history
 pub record Serves (st : Setting) (world : Store) (waiting : ℕ) (history : History) : Type 0 where
   pub stands : Stands world history
   pub setting : setting_of world ≡ st

@@ -1,4 +1,4 @@
--- What is told, behind an event, to the sessions that were told to wait.
+-- The lines, after an event, to the sessions that wait.
 use Rattle.std.specs.Prelude.{◌≡◌, ◌==◌, ◌&&◌, not, ℕ, zero, suc, Bool, List, [], ◌++◌, Option, Result, Ok, Err, if◌then◌else◌}
 use Rattle.pc_types.specs.Counted.{HasRisen}
 use Rattle.pc_types.specs.Tallies.{Puts}

@@ -26,7 +26,7 @@ use pc_types::{Event, MOST_SESSIONS, Refusal, Reply, SessionNo, Tally};
 use std::alloc::Global;
 use std::io::Write;
 
-/// A store that is served: it answers the lines of its sessions, and knows which of them were told to wait.
+/// A store that is served: it answers the lines of its sessions, and knows which of them were answered that they wait.
 #[derive(Drop)]
 pub struct Served {
     pub world: World,
@@ -44,7 +44,7 @@ impl Served {
         }
     }
 
-    /// How many sessions have a transaction open: as many as the history says.
+    /// The number of sessions that have a transaction open: as many as the history says.
     pub fn open_sessions(&self) -> u8
         ensures now { result ≡ open_now self.now.world }
         ensures told { (st : Setting) (history : History) → Serves st self.now.world self.now.waiting history → result ≡ open_after st history }
@@ -58,9 +58,9 @@ impl Served {
         count
     }
 
-    /// Answers a line. An event of a session is asked, its reply told, and behind it, a line for each, which other sessions' requests
-    /// it has granted; one of the checkpointer, or a join, is refused with `WrongPhase`, and so is a pair of the base. `Device` is
-    /// answered exactly where the device failed in this call.
+    /// Answers a line. An event of a session is asked, its reply is printed, and after it a line for each request of another session
+    /// that it has granted; one of the checkpointer, or a join, is refused with `WrongPhase`, and so is a pair of the base. Returns
+    /// `Device` if and only if the device failed in this call.
     pub fn answer<W: Write>(
         &mut self,
         alloc: Global,
@@ -107,7 +107,7 @@ impl Served {
         self.tell(session_of(event), &reply, out)
     }
 
-    // Tells the reply to the session's event, and whose requests were granted by it.
+    // Prints the reply to the session's event, and the sessions whose requests it granted.
     fn tell<W: Write>(
         &mut self,
         own: SessionNo,
@@ -124,7 +124,7 @@ impl Served {
         self.sweep(own, out)
     }
 
-    // Notes whether the session was told to wait.
+    // Notes whether the session was answered that it waits.
     fn note(&mut self, own: SessionNo, reply: &Reply)
         ensures world { self.new.world ≡ self.old.world }
         ensures noted { (s : ℕ) → has_session self.new.waiting s ≡ (has_session self.old.waiting s || (is_wait reply.now && (is_number own && (s == own)))) }
@@ -134,7 +134,7 @@ impl Served {
         }
     }
 
-    // Tells, behind an event of the session, which other sessions' requests were granted.
+    // Prints, after an event of the session, which other sessions' requests were granted.
     fn sweep<W: Write>(&mut self, own: SessionNo, out: &mut Tally<W>) -> Result<(), Refusal>
         ensures world { self.new.world ≡ self.old.world }
         ensures left { OnOk result ((s : ℕ) → has_session self.new.waiting s ≡ (has_session self.old.waiting s && waits_now self.old.world s)) }
@@ -146,7 +146,7 @@ impl Served {
         Ok(())
     }
 
-    // Tells it where the session's request was granted, unless it is the one that asks; then it waits no more.
+    // Prints the line of a session whose request was granted, unless it is the one that asks; then it waits no more.
     fn grant<W: Write>(
         &mut self,
         session: SessionNo,
@@ -191,7 +191,7 @@ fn is_of_client(event: &Event) -> bool
     )
 }
 
-// The session that asks the event; 0 where none does.
+// The session that asks the event; 0 if none does.
 fn session_of(event: &Event) -> SessionNo
     ensures { result ≡ session_of event.now }
 {

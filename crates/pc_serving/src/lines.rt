@@ -1,4 +1,4 @@
-//! The lines of an input, one after the other.
+//! The lines of an input, in order.
 ghost use Rattle.std.specs.Prelude.{◌≡◌, IfOk, IfSome};
 ghost use Rattle.std.specs.Io.BufRead.{ends_with_byte};
 ghost use Rattle.bstr.specs.Text.{without_terminator, no_cr};
@@ -8,8 +8,8 @@ use std::io;
 use std::io::BufRead;
 
 /// Reads the next line of the input into the vector, without its end: a line feed, before which one carriage return is dropped. False
-/// where the input has no line feed any more: what stands behind its last one is a line that was cut off, and is none. What the vector
-/// had is dropped.
+/// if the input has no line feed any more: the bytes after its last one are a truncated line, and are ignored. What the vector had is
+/// dropped.
 pub fn next_line<R: BufRead>(input: &mut R, line: &mut Vec<u8>) -> io::Result<bool>
     ensures { IfOk result (λ some. IfSome (R.remaining input.old) (λ text. IsNextLine text some line.new.items (R.remaining input.new))) }
 {

@@ -8,7 +8,7 @@ ghost use Rattle.pc_serving.specs.Points.{due_in, noted, IsShelvedAs, IsTurn};
 use pc_engine::World;
 use pc_types::{Event, FileNo, Phase, Refusal, Reply};
 
-/// What the checkpointer has done at its turn.
+/// The checkpointer's act at its turn.
 #[derive(Clone, Copy, Debug, PartialEq, Eq)]
 pub enum Turned {
     /// Nothing was due, or what was asked isn't to be had yet.
@@ -19,7 +19,7 @@ pub enum Turned {
     Shelved(FileNo),
 }
 
-/// When the points of a store that is served are taken: after so many commits one begins, and goes on by an event at each turn.
+/// When the points of a store that is served are taken: after a number of commits one begins, and goes on by an event at each turn.
 #[derive(Drop)]
 pub struct Pace {
     every: u64,
@@ -29,7 +29,7 @@ pub struct Pace {
 }
 
 impl Pace {
-    /// A point begins after so many commits; with 0 none does.
+    /// The number of commits after which a point begins; with 0 none does.
     pub fn new(every: u64) -> Pace
         ensures { result ≡ record { every = every; commits = 0; has_left = true } }
     {
@@ -47,7 +47,7 @@ impl Pace {
         self.commits = self.commits.saturating_add(1);
     }
 
-    // What ends the phase, or takes a key in capture; nothing where no point is due.
+    // The event that ends the phase, or takes a key in capture; nothing if no point is due.
     fn due(&self, phase: Phase) -> Option<Event>
         ensures { result ≡ due_in self.now phase }
     {
@@ -84,9 +84,9 @@ impl Pace {
         }
     }
 
-    /// Asks the next event of the point's cycle, where one is due: of whatever history the store stands after, it then stands after
-    /// that history, or after that and the event that is due with its legal reply. It tells of a file exactly where the reply
-    /// put one on the shelf, and refuses exactly where the event was refused, as it was.
+    /// Asks the next event of the point's cycle, if one is due: whatever history the store represents, it then represents that
+    /// history, or that followed by the event that is due with its legal reply. It reports a file if and only if the reply put one
+    /// on the shelf, and refuses if and only if the event was refused, as it was.
     pub fn go_on(&mut self, world: &mut World) -> Result<Turned, Refusal>
         ensures setting { setting_of world.new ≡ setting_of world.old }
         ensures turn { (history : History) → Stands world.old history → (next : History) × Stands world.new next × IsTurn (setting_of world.old) self.old history self.new next result }

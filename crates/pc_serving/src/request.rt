@@ -1,4 +1,4 @@
-//! What the lines of a store that is served ask.
+//! The requests of the lines of a served store.
 ghost use Rattle.std.specs.Prelude.{◌≡◌, IfOk, IfErr};
 ghost use Rattle.pc_serving.specs.Requests.{request_of};
 
@@ -6,20 +6,20 @@ use pc_lines::{Line, read_line};
 use pc_types::Refusal;
 use std::alloc::Global;
 
-/// What a line asks of a store that is served.
+/// The request of a line to a served store.
 #[derive(Drop)]
 pub enum Request {
     /// The end: `quit`.
     Quit,
     /// The number of the run: `run`.
     Run,
-    /// What was done so far, in numbers: `stats`.
+    /// The counts so far: `stats`.
     Stats,
-    /// What the same line of a script spells.
+    /// The meaning of the same line in a script.
     Line(Line),
 }
 
-/// What the line, without its end, asks; the words of serving stand alone in theirs. Refuses only with `OutOfMemory`.
+/// The request of the line, without its end; the words of serving are alone in theirs. Refuses only with `OutOfMemory`.
 pub fn read_request(alloc: Global, text: &[u8]) -> Result<Request, Refusal>
     ensures request { IfOk result (λ request. request ≡ request_of text.now) }
     ensures refusals { IfErr result (λ e. e ≡ Refusal.OutOfMemory) }

@@ -7,7 +7,7 @@ use Rattle.std.proofs.lemmas.Bool.Decides.{nat_tests}
 use Rattle.std.proofs.lemmas.Nat.Bits.{bit_at_or, bit_at_and, bit_at-pow_same, bit_at-pow_other, bit_at-zero, bit_at-lt, bit_at_not, and_pow, same_from_bits_below}
 use Rattle.pc_sessions.specs.SessionSets.{is_number, bit_of, has_session}
 
--- the session's bit, where another's is looked for
+-- the session's bit, if another's is looked for
 bit_here : (s t : ℕ) → is_number t ≡ true → bit_at (bit_of s) (t - 1) ≡ cond (is_number s && eqb t s) 1 0
 bit_here s t numbered = by_known (is_number s) refl
   where
@@ -83,7 +83,7 @@ looked_for bits was b s before is = ap (λ m. not (eqb (bit_and bits m) 0)) is �
     by_known false e = ap (λ n. not (eqb n 0)) (and_zero_r bits)
     by_known true e = ap (λ n. not (eqb n 0)) (and_pow bits (s - 1)) ∙ by_bit (bit_at bits (s - 1)) (bit_at-lt bits (s - 1)) (2 ^ (s - 1)) (some_bit (s - 1))
 
--- no bit is set where no session is there
+-- no bit is set if no session is there
 pub nobody : (bits was : ℕ) → bits ≡ was → bits < 2 ^ 64 → (eqb bits 0 ≡ true) ↔ ((s : ℕ) → has_session was s ≡ false)
 nobody bits was before lt = (λ e s. ap (λ n. has_session n s) (sym before) ∙ empty_then e s, λ none. empty_by (λ s. ap (λ n. has_session n s) before ∙ none s))
   where

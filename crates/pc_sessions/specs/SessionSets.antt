@@ -7,7 +7,7 @@ use Rattle.pc_types.specs.declared.limits.TheConstants.{MOST_SESSIONS}
 abbrev pub is_number : ℕ → Bool
 is_number s = not (s == 0) && not (nat_lt MOST_SESSIONS s)
 
--- the bit of the session, the lowest for session 1; none where no session has this number
+-- the bit of the session, the lowest for session 1; none if no session has this number
 abbrev pub bit_of : ℕ → ℕ
 bit_of s = if is_number s then 2 ^ (s - 1) else 0
 

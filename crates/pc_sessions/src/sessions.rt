@@ -57,7 +57,7 @@ impl SessionSet {
     }
 }
 
-// The bit of the session; none where no session has this number.
+// The bit of the session; no bit if no session has this number.
 fn bit_of(session: SessionNo) -> u64
     ensures { result ≡ bit_of session }
 {

@@ -1,4 +1,4 @@
--- What a call was answered.
+-- The answer to a call.
 use Rattle.std.proofs.Common.{◌≡◌, ℕ, List, Bool, true, false, true≢false, sym, subst}
 use Rattle.std.specs.Prelude.{◌≢◌, Result, Ok, Err, IfOk, IfErr, OnErr}
 use Rattle.pc_types.specs.declared.Event.{Event}
@@ -26,7 +26,7 @@ use Rattle.pc_shared.specs.Asked.{is_wait, IsGot, IsWriteMade, IsAdded, got_in, 
 not_still : (e : Refusal) → is_wait (told.Refused e) ≡ false → e ≢ why.StillWaiting
 not_still e calm is = absurd (true≢false (subst (λ (x : Refusal). is_wait (told.Refused x) ≡ false) is calm))
 
--- where the request waits nothing has changed for the session
+-- if the request waits nothing has changed for the session
 pub still : (st : Setting) (before after : Sitting) (event : Event) (reply : Reply) → is_wait reply ≡ true → IsAsked st before event reply after → after ≡ before
 still st before after event told.Wait waits asked = λ k. sitting (asked.number k) (asked.moves k)
 still st before after event (told.Refused e) waits asked = λ k. sitting (asked.number k) (asked.moves k)
@@ -46,7 +46,7 @@ still st before after event (told.PartDone point file entries) waits asked = abs
 still st before after event (told.File file points entries) waits asked = absurd (true≢false (sym waits))
 
 module _ (st : Setting) (before after : Sitting) where
-  -- what a call is told that gives this or is refused
+  -- the fact of a call that gives this or is refused
   abbrev Told : {T : Type 0} → Event → (T → Type 0) → Result T Refusal → Type 0
   Told event Gives r =
       IfOk r Gives

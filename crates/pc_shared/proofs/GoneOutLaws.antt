@@ -1,4 +1,4 @@
--- Whose entries have gone out.
+-- The entries that have gone out.
 use Rattle.std.proofs.Common.{◌≡◌, ℕ, zero, suc, ◌≤◌, List, [], ◌∷◌, ◌++◌, length, take, refl, sym, ap, ◌∙◌, append_assoc, arith}
 use mathlib.Core.List.{IsPrefix}
 use Rattle.pc_types.specs.declared.Entry.{Entry}
@@ -7,7 +7,7 @@ use Rattle.pc_model.proofs.BeginningLaws.{logs_grow}
 use Rattle.pc_tie.specs.Rules.{AreOfOne}
 use Rattle.pc_shared.specs.Written.{AreOut, IsFirstOut}
 
--- of two beginnings of one list the first ones of the one are the first of the other, where that has as many
+-- of two beginnings of one list the first ones of the one are the first of the other, if that has as many
 first_of_both : {X : Type 0} (number : ℕ) (xs ys a b : List X) → xs ++ a ≡ ys ++ b → number ≤ length ys → IsPrefix (take number xs) ys
 first_of_both zero xs ys a b e order = (ys, refl)
 first_of_both (suc n) [] ys a b e order = (ys, refl)
@@ -23,7 +23,7 @@ first_of_both (suc n) (x ∷ xs) (y ∷ ys) a b e order =
     tail_is : {X : Type 0} (x y : X) (xs ys : List X) → x ∷ xs ≡ y ∷ ys → xs ≡ ys
     tail_is x y xs ys e = cc (e)
 
--- what a witness knows of what has gone out, told of the log that a session has seen
+-- the entries that have gone out, by a witness, are those of the log that a session has seen
 pub out_by : (out : List ℕ → Type 0) (run : ℕ) (seen other : History) (count number : ℕ) → AreOfOne seen other → (1 ≤ count → IsFirstOut out run other count) → number ≤ count → AreOut out run seen number
 out_by out run seen other count number one gone order some =
     let f = gone (omega (arith, some, order)) in

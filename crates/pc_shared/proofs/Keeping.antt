@@ -1,4 +1,4 @@
--- What each call leaves a session with.
+-- The state of a session after each call.
 use Rattle.std.proofs.Common.{◌≡◌, ℕ, Bool, true, false, true≢false, List, [], ◌∷◌, ◌++◌, map, refl, ap, sym, ◌∙◌}
 use Rattle.std.specs.Prelude.{Option, Some, None, is_some, ℤ}
 use Rattle.std.proofs.lemmas.List.{map_push}
@@ -24,7 +24,7 @@ use Rattle.pc_shared.specs.Asked.{IsGot, IsWriteMade, IsAdded, write_event}
 use Rattle.pc_shared.specs.Finds.{found_by, found_in}
 use Rattle.pc_shared.specs.Sitters.{SessionKeeps}
 
--- what a session is left with is all that is asked
+-- these facts of a session are all that is asked
 whole : (busy : Bool) (rs : List Read) (ks : List CommitNote) (o : Own) (n : ℕ) (seen : History) → o ≡ own_of n seen → busy ≡ o.is_open → rs ≡ o.reads → ks ≡ notes_of o.receipts → SessionKeeps busy rs ks n seen
 whole busy rs ks o n seen is b r k = record {
   when_open = sym (own_open n seen) ∙ (ap (λ (o : Own). o.is_open) (sym is) ∙ sym b);
@@ -32,7 +32,7 @@ whole busy rs ks o n seen is b r k = record {
   while_busy = λ yes. r ∙ ap (λ (o : Own). o.reads) is;
 }
 
--- and so where its transaction is over, whatever it keeps of that
+-- the same if its transaction is over, whatever it keeps of that
 idle : (busy : Bool) (rs : List Read) (ks : List CommitNote) (o : Own) (n : ℕ) (seen : History) → o ≡ own_of n seen → busy ≡ false → o.is_open ≡ false → ks ≡ notes_of o.receipts → SessionKeeps busy rs ks n seen
 idle busy rs ks o n seen is over shut k = record {
   when_open = sym (own_open n seen) ∙ (ap (λ (o : Own). o.is_open) (sym is) ∙ (shut ∙ sym over));
@@ -84,7 +84,7 @@ module _ (st : Setting) (n : ℕ) (before after : History) where
   summed_own key delta (Some sum) x = add_own st n before after o.is_open o.writes o.reads o.receipts refl key delta sum x
   summed_own key delta None x = add_died_own st n before after o.is_open o.writes o.reads o.receipts refl key delta x
 
-  -- but for commits no call gives it a receipt
+  -- except for commits no call gives it a receipt
   pub begun_receipts : (t : ℕ) → Extends st before (step_of (asked.Begin n) (told.Begun t)) after → (own_of n after).receipts ≡ o.receipts
   begun_receipts t x = ap (λ (o : Own). o.receipts) (sym (begun t x))
 
@@ -132,7 +132,7 @@ module _ (st : Setting) (n : ℕ) (before after : History) where
     pub abort_keeps : Extends st before (step_of (asked.Abort n) told.Aborted) after → then ≡ false → ks' ≡ ks → SessionKeeps then rs' ks' n after
     abort_keeps x over s = idle then rs' ks' (own false o.writes o.reads o.receipts) n after (aborted x) over refl (s ∙ k.of_commits)
 
--- what the newest step found
+-- the value that the newest step found
 pub step_found : (st : Setting) (before after : History) (step : Step) → Extends st before step after → found_in after ≡ found_by step.reply
 step_found st before after step x = ap found_in x.1.1
 

@@ -1,4 +1,4 @@
--- What a session and the log lend of a receipt.
+-- A receipt as a view of a session and the log.
 use Rattle.std.proofs.Common.{◌≡◌, ◌+◌, ◌-◌, ◌<◌, ℕ, List, [], ◌∷◌, ◌++◌, length, get_or, All, Option, Some, None, option_map, refl, ap, sym, ◌∙◌, subst, arith}
 use Rattle.std.specs.Prelude.{slice_get}
 use Rattle.std.proofs.lemmas.Option.{slice_get-map, slice_get_within, get_or_from_slice_get}
@@ -13,11 +13,11 @@ use Rattle.pc_kept_log.specs.Logs.{writes_of_entry}
 use Rattle.pc_shared.specs.Lent.{writes_at, AreLentBy}
 use Rattle.pc_shared.specs.Sitters.{Sitter, IsSitterSettled}
 
--- what holds of all holds of the one at the place
+-- a fact of all is one of the element at the place
 pub at_place : {X : Type 0} (P : X → Type 0) (xs : List X) (i : ℕ) (x : X) → All P xs → slice_get xs i ≡ Some x → P x
 at_place P xs i x all is = subst P (get_or_from_slice_get xs i x x is) (all i x (slice_get_within xs i x is))
 
--- the entry behind so many
+-- the entry after the front
 entry_there : (front behind : List Entry) (e : Entry) → slice_get (front ++ e ∷ behind) (length front) ≡ Some e
 entry_there [] behind e = refl
 entry_there (f ∷ front) behind e = entry_there front behind e
@@ -29,7 +29,7 @@ writes_there base log s r is =
     let place : r.number - 1 ≡ length is.0 = omega (arith, number) in
     ap (λ (n : ℕ). writes_of_entry (slice_get log n)) place ∙ (ap (λ (l : List Entry). writes_of_entry (slice_get l (length is.0))) is.2 ∙ ap writes_of_entry (entry_there is.0 is.1 _))
 
--- the receipts of sessions that a history has settled are lent by its log
+-- of sessions that a history has settled the receipts are views of its log
 pub all_lent : (st : Setting) (hist : History) (ss : List Sitter) → All (IsSitterSettled st hist) ss → All (AreLentBy (log_of hist)) ss
 all_lent st hist ss settled i d lt j r lt' =
     let s = get_or ss i d in
@@ -49,14 +49,14 @@ module _ (log : List Entry) (s : Sitter) (lent_by : AreLentBy log s) where
       let writes = ap (writes_at log) same ∙ one.1 in
       (λ i. Some (record { number = same i; session = sym one.0 i; reads = is i; writes = writes i }))
 
-  -- a receipt is what its note and its entry say
+  -- a receipt is that of its note and its entry
   pub lent : (place number : ℕ) (reads : List Read) → Some number ≡ option_map (λ (n : CommitNote). n.number) (slice_get (notes_of s.receipts) place) → reads ≡ reads_at (notes_of s.receipts) place
       → Some (record { number = number; session = s.number; reads = reads; writes = writes_at log number }) ≡ slice_get s.receipts place
   lent place number reads told is =
       let noted = slice_get-map note_of s.receipts place in
       by_case place number reads (slice_get s.receipts place) refl (told ∙ ap (option_map (λ (n : CommitNote). n.number)) noted) (is ∙ ap reads_in noted)
 
--- and where there is no note there is none
+-- if there is no note there is none
 unnoted : (o : Option Receipt) → None ≡ option_map (λ (n : CommitNote). n.number) (option_map note_of o) → None ≡ o
 unnoted None told = refl
 unnoted (Some r) told = absurd (cc (told))

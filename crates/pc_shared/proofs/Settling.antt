@@ -1,4 +1,4 @@
--- What a comparison at the end tells of the sessions.
+-- The facts of the sessions after a comparison at the end.
 use Rattle.std.proofs.Common.{◌≡◌, ℕ, zero, suc, length, get_or, List, [], ◌∷◌, ◌++◌, map, All, refl, ap, sym, ◌∙◌, subst, arith}
 use Rattle.std.proofs.lemmas.List.{append-nil}
 use Rattle.std.proofs.lemmas.List.Elements.{All-head, All-tail, All-cons}
@@ -40,7 +40,7 @@ at [] k d = refl
 at (s ∷ ss) zero d = refl
 at (s ∷ ss) (suc k) d = at ss k d
 
--- where the keeper had taken in nobody before them
+-- if the keeper had compared none before them
 pub all_settled : (st : Setting) (hist : History) (ss : List Sitter) (guests : List Sitting) → guests ≡ [] → IsLegalHistory st hist → All IsSeated ss → All (IsFrontOf hist) (map sitting_of ss ++ guests) → All (IsSitterSettled st hist) ss
 all_settled st hist ss guests none legal seated fronts =
     settled st hist ss legal seated (subst (All (IsFrontOf hist)) (ap (λ (gs : List Sitting). map sitting_of ss ++ gs) none ∙ append-nil (map sitting_of ss)) fronts)

@@ -1,4 +1,4 @@
--- What a witness shows of an answer to the checkpointer.
+-- What a witness proves of an answer to the checkpointer.
 use Rattle.std.specs.Prelude.{◌≡◌, ◌∷◌}
 use Rattle.pc_types.specs.declared.Reply.{Reply}
 use Rattle.pc_model.specs.Calls.{step_of, IsBeginning}
@@ -6,7 +6,7 @@ use Rattle.pc_model.specs.History.{History, phase_of}
 use Rattle.pc_model.specs.Replies.{Setting, IsLegalHistory}
 use Rattle.pc_latch.specs.Cycles.{next_event}
 
--- The legal history begins with what the checkpointer has seen, and ends with this answer to the event that ends the phase.
+-- The legal history begins with the one that the checkpointer has seen, and ends with this answer to the event that ends the phase.
 pub record EndsWith (st : Setting) (seen : History) (reply : Reply) (history : History) : Type 0 where
   pub legal : IsLegalHistory st history
   pub had_seen : IsBeginning seen history

@@ -1,4 +1,4 @@
--- How a session is told of what was answered.
+-- The answers to a session.
 use Rattle.std.specs.Prelude.{◌≡◌, ℕ, ℤ, Bool, true, false, List, Option, Some, None}
 use Rattle.pc_types.specs.declared.Event.{Event}
 use Rattle.pc_model.specs.History.{History}
@@ -15,7 +15,7 @@ answer_of (got.Found value) = answer.Found
 answer_of got.Absent = answer.Absent
 answer_of got.Died = answer.Died
 
--- what a session's read tells
+-- a session's answer to a read, and the history that it has then seen
 abbrev pub IsRead : Setting → History → ℕ → List ℕ → CallAnswer → History → Type 0
 IsRead st before s key a after = (g : Got) × (a ≡ answer_of g) × IsGot st before s key g after
 
@@ -24,7 +24,7 @@ abbrev pub answer_to : Bool → CallAnswer
 answer_to true = answer.Ok
 answer_to false = answer.Died
 
--- what a session's write tells
+-- a session's answer to a write, and the history that it has then seen
 abbrev pub IsWriteAnswered : Setting → History → Event → CallAnswer → History → Type 0
 IsWriteAnswered st before event a after = (made : Bool) × (a ≡ answer_to made) × IsWriteMade st before event made after
 
@@ -33,6 +33,6 @@ abbrev pub answer_to_add : Option ℤ → CallAnswer
 answer_to_add (Some sum) = answer.Sum sum
 answer_to_add None = answer.Died
 
--- what a session's add tells
+-- a session's answer to an add, and the history that it has then seen
 abbrev pub IsAddAnswered : Setting → History → Event → CallAnswer → History → Type 0
 IsAddAnswered st before event a after = (sum : Option ℤ) × (a ≡ answer_to_add sum) × IsAdded st before event sum after

@@ -1,4 +1,4 @@
--- What a session's calls were answered.
+-- The answers to a session's calls.
 use Rattle.std.specs.Prelude.{ℕ, ℤ, Bool, true, false, List, Option, Some, None, Result, Ok, Err}
 use Rattle.pc_types.specs.declared.Event.{Event}
 use Rattle.pc_types.specs.declared.Event.TheVariants as asked
@@ -45,7 +45,7 @@ abbrev pub write_event : ℕ → List ℕ → Option (List ℕ) → Event
 write_event s key (Some value) = asked.Put s key value
 write_event s key None = asked.Del s key
 
--- what a read gave that doesn't wait, with whether it was of an own write
+-- the result of a read that doesn't wait, with whether it was of an own write
 abbrev pub got_in : Bool → Result GetAnswer Refusal → Result (Got × Bool) Refusal
 got_in own (Ok (read.Found value)) = Ok (got.Found value, own)
 got_in own (Ok read.Absent) = Ok (got.Absent, own)
@@ -53,14 +53,14 @@ got_in own (Ok read.Wait) = Ok (got.Died, own)
 got_in own (Ok read.Died) = Ok (got.Died, own)
 got_in own (Err e) = Err e
 
--- whether a write was made that doesn't wait
+-- whether a write that doesn't wait was made
 abbrev pub made_in : Result Outcome Refusal → Result Bool Refusal
 made_in (Ok Granted) = Ok true
 made_in (Ok Queued) = Ok false
 made_in (Ok Died) = Ok false
 made_in (Err e) = Err e
 
--- the sum of an add that doesn't wait; none where its request died
+-- the sum of an add that doesn't wait; none if its request died
 abbrev pub sum_in : Result AddAnswer Refusal → Result (Option ℤ) Refusal
 sum_in (Ok (added.Sum sum)) = Ok (Some sum)
 sum_in (Ok added.Wait) = Ok None

@@ -1,4 +1,4 @@
--- What the log lends of a receipt.
+-- The part of a receipt that is a view of the log.
 use Rattle.std.specs.Prelude.{◌≡◌, ℕ, ◌-◌, List, All, Option, Some, None, slice_get}
 use Rattle.pc_types.specs.declared.Entry.{Entry}
 use Rattle.pc_types.specs.declared.Receipt.{Receipt}

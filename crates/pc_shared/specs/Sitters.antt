@@ -1,4 +1,4 @@
--- What contracts see of a session, and what is known of sessions when their store is closed.
+-- The view of a session in contracts, and the facts of sessions when their store is closed.
 use Rattle.std.specs.Prelude.{◌≡◌, ◌<◌, ◌≤◌, ◌+◌, ◌==◌, false, All, take, length, get_or, ℕ, zero, suc, Bool, true, List, [], ◌∷◌, ◌++◌}
 use Rattle.std.specs.List.{list_any}
 use Rattle.pc_types.specs.declared.Entry.{Entry}
@@ -22,18 +22,18 @@ pub record Sitter : Type 0 where
 abbrev pub sitter : ℕ → History → List Receipt → Sitter
 sitter number seen receipts = record { number = number; seen = seen; receipts = receipts }
 
--- the session that has seen this history, with the receipts that it gives it
+-- the session that has seen this history, with the receipts that it determines
 abbrev pub seated_at : ℕ → History → Sitter
 seated_at number seen = sitter number seen (own_of number seen).receipts
 
--- The session is busy where its transaction is open; its notes are those of the receipts that its history gives it, and while it
--- is busy so are the reads.
+-- The session is busy if its transaction is open; its notes are those of the receipts that its history determines, and while it is
+-- busy so are the reads.
 pub record SessionKeeps (busy : Bool) (reads : List Read) (commits : List CommitNote) (s : ℕ) (seen : History) : Type 0 where
   pub when_open : is_open s seen ≡ busy
   pub of_commits : commits ≡ notes_of (own_of s seen).receipts
   pub while_busy : busy ≡ true → reads ≡ (own_of s seen).reads
 
--- its number, and what it has seen
+-- its number, and the history that it has seen
 abbrev pub sitting_of : Sitter → Sitting
 sitting_of s = sitting s.number s.seen
 
@@ -42,12 +42,12 @@ abbrev pub new_sitters : ℕ → List Sitter
 new_sitters zero = []
 new_sitters (suc k) = new_sitters k ++ sitter (suc k) [] [] ∷ []
 
--- its number is no witness's, and it has the receipts that its history gives it
+-- its number is no witness's, and it has the receipts that its history determines
 abbrev pub IsSeated : Sitter → Type 0
 IsSeated s = Speaks s.number × (s.receipts ≡ (own_of s.number s.seen).receipts)
 
--- The history begins with what the session has seen, and has no other call of it; its receipts are those that the history gives
--- it, and exact by the log.
+-- The history begins with the one that the session has seen, and has no other call of it; its receipts are those that the history
+-- determines, and exact by the log.
 pub record IsSitterSettled (st : Setting) (history : History) (s : Sitter) : Type 0 where
   pub calls : HasCallsOf history s.number s.seen
   pub own : s.receipts ≡ (own_of s.number history).receipts
@@ -57,11 +57,11 @@ pub record IsSitterSettled (st : Setting) (history : History) (s : Sitter) : Typ
 abbrev pub AreSittersApart : List Sitter → Type 0
 AreSittersApart ss = (i j : ℕ) (d : Sitter) → i < length ss → j < length ss → (get_or ss i d).number ≡ (get_or ss j d).number → i ≡ j
 
--- the session of this number is there
+-- the session of this number is in the list
 abbrev pub is_there : List Sitter → ℕ → Bool
 is_there ss n = list_any (λ s. s.number == n) ss
 
--- the sessions of the numbers 1 to count are there
+-- the sessions numbered 1 to count are in the list
 abbrev pub HasAll : ℕ → List Sitter → Type 0
 HasAll count ss = (k : ℕ) → k < count → is_there ss (k + 1) ≡ true
 
@@ -69,9 +69,9 @@ HasAll count ss = (k : ℕ) → k < count → is_there ss (k + 1) ≡ true
 abbrev pub LacksOne : ℕ → List Sitter → Type 0
 LacksOne count ss = (k : ℕ) × (k < count) × (is_there ss (k + 1) ≡ false)
 
--- What a store leaves, by one legal history: the base is that of the start, and the log that of the history; each session has
--- seen a beginning of it with just its calls, and has exact receipts; so has the checkpointer seen one with just its calls; each
--- part is the file of its points; and the entries that were handed out are the first of the log, so many.
+-- The remains of a store, by one legal history: the base is that of the start, and the log that of the history; each session has
+-- seen a beginning of it with just its calls, and has exact receipts; the checkpointer too has seen one with just its calls; each
+-- part is the file of its points; and the entries that were handed out are the first `logged` ones of the log.
 pub record IsLeftByStore (st : Setting) (start : BaseFile) (log : List Entry) (logged : ℕ) (sessions : List Sitter) (checkpointer : History) (parts : List File) (given : List Entry) (history : History) : Type 0 where
   pub legal : IsLegalHistory st history
   pub base : start ≡ record { run = st.run; point = 0; pairs = st.base }

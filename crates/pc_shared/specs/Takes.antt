@@ -1,4 +1,4 @@
--- Keys of a point that a checkpointer takes, one after the other.
+-- Keys of a point that a checkpointer takes, in order.
 use Rattle.std.specs.Prelude.{◌≡◌, ◌<◌, ℕ, zero, suc, List, Option}
 use Rattle.pc_types.specs.declared.Reply.{Reply}
 use Rattle.pc_types.specs.declared.Reply.TheVariants as told
@@ -14,19 +14,19 @@ abbrev pub HasTaken : Setting → ℕ → History → History → Type 0
 HasTaken st zero before after = after ≡ before
 HasTaken st (suc keys) before after = (between : History) × HasTaken st keys before between × ((key : List ℕ) × (content : Option (List ℕ)) × IsTakeCalled st between (told.Took key content) after)
 
--- How a turn of takes has ended, behind this many keys: they are as many as were asked for; or the next call was answered that none is
+-- How a turn of takes ended, after this many keys: they are as many as were asked for; or the next call was answered that none is
 -- left, or it was refused.
 abbrev pub HasEndedTakes : Setting → ℕ → ℕ → TakesEnd → History → History → Type 0
 HasEndedTakes st most keys ended.Enough before after = (keys ≡ most) × (after ≡ before)
 HasEndedTakes st most keys ended.NoneLeft before after = (keys < most) × IsTakeCalled st before told.NoneLeft after
 HasEndedTakes st most keys (ended.Refused why) before after = (keys < most) × IsTakeCalled st before (told.Refused why) after
 
--- who waits is told of them as of one such reply, without a key: that none is left, where none was taken, and else that one was found
+-- the reply that is noted for a turn of takes, without a key: `NoneLeft` if none was taken, otherwise `Absent`
 abbrev pub told_of_takes : ℕ → Reply
 told_of_takes zero = told.NoneLeft
 told_of_takes (suc keys) = told.Absent
 
--- the turn's keys were taken, and then it ended so
+-- the turn's keys were taken, and then it ended in this way
 pub record IsTurnOfTakes (st : Setting) (most : ℕ) (before : History) (takes : Takes) (after : History) : Type 0 where
   pub between : History
   pub taken : HasTaken st takes.keys before between

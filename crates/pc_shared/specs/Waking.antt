@@ -1,4 +1,4 @@
--- Who waits at a store's latch, and who is to be woken by which reply.
+-- The calls that wait at a store's latch, and those that a reply wakes.
 use Rattle.std.specs.Prelude.{ℕ, ◌+◌, ◌-◌, ◌^◌, ◌%◌, min, nat_lt, ◌&&◌, ◌==◌, not, Bool, true, false, if◌then◌else◌}
 use Rattle.pc_types.specs.declared.Reply.{Reply}
 use Rattle.pc_types.specs.declared.Reply.TheVariants as told
@@ -16,7 +16,7 @@ none_due = 2 ^ 32 - 1
 abbrev pub none_come : Awaited
 none_come = record { count = 0; waiting = 0 }
 
--- nobody waits, and nothing has changed
+-- no call waits, and nothing has changed
 abbrev pub none_wait : Waits
 none_wait = record { for_locks = 0; changes = none_come; phases = none_come; due = none_due; has_last = false }
 
@@ -28,14 +28,14 @@ come a = record a { count = (a.count + 1) % 2 ^ 64 }
 abbrev pub is_awaited : Awaited → Bool
 is_awaited a = nat_lt 0 a.waiting
 
--- one call more waits for it, or one less
+-- one more call waits for it, or one fewer
 abbrev pub one_more : Awaited → Awaited
 one_more a = record a { waiting = min (a.waiting + 1) (2 ^ 64 - 1) }
 
 abbrev pub one_less : Awaited → Awaited
 one_less a = record a { waiting = a.waiting - 1 }
 
--- what is known of the news
+-- the state of the news
 abbrev pub of_news : Waits → News → Awaited
 of_news w Change = w.changes
 of_news w Phase = w.phases
@@ -44,7 +44,7 @@ abbrev pub with_news : Waits → News → Awaited → Waits
 with_news w Change a = record w { changes = a }
 with_news w Phase a = record w { phases = a }
 
--- The reply changes the store: each does but a refusal, and such as say that something waits, or that nothing is left.
+-- The reply changes the store: each does except a refusal, and those that say that something waits, or that nothing is left.
 abbrev pub is_change : Reply → Bool
 is_change told.Wait = false
 is_change (told.Refused why) = false
@@ -58,7 +58,7 @@ is_new_phase (told.Phase phase point) = true
 is_new_phase (told.PartDone file from to) = true
 is_new_phase other = false
 
--- it ends a transaction, and lets its locks go
+-- it ends a transaction, and releases its locks
 abbrev pub is_end : Reply → Bool
 is_end (told.Committed number) = true
 is_end told.Aborted = true
@@ -69,7 +69,7 @@ abbrev pub is_due : ℕ → Reply → Bool
 is_due due (told.Committed number) = not (nat_lt number due)
 is_due due other = false
 
--- who is to be woken by the reply
+-- the calls that the reply wakes
 abbrev pub woken_by : Waits → Reply → Woken
 woken_by w reply = record {
   for_locks = is_end reply && not (w.for_locks == 0);
@@ -78,11 +78,11 @@ woken_by w reply = record {
   for_commit = is_due w.due reply;
 }
 
--- nobody is
+-- no call is woken
 abbrev pub nobody : Woken
 nobody = record { for_locks = false; for_change = false; for_phase = false; for_commit = false }
 
--- what is known once the reply is noted
+-- the state once the reply is noted
 abbrev pub noted : Waits → Reply → Waits
 noted w reply = record w {
   changes = if is_change reply then come w.changes else w.changes;
@@ -90,6 +90,6 @@ noted w reply = record w {
   due = if is_due w.due reply then none_due else w.due;
 }
 
--- who is to be woken by the mark of the end
+-- the calls that the mark of the end wakes
 abbrev pub woken_by_end : Waits → Woken
 woken_by_end w = record { for_locks = false; for_change = is_awaited w.changes; for_phase = is_awaited w.phases; for_commit = true }

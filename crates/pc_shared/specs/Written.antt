@@ -1,4 +1,4 @@
--- What has gone out to a writer, and of which entries of a log.
+-- The text that has gone out to a writer, and the log entries that it is of.
 use Rattle.std.specs.Prelude.{◌≡◌, ◌≤◌, ℕ, List, Option, Ok, length, take}
 use mathlib.Core.List.{IsPrefix}
 use Rattle.pc_types.specs.Tallies.{Puts}
@@ -13,7 +13,7 @@ use Rattle.pc_log.specs.Texts.{log_text}
 abbrev pub HasGoneOut : {T : Type 0} → (T → Option (List ℕ)) → Tally T → List ℕ → Type 0
 HasGoneOut {T} contents now text = (earlier : Tally T) × Puts contents earlier now (Ok tt) text
 
--- whatever has gone out to such a writer counts as gone out
+-- all text that has gone out to such a writer counts as gone out
 abbrev pub CountsAsOut : {T : Type 0} → (T → Option (List ℕ)) → (List ℕ → Type 0) → Type 0
 CountsAsOut {T} contents out = (now : Tally T) (text : List ℕ) → HasGoneOut contents now text → out text
 
@@ -23,24 +23,25 @@ pub record HasOut (out : List ℕ → Type 0) (run : ℕ) (first : List Entry) :
   pub begins : IsPrefix first entries
   pub gone : out (log_text run entries)
 
--- so have the first entries, so many, of the log of what is seen, if that is one at least
+-- so have the first `number` entries of the log of the history that is seen, if the number isn't 0
 abbrev pub AreOut : (List ℕ → Type 0) → ℕ → History → ℕ → Type 0
 AreOut out run seen number = 1 ≤ number → HasOut out run (take number (log_of seen))
 
--- the text of just so many entries has, which are the first of the log of what is seen
+-- the text of just `count` entries has, which are the first of the log of the history that is seen
 pub record IsFirstOut (out : List ℕ → Type 0) (run : ℕ) (seen : History) (count : ℕ) : Type 0 where
   pub entries : List Entry
   pub as_many : length entries ≡ count
   pub first : IsPrefix entries (log_of seen)
   pub gone : out (log_text run entries)
 
--- a text of just so many entries of a run's log has gone out
+-- a text of just `count` entries of a run's log has gone out
 pub record HasText (out : List ℕ → Type 0) (run : ℕ) (count : ℕ) : Type 0 where
   pub entries : List Entry
   pub as_many : length entries ≡ count
   pub gone : out (log_text run entries)
 
--- So many entries are written: a log has as many after some legal history, and the text of just so many has gone out, if that is one at least.
+-- This many entries are written: a log has as many after some legal history, and the text of just that many has gone out, if the
+-- number isn't 0.
 abbrev pub AreCounted : (List ℕ → Type 0) → Setting → ℕ → Type 0
 AreCounted out st count = HasEntries st count × (1 ≤ count → HasText out st.run count)
 

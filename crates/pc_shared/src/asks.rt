@@ -1,4 +1,4 @@
-//! What a session's seat asks of the store, event by event.
+//! The calls of a session's seat on the store, event by event.
 ghost use Rattle.std.specs.Prelude.{◌≡◌, ◌≢◌, true, is_some, IfOk, IfErr, OnErr};
 ghost use Rattle.pc_model.specs.Database.{written};
 ghost use Rattle.pc_model.specs.History.{is_open};
@@ -20,7 +20,7 @@ use pc_txn::Got;
 use pc_types::{Key, Lsn, Outcome, Refusal, Reply, TxnNo, Value};
 use std::sync::{MutexGuard, Wait};
 
-// How a session is told of what a read was answered.
+// The session's answer to a read.
 pub(crate) fn answer_of(got: &Got) -> CallAnswer
     ensures { result ≡ answer_of got.now }
 {
@@ -31,7 +31,7 @@ pub(crate) fn answer_of(got: &Got) -> CallAnswer
     }
 }
 
-// How a session is told of a write that was made, or of one whose request died.
+// The session's answer to a write that was made, or whose request died.
 pub(crate) fn answer_to(made: bool) -> CallAnswer
     ensures { result ≡ answer_to made }
 {
@@ -42,7 +42,7 @@ pub(crate) fn answer_to(made: bool) -> CallAnswer
     }
 }
 
-// How a session is told of an add that gave this sum, or of one whose request died.
+// The session's answer to an add that gave this sum, or whose request died.
 pub(crate) fn answer_to_add(sum: Option<i64>) -> CallAnswer
     ensures { result ≡ answer_to_add sum }
 {
@@ -52,7 +52,7 @@ pub(crate) fn answer_to_add(sum: Option<i64>) -> CallAnswer
     }
 }
 
-// The kind of reply that a read was told; its value is left out.
+// The kind of reply to a read; its value is left out.
 fn told_read(answer: &Result<GetAnswer, Refusal>) -> Reply {
     match answer {
         Ok(GetAnswer::Found(_) | GetAnswer::Absent) => Reply::Absent,
@@ -62,7 +62,7 @@ fn told_read(answer: &Result<GetAnswer, Refusal>) -> Reply {
     }
 }
 
-// Whether the answer says that the request waits: it was put into its queue now, or stands there ungranted.
+// Whether the answer says that the request waits: it was put into its queue now, or is there and not yet granted.
 fn is_read_waiting(answer: &Result<GetAnswer, Refusal>) -> bool
     ensures { result ≡ is_wait (get_reply answer.now) }
 {
@@ -99,7 +99,7 @@ fn is_abort_waiting(answer: &Result<(), Refusal>) -> bool
     matches!(answer, Err(Refusal::StillWaiting))
 }
 
-// What a read gave that doesn't wait, with whether it was of an own write.
+// The result of a read that doesn't wait, with whether it was of an own write.
 fn got_in(answer: Result<GetAnswer, Refusal>, own_write: bool) -> Result<(Got, bool), Refusal>
     ensures { result ≡ got_in own_write answer }
 {
@@ -111,7 +111,7 @@ fn got_in(answer: Result<GetAnswer, Refusal>, own_write: bool) -> Result<(Got, b
     }
 }
 
-// Whether a write was made that doesn't wait, or its request died.
+// Whether a write that doesn't wait was made; false if its request died.
 fn made_in(answer: &Result<Outcome, Refusal>) -> Result<bool, Refusal>
     ensures { result ≡ made_in answer.now }
 {
@@ -122,7 +122,7 @@ fn made_in(answer: &Result<Outcome, Refusal>) -> Result<bool, Refusal>
     }
 }
 
-// The sum of an add that doesn't wait; none where its request died.
+// The sum of an add that doesn't wait; none if its request died.
 fn sum_in(answer: &Result<AddAnswer, Refusal>) -> Result<Option<i64>, Refusal>
     ensures { result ≡ sum_in answer.now }
 {
@@ -133,7 +133,7 @@ fn sum_in(answer: &Result<AddAnswer, Refusal>) -> Result<Option<i64>, Refusal>
     }
 }
 
-// The answer to a begin, and so to a commit and to an abort.
+// The number in the answer to a begin; commits and aborts are answered alike.
 fn number_in(answer: &Result<TxnNo, Refusal>) -> Result<TxnNo, Refusal>
     ensures { result ≡ answer.now }
 {
@@ -162,41 +162,41 @@ fn end_in(answer: &Result<(), Refusal>) -> Result<(), Refusal>
 }
 
 impl<N: StoreName> Shared<N> {
-    // Lets the latch go behind a read that is answered so; its value is left out of what is noted.
+    // Releases the latch after a read with this answer; its value is left out of the note.
     fn end_read(&self, held: MutexGuard<'_, UnderLatch<N>>, answer: &Result<GetAnswer, Refusal>) {
         let told = told_read(answer);
         self.let_go(held, &told);
     }
 
-    // The same behind a begin.
+    // The same after a begin.
     fn end_begin(&self, held: MutexGuard<'_, UnderLatch<N>>, answer: &Result<TxnNo, Refusal>) {
         let answer = *answer;
         let told = begin_reply(answer);
         self.let_go(held, &told);
     }
 
-    // The same behind a put or a del.
+    // The same after a put or a del.
     fn end_write(&self, held: MutexGuard<'_, UnderLatch<N>>, answer: &Result<Outcome, Refusal>) {
         let answer = *answer;
         let told = write_reply(answer);
         self.let_go(held, &told);
     }
 
-    // The same behind an add.
+    // The same after an add.
     fn end_add(&self, held: MutexGuard<'_, UnderLatch<N>>, answer: &Result<AddAnswer, Refusal>) {
         let answer = *answer;
         let told = add_reply(answer);
         self.let_go(held, &told);
     }
 
-    // The same behind a commit.
+    // The same after a commit.
     fn end_commit(&self, held: MutexGuard<'_, UnderLatch<N>>, answer: &Result<Lsn, Refusal>) {
         let answer = *answer;
         let told = commit_reply(answer);
         self.let_go(held, &told);
     }
 
-    // The same behind an abort.
+    // The same after an abort.
     fn end_abort(&self, held: MutexGuard<'_, UnderLatch<N>>, answer: &Result<(), Refusal>) {
         let answer = *answer;
         let told = abort_reply(answer);
@@ -258,7 +258,7 @@ impl<N: StoreName> Shared<N> {
         unreachable!()
     }
 
-    // Sets the key to the value; false where the request died.
+    // Sets the key to the value; false if the request died.
     pub(crate) fn put_as<R: Wait>(
         &self,
         rt: &R,
@@ -285,7 +285,7 @@ impl<N: StoreName> Shared<N> {
         unreachable!()
     }
 
-    // Removes the key; false where the request died.
+    // Removes the key; false if the request died.
     pub(crate) fn del_as<R: Wait>(
         &self,
         rt: &R,
@@ -311,7 +311,7 @@ impl<N: StoreName> Shared<N> {
         unreachable!()
     }
 
-    // Adds to the number that the key has, and gives the sum; None where the request died.
+    // Adds to the key's number, and gives the sum; None if the request died.
     pub(crate) fn add_as<R: Wait>(
         &self,
         rt: &R,

@@ -1,4 +1,4 @@
-//! What a store leaves when it is closed.
+//! The remains of a store that was closed.
 ghost use Rattle.std.specs.Prelude.{◌≡◌, ◌≤◌, ◌++◌, All, MatchBool, length, map, take, vec_capacity};
 ghost use Rattle.pc_model.specs.FewWrites.{HasFewWrites};
 ghost use Rattle.pc_model.specs.Calls.{HasCallsOf};
@@ -18,17 +18,17 @@ use pc_latch::{Latched, LogPass, PartTicket, renew_tickets};
 use pc_part::Base;
 use pc_tie::{CheckpointerSeat, Keeper, StoreName, Tie};
 
-/// What is left of a store that was closed.
+/// The remains of a store that was closed.
 #[derive(Drop)]
 pub struct Closed<N: StoreName> {
     pub(crate) world: World,
-    /// How many entries of the log were handed out.
+    /// The number of log entries that were handed out.
     pub logged: usize,
     /// The sessions that were handed in, with their receipts.
     pub receipts: Vec<Session<N>>,
     /// The tickets that were handed in, with their parts.
     pub parts: Vec<PartTicket<N>>,
-    /// Whether all sessions of the store are there.
+    /// Whether all sessions of the store were handed in.
     pub all: bool,
     ghost lends: { All (AreLentBy world.log) receipts.items },
 }
@@ -49,9 +49,10 @@ impl<N: StoreName> Closed<N> {
         self.world.log()
     }
 
-    /// The receipt of a commit of a session that was handed in: by the session's place among these, and that of the commit among the
-    /// session's, both counted from 0; None where there are no more than that. It is exact: its number is that of the session's
-    /// commit in the log, its writes are those of that entry, and its reads were right before it. It takes no memory.
+    /// The receipt of a commit of a session that was handed in: by the session's place among these, and the commit's place among
+    /// the session's, both counted from 0; None if there is no such session or commit. It is exact: its number is that of the
+    /// session's commit in the log, its writes are those of that entry, and its reads were correct right before it. It allocates
+    /// nothing.
     pub fn receipt(&self, session: usize, place: usize) -> Option<LentReceipt<'_>>
         ensures { result ≡ receipt_at self.now.receipts.items session place }
     {
@@ -62,7 +63,7 @@ impl<N: StoreName> Closed<N> {
     }
 }
 
-// Compares the history with all that the sessions have seen. Each session is taken out, and is put back with its seat after
+// Compares the history with the history that each session has seen. Each session is taken out, and put back with its seat after
 // those before it were compared too.
 pub(crate) fn compare_all<N: StoreName>(
     tie: &Tie<N>,
@@ -89,14 +90,14 @@ pub(crate) fn compare_all<N: StoreName>(
     sessions.push_reserved(Session { seat, work });
 }
 
-// Whether a session of the number is there.
+// Whether a session of the number is in the list.
 fn has_number<N: StoreName>(sessions: &[Session<N>], number: u32) -> bool
     ensures { result ≡ is_there sessions.now number }
 {
     sessions.iter().any(|session| session.number().0 == number)
 }
 
-// Whether the sessions of the numbers 1 to count are there.
+// Whether the sessions numbered 1 to count are in the list.
 pub(crate) fn has_all<N: StoreName>(sessions: &[Session<N>], count: u8) -> bool
     ensures { MatchBool result (HasAll count sessions.now) (LacksOne count sessions.now) }
 {
@@ -109,7 +110,7 @@ pub(crate) fn has_all<N: StoreName>(sessions: &[Session<N>], count: u8) -> bool
     true
 }
 
-// Compares the history with all that the sessions, the checkpointer, the tickets and the pass have seen.
+// Compares the history with those that the sessions, the checkpointer, the tickets and the pass have seen.
 pub(crate) fn close<N: StoreName>(
     tie: &Tie<N>,
     count: u8,

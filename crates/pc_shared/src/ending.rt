@@ -1,4 +1,4 @@
-//! The end of a store, which is marked once, and what its mark tells.
+//! The end of a store, which is marked once, and the history that its mark stands for.
 ghost use Rattle.std.specs.Prelude.{◌≡◌, true, IfSome};
 ghost use mathlib.Core.List.{IsPrefix};
 ghost use Rattle.pc_model.specs.History.{log_of};
@@ -17,16 +17,16 @@ pub struct EndMark<'a, N: StoreName> {
     pub(crate) token: OnceToken<'a, Milestone<N>>,
 }
 
-/// What a call that marks the end gives.
+/// The result of a call that marks the end.
 #[derive(Drop)]
 pub struct Marked<'a, N: StoreName> {
     pub mark: EndMark<'a, N>,
-    /// Whether this call has marked the end, and no earlier one.
+    /// Whether this call has marked the end, and no earlier one has.
     pub is_new: bool,
 }
 
 impl<'a, N: StoreName> EndMark<'a, N> {
-    /// Two marks of one store's end tell of the same history.
+    /// Two marks of one store's end have the same history.
     pub fn agrees(&self, other: &EndMark<'a, N>)
         requires { self.now.token.of ≡ other.now.token.of }
         ensures { self.now.token.value ≡ other.now.token.value }
@@ -36,9 +36,9 @@ impl<'a, N: StoreName> EndMark<'a, N> {
 }
 
 impl<N: StoreName> Shared<N> {
-    /// Marks the end, for loops that ask whether it is marked, and gives the mark; where it was marked before, the mark from then. It
+    /// Marks the end, for loops that ask whether it is marked, and returns the mark; if it was marked before, the earlier mark. It
     /// is a change, of the phase too, and ends nothing by itself. The witness has then seen the store's legal history so far, which
-    /// is the one that a new mark tells of.
+    /// is the history of a new mark.
     pub fn mark_end<R: Wait>(&self, rt: &R, witness: &mut Witness<N>) -> Marked<'_, N>
         ensures ours { result.mark.token.of ≡ self.now.end.id }
         ensures fresh { result.is_new ≡ true → result.mark.token.value ≡ witness.new }
@@ -63,7 +63,7 @@ impl<N: StoreName> Shared<N> {
         }
     }
 
-    /// The mark of the end, if that was marked.
+    /// The mark of the end, if it was marked.
     pub fn end_mark(&self) -> Option<EndMark<'_, N>>
         ensures { IfSome result (λ mark. mark.token.of ≡ self.now.end.id) }
     {
@@ -73,8 +73,8 @@ impl<N: StoreName> Shared<N> {
         }
     }
 
-    /// The mark of the end, once that is marked and the pass has handed out all entries that the log has: it then has each that the
-    /// log had when the end was marked.
+    /// The mark of the end, once it is marked and the pass has handed out all entries of the log: it then has each that the log had
+    /// when the end was marked.
     pub fn end_of_log<R: Wait>(&self, rt: &R, pass: &mut LogPass<N>) -> Option<EndMark<'_, N>>
         ensures same { pass.new ≡ pass.old }
         ensures ours { IfSome result (λ mark. mark.token.of ≡ self.now.end.id) }

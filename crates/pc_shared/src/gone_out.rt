@@ -1,4 +1,4 @@
-//! What of a store's log has gone out.
+//! The entries of a store's log that have gone out.
 ghost use Rattle.std.specs.Prelude.{◌≡◌, ◌≤◌, ℕ, length};
 ghost use mathlib.Core.List.{IsPrefix};
 ghost use Rattle.pc_model.specs.History.{log_of};
@@ -9,8 +9,8 @@ use pc_latch::LogPass;
 use pc_tie::{SessionSeat, StoreName, Tie, Witness};
 use std::marker::Model;
 
-/// How many entries of a store's log have gone out as text, with a witness of a history of whose log they are the first. Contracts
-/// see how many.
+/// The number of entries of a store's log that have gone out as text, with a witness of a history of whose log they are the first.
+/// Contracts see the number.
 #[derive(Drop)]
 pub(crate) struct GoneOut<N: StoreName> {
     count: u64,
@@ -29,14 +29,14 @@ impl<N: StoreName> Model for GoneOut<N> {
 }
 
 impl<N: StoreName> GoneOut<N> {
-    /// None has, of a store in which nothing has happened.
+    /// No entry has gone out, of a store in which nothing has happened.
     pub(crate) fn none(seen: Witness<N>) -> GoneOut<N>
         ensures { result ≡ 0 }
     {
         GoneOut { count: 0, seen }
     }
 
-    /// Those have that the pass has handed out, the first of the log of what the witness has seen.
+    /// The entries that the pass has handed out have gone out, the first of the log of the history that the witness has seen.
     pub(crate) fn of(pass: &LogPass<N>, seen: Witness<N>) -> GoneOut<N>
         requires first { IsPrefix pass.now (log_of seen) }
         requires out { N.out (log_text N.name.setting.run pass.now) }
@@ -48,7 +48,7 @@ impl<N: StoreName> GoneOut<N> {
         }
     }
 
-    /// How many have.
+    /// The number of entries.
     pub(crate) fn count(&self) -> u64
         ensures count { result ≡ self.now }
         ensures counted { AreCounted N.out N.name.setting result }
@@ -56,7 +56,7 @@ impl<N: StoreName> GoneOut<N> {
         self.count
     }
 
-    /// Compares them with the log that the session has seen: its first ones are among them, so many.
+    /// Compares them with the log that the session has seen: the first entries of that log, up to their number, are among them.
     pub(crate) fn compare(&mut self, tie: &Tie<N>, session: &mut SessionSeat<N>)
         ensures same { (self.new ≡ self.old) × (session.new ≡ session.old) }
         ensures out { (number : ℕ) → number ≤ self.old → AreOut N.out N.name.setting.run session.old.seen number }

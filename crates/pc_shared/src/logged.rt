@@ -1,4 +1,4 @@
-//! How far a store's log is written, and who waits for that.
+//! How far a store's log is written, and the calls that wait for it.
 ghost use Rattle.std.specs.Prelude.{◌≡◌, ◌≤◌, true, IfErr, IfOk, IfSome};
 ghost use mathlib.Core.List.{IsPrefix};
 ghost use Rattle.pc_model.specs.History.{log_of};
@@ -17,7 +17,7 @@ use std::io;
 use std::sync::atomic::{AtomicU64, Ordering};
 use std::sync::{Condvar, Mutex, OnceLock, OnceToken, Wait};
 
-// How often who waits for an entry looks for it before it sleeps, and how often it lets others run after each look.
+// How often a call that waits for an entry looks for it before it sleeps, and how often it lets others run after each look.
 const LOOKS: u32 = 32;
 
 const PAUSE: u32 = 8;
@@ -25,9 +25,9 @@ const PAUSE: u32 = 8;
 /// The next entries of a store's log, as their texts.
 #[derive(Drop)]
 pub struct LogBatch<N: StoreName> {
-    /// The texts, one behind the other.
+    /// The texts, in order.
     pub text: Vec<u8>,
-    /// How many entries they are of.
+    /// The number of entries.
     pub count: usize,
     /// A witness of the history of whose log they are.
     pub seen: Witness<N>,
@@ -36,13 +36,13 @@ pub struct LogBatch<N: StoreName> {
 /// The last entry of a store's log.
 #[derive(Drop)]
 pub struct LastEntry<N: StoreName> {
-    /// Its number, 0 where the log has none.
+    /// Its number, 0 if the log has none.
     pub number: Lsn,
     /// A witness of the history of whose log it is.
     pub seen: Witness<N>,
 }
 
-/// That no more of a store's log will be written.
+/// Marks that no more of a store's log will be written.
 #[derive(Drop)]
 pub struct LogEnded;
 
@@ -53,20 +53,20 @@ pub struct LogEndMark<'a> {
     pub(crate) token: OnceToken<'a, LogEnded>,
 }
 
-/// How many entries of the log are written, whether that stays, and who waits for more.
+/// The number of the log's entries that are written, whether it is final, and the calls that wait for more.
 #[derive(Drop)]
 pub(crate) struct Logged<N: StoreName> {
     written: Written<N>,
-    // That no more will be, once that is marked.
+    // Marked once no more will be written.
     pub(crate) ended: OnceLock<LogEnded>,
     waiting: AtomicU64,
-    // What has gone out, which is held by who goes to sleep, or changes what is waited for.
+    // The entries that have gone out; locked by a thread that goes to sleep, or that changes what is waited for.
     gone_out: Mutex<GoneOut<N>>,
     told: Condvar,
 }
 
 impl<N: StoreName> Logged<N> {
-    /// Nothing is written, and nobody waits. The witness is of a store in which nothing has happened.
+    /// No entry is written, and no call waits. The witness is of a store in which nothing has happened.
     pub(crate) fn new(written: Written<N>, seen: Witness<N>) -> Logged<N> {
         Logged {
             written,
@@ -77,7 +77,7 @@ impl<N: StoreName> Logged<N> {
         }
     }
 
-    // The mark that no more will be written, if that was marked.
+    // The mark that no more will be written, if it was marked.
     fn end_mark(&self) -> Option<LogEndMark<'_>>
         ensures { IfSome result (λ mark. mark.token.of ≡ self.now.ended.id) }
     {
@@ -95,7 +95,7 @@ impl<N: StoreName> Logged<N> {
         self.waiting.load(Ordering::SeqCst) > 0
     }
 
-    // What the pass has handed out is written, the first entries of the log of what the witness has seen.
+    // The entries that the pass has handed out are written, the first of the log of the history that the witness has seen.
     fn mark<R: Wait>(&self, rt: &R, pass: &LogPass<N>, seen: Witness<N>)
         requires first { IsPrefix pass.now (log_of seen) }
         requires out { N.out (log_text N.name.setting.run pass.now) }
@@ -122,7 +122,8 @@ impl<N: StoreName> Logged<N> {
         }
     }
 
-    // Waits until so many are written, and gives how many are; those are among what has gone out, by the log that the session has seen.
+    // Waits until this many are written, and gives their number; those are among the entries that have gone out, by the log that
+    // the session has seen.
     fn until<R: Wait>(
         &self,
         rt: &R,
@@ -146,7 +147,7 @@ impl<N: StoreName> Logged<N> {
         written
     }
 
-    // Looks for so many, a few times.
+    // Looks for this many, a few times.
     fn look(&self, entries: u64) {
         for _ in 0..LOOKS {
             if entries <= self.written.get() || self.has_ended() {
@@ -156,7 +157,7 @@ impl<N: StoreName> Logged<N> {
         }
     }
 
-    // Sleeps until so many are written.
+    // Sleeps until this many are written.
     fn sleep<R: Wait>(
         &self,
         rt: &R,
@@ -187,9 +188,9 @@ impl<N: StoreName> Logged<N> {
 }
 
 impl<N: StoreName> Shared<N> {
-    /// Marks as written the entries that the pass has handed out, the first of the log of what the witness has seen: since some
-    /// earlier state of the writer the text of the log that they make has gone out to it, and counts as gone out by the store's name.
-    /// Who waits for one of them goes on.
+    /// Marks as written the entries that the pass has handed out, the first of the log of the history that the witness has seen:
+    /// since some earlier state of the writer their text has gone out to it, and counts as gone out by the store's name. Calls that
+    /// wait for one of them go on.
     pub fn mark_logged<R: Wait, W: io::Write>(
         &self,
         rt: &R,
@@ -205,34 +206,35 @@ impl<N: StoreName> Shared<N> {
         self.logged.mark(rt, pass, seen);
     }
 
-    /// Marks that no more entries will be written. Who waits for one goes on; that is promised by no clause.
+    /// Marks that no more entries will be written. Calls that wait for one go on; no clause promises that.
     pub fn mark_log_end<R: Wait>(&self, rt: &R) {
         self.logged.end(rt);
     }
 
-    /// The mark of the log's end, if that was marked. That there is none is no promise: a mark of another thread may be seen or not.
+    /// The mark of the log's end, if it was marked. None is no promise: a mark of another thread may be seen or not.
     pub fn log_end_mark(&self) -> Option<LogEndMark<'_>>
         ensures { IfSome result (λ mark. mark.token.of ≡ self.now.logged.ended.id) }
     {
         self.logged.end_mark()
     }
 
-    /// Whether the entry of this number was marked as written: a text of as many entries of the log, or more, has then gone out. False is
-    /// no promise: a mark of another thread may be seen or not.
+    /// Whether the entry of this number was marked as written: a text of as many entries of the log, or more, has then gone out.
+    /// False is no promise: a mark of another thread may be seen or not.
     pub fn is_logged(&self, number: Lsn) -> bool
         ensures { result ≡ true → AreReached N.out N.name.setting number }
     {
         u64::from(number.0) <= self.logged.written.get()
     }
 
-    /// Whether somebody waits for an entry to be written. Nothing is promised of the answer, which may be old when it is read.
+    /// Whether a call waits for an entry to be written. Nothing is promised of the answer, which may be old when it is read.
     pub fn is_log_awaited(&self) -> bool {
         self.logged.is_awaited()
     }
 
-    /// Waits until the entry of this number was marked as written, and gives how many then are: a text of just so many entries has gone
-    /// out; the mark of the log's end where it wasn't, and no more will be. The first entries of the log that the session has seen, up to
-    /// this number, and up to that count, are then the first of those whose text has gone out.
+    /// Waits until the entry of this number is marked as written, and returns the number of entries that then are: a text of just
+    /// that many entries has gone out. If the log ends before the entry is written, returns the mark of the log's end. The first
+    /// entries of the log that the session has seen, up to this number, and up to that count, are then the first of those whose
+    /// text has gone out.
     pub fn until_logged<R: Wait>(
         &self,
         rt: &R,

@@ -21,7 +21,7 @@ use pc_types::{Key, Lsn, Refusal, SessionNo, TxnNo, Value};
 use std::marker::Model;
 use std::sync::Wait;
 
-/// How a read or a write of a session was answered.
+/// The answer to a read or a write of a session.
 #[derive(Clone, Copy, Debug, PartialEq, Eq)]
 pub enum CallAnswer {
     /// The key has a value, which `Session::found` gives.
@@ -36,9 +36,9 @@ pub enum CallAnswer {
     Died,
 }
 
-/// A session of a store. Contracts see its number, the history that it has seen, and the receipts of its commits, which that gives
-/// it. Of each commit it keeps the number of its entry and what its transaction has read; what that has written stands in the log,
-/// beside which `Closed::receipt` lends the receipt whole.
+/// A session of a store. Contracts see its number, the history that it has seen, and the receipts of its commits, which that
+/// history determines. Of each commit it keeps the entry's number and the transaction's reads; the writes are in the log, and
+/// `Closed::receipt` gives a view of the whole receipt.
 #[derive(Drop)]
 pub struct Session<N: StoreName> {
     pub(crate) seat: SessionSeat<N>,
@@ -58,14 +58,14 @@ impl<N: StoreName> Model for Session<N> {
     ghost invariant = { λ s. SessionKeeps s.work.busy s.work.reads.items s.work.commits.items s.seat.number s.seat.seen × (kept_in s.work.latest s.work.reads.items ≡ found_in s.seat.seen) };
 }
 
-/// A receipt, lent from its session and the log; its writes stand in the text of its entry there. Contracts see the receipt.
+/// A view of a receipt, borrowed from its session and the log; its writes are in the text of its log entry. Contracts see the receipt.
 #[derive(Drop)]
 pub struct LentReceipt<'a> {
     /// The number of its entry in the log; the first entry has number 1.
     pub number: Lsn,
     pub session: SessionNo,
-    /// What the transaction has read of keys that it had not written: of each key the first such read, in their order, with the value
-    /// that was answered, or nothing.
+    /// The transaction's reads of keys that it had not written: the first such read of each key, in their order, with the value
+    /// read, or None.
     pub reads: &'a [(Key, Option<Value>)],
     // The log, whose entry of this number has its writes.
     log: &'a Log,
@@ -82,7 +82,7 @@ impl<'a> Model for LentReceipt<'a> {
 }
 
 impl<'a> LentReceipt<'a> {
-    /// Its writes, lent from the text of its entry in the log. It takes no memory.
+    /// A view of its writes in the text of its log entry. It allocates nothing.
     pub fn writes(&self) -> LentWrites<'a>
         ensures { result ≡ self.now.writes }
     {
@@ -99,14 +99,14 @@ impl<N: StoreName> Session<N> {
         self.seat.number()
     }
 
-    /// What it keeps of its commits, in their order: of each the number of its entry in the log, and the reads of its receipt.
+    /// Its commits, in their order: of each the number of its entry in the log, and the reads of its receipt.
     pub fn commits(&self) -> &Commits
         ensures { result.now.items ≡ notes_of self.now.receipts }
     {
         &self.work.commits
     }
 
-    // The receipt of its commit at the place, by the log that has its commits' entries; None where it has no more commits than that.
+    // The receipt of its commit at the place, by the log that has its commits' entries; None if it has no such commit.
     pub(crate) fn receipt<'a>(&'a self, log: &'a Log, place: usize) -> Option<LentReceipt<'a>>
         requires { AreLentBy (entries_of log.now) self.now }
         ensures { result ≡ slice_get self.now.receipts place }
@@ -122,8 +122,8 @@ impl<N: StoreName> Session<N> {
         })
     }
 
-    /// The value that its latest call found, where that was a `get` answered with Found; it is there until the session's next
-    /// call that isn't refused.
+    /// The value that its latest call found, if that was a `get` answered with Found; it is kept until the session's next call that
+    /// isn't refused.
     pub fn found(&self) -> Option<&Value>
         ensures { option_copied result ≡ found_in self.now.seen }
     {
@@ -131,7 +131,7 @@ impl<N: StoreName> Session<N> {
     }
 }
 
-// A session that has no transaction open is told so.
+// The refusal for a session that has no transaction open.
 fn told_idle<N: StoreName>(seat: &SessionSeat<N>) -> Refusal
     requires { is_open seat.now.number seat.now.seen ≡ false }
     ensures told { result ≡ Refusal.NoTransaction }
@@ -143,9 +143,9 @@ fn told_idle<N: StoreName>(seat: &SessionSeat<N>) -> Refusal
 }
 
 impl<N: StoreName> Shared<N> {
-    /// The session begins a transaction, and is told its number. A refusal is one that the store may answer after some legal
-    /// history with all that the session has seen and no other call of it, and changes nothing: `AlreadyBegun` where its
-    /// transaction is open, `LogFull` where the store has begun as many as it may.
+    /// The session begins a transaction; returns its number. A refusal is one that the store may answer after some legal history
+    /// with all that the session has seen and no other call of it, and changes nothing: `AlreadyBegun` if its transaction is open,
+    /// `LogFull` if the store has begun as many as it may.
     pub fn begin<R: Wait>(&self, rt: &R, session: &mut Session<N>) -> Result<TxnNo, Refusal>
         ensures number { session.new.number ≡ session.old.number }
         ensures receipts { session.new.receipts ≡ session.old.receipts }
@@ -162,10 +162,10 @@ impl<N: StoreName> Shared<N> {
         Ok(t)
     }
 
-    /// The session's transaction reads the key, once its lock is granted: it is found or absent, or the request died. While the
-    /// request waits so does the call, which is never refused for it. A refusal is one that the store may answer after some legal
+    /// The session's transaction reads the key, once its lock is granted: it is found or absent, or the request died. The call
+    /// waits while the request waits, and is never refused for it. A refusal is one that the store may answer after some legal
     /// history with all that the session has seen and no other call of it, and changes nothing: the first of `NoTransaction`,
-    /// `MustAbort` and `Full` that stands, else `OutOfMemory`.
+    /// `MustAbort` and `Full` that holds, otherwise `OutOfMemory`.
     pub fn get<R: Wait>(
         &self,
         rt: &R,
@@ -192,10 +192,10 @@ impl<N: StoreName> Shared<N> {
         Ok(answer)
     }
 
-    /// The session's transaction sets the key to the value, once its lock is granted, or the request died. While the request
-    /// waits so does the call, which is never refused for it. A refusal is one that the store may answer after some legal history
-    /// with all that the session has seen and no other call of it, and changes nothing: the first of `NoTransaction`,
-    /// `MustAbort`, `TooManyWrites` and `Full` that stands, else `OutOfMemory`.
+    /// The session's transaction sets the key to the value, once its lock is granted, or the request died. The call waits while the
+    /// request waits, and is never refused for it. A refusal is one that the store may answer after some legal history with all
+    /// that the session has seen and no other call of it, and changes nothing: the first of `NoTransaction`, `MustAbort`,
+    /// `TooManyWrites` and `Full` that holds, otherwise `OutOfMemory`.
     pub fn put<R: Wait>(
         &self,
         rt: &R,
@@ -221,7 +221,7 @@ impl<N: StoreName> Shared<N> {
         Ok(answer_to(made))
     }
 
-    /// The session's transaction removes the key, once its lock is granted, or the request died. It waits as `put` does, and
+    /// The session's transaction removes the key, once its lock is granted, or the request died. It waits as `put` does, and its
     /// refusals are those of `put`.
     pub fn del<R: Wait>(
         &self,
@@ -247,10 +247,10 @@ impl<N: StoreName> Shared<N> {
         Ok(answer_to(made))
     }
 
-    /// The session's transaction adds to the number that the key has, or to 0 where it has no value, once its lock is granted, and
-    /// is told the sum; or the request died. It waits as `put` does. An add is no read of the receipt. Refusals are those of `put`,
-    /// and before `OutOfMemory`, where the lock would be granted: `NotNumber` where the key has a value that has not eight bytes,
-    /// and `OutOfRange` where the sum, or that of all that the transaction has added to the key, leaves 64 bits. None makes a
+    /// The session's transaction adds to the key's number, or to 0 if the key has no value, once its lock is granted, and returns
+    /// the sum; or the request died. It waits as `put` does. An add is no read of the receipt. Its refusals are those of `put`, and
+    /// before `OutOfMemory`, if the lock would be granted: `NotNumber` if the key's value doesn't have eight bytes, and
+    /// `OutOfRange` if the sum, or the total that the transaction has added to the key, isn't in 64 bits. A refused add makes no
     /// request.
     pub fn add<R: Wait>(
         &self,
@@ -277,10 +277,10 @@ impl<N: StoreName> Shared<N> {
         Ok(answer_to_add(sum))
     }
 
-    /// The session's transaction commits, and the session has its receipt: the number of its entry in the log, and what it has
-    /// written and read by the session's history. A refusal is one that the store may answer after some legal history with all
-    /// that the session has seen and no other call of it, and changes nothing: the first of `NoTransaction`, `MustAbort` and
-    /// `LogFull` that stands, else `OutOfMemory`.
+    /// The session's transaction commits, and the session has its receipt: the number of its entry in the log, and its writes and
+    /// reads by the session's history. A refusal is one that the store may answer after some legal history with all that the
+    /// session has seen and no other call of it, and changes nothing: the first of `NoTransaction`, `MustAbort` and `LogFull` that
+    /// holds, otherwise `OutOfMemory`.
     pub fn commit<R: Wait>(&self, rt: &R, session: &mut Session<N>) -> Result<Lsn, Refusal>
         ensures number { session.new.number ≡ session.old.number }
         ensures call { IfOk result (λ n. Extends N.name.setting session.old.seen (step_of (Commit session.old.number) (Committed n)) session.new.seen) }
@@ -302,7 +302,7 @@ impl<N: StoreName> Shared<N> {
         Ok(n)
     }
 
-    /// The session's transaction ends without effect. Refuses with `NoTransaction` exactly where none is open.
+    /// The session's transaction ends without effect. Returns `NoTransaction` if and only if none is open.
     pub fn abort<R: Wait>(&self, rt: &R, session: &mut Session<N>) -> Result<(), Refusal>
         ensures number { session.new.number ≡ session.old.number }
         ensures receipts { session.new.receipts ≡ session.old.receipts }

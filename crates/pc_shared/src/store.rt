@@ -38,7 +38,7 @@ use std::marker::Model;
 use std::sync::{Condvar, Mutex, MutexGuard, OnceLock, Wait};
 use std::thread;
 
-/// What the checkpointer was answered.
+/// The answer to the checkpointer.
 #[derive(Drop)]
 pub struct Advanced<N: StoreName> {
     pub reply: Reply,
@@ -74,10 +74,10 @@ impl Model for Opened {
 }
 
 impl Opened {
-    /// Opens a store that starts from the base, with this many sessions and room for as many keys as the capacity. Refuses with
-    /// `Full` exactly where the base's pairs are more than there is room for, and else only with `OutOfMemory`. The base stands
-    /// at point 0. The seed is that of the hashes of keys: two words given by chance (`RandomState::new`), so that no session
-    /// can pick keys that all share a chain.
+    /// Opens a store that starts from the base, with this many sessions and room for as many keys as the capacity. Returns `Full`
+    /// if and only if the base has more pairs than there is room for; otherwise its only error is `OutOfMemory`. The base is the
+    /// state at point 0 of the run. The seed of the hashes of keys is a random 128-bit number (`RandomState::new`), so that no session can
+    /// pick keys that all share a chain.
     pub fn new(
         alloc: Global,
         base: Base,
@@ -104,7 +104,7 @@ impl Opened {
     }
 
     /// The store under its name; its sessions, numbered from 1, and its checkpointer's seat, which have seen nothing; and its
-    /// logger's pass, to which nothing was handed out. Refuses with `OutOfMemory` alone.
+    /// logger's pass, to which nothing was handed out. Its only error is `OutOfMemory`.
     pub fn named<N: StoreName>(
         self,
     ) -> Result<(Shared<N>, Vec<Session<N>>, CheckpointerSeat<N>, LogPass<N>), Refusal>
@@ -150,8 +150,8 @@ impl Opened {
     }
 }
 
-/// A store that threads share: one world under one latch, and one legal history, of which each session knows a beginning with
-/// all of its own calls.
+/// A store that threads share: one world under one latch, and one legal history, of which each session knows a beginning with all
+/// of its own calls.
 #[derive(Drop)]
 pub struct Shared<N: StoreName> {
     pub(crate) alloc: Global,
@@ -169,11 +169,11 @@ pub struct Shared<N: StoreName> {
     ghost count_is: { N.name.setting.sessions ≡ count },
 }
 
-/// The turn of one thread to begin again what has died.
+/// A thread's turn to begin again a job that has died.
 #[derive(Drop)]
 pub struct Turn;
 
-/// What lies under the latch: the world with its history, and who waits.
+/// The state under the latch: the world with its history, and the calls that wait.
 #[derive(Drop)]
 pub struct UnderLatch<N: StoreName> {
     pub(crate) latched: Latched<N>,
@@ -181,7 +181,7 @@ pub struct UnderLatch<N: StoreName> {
 }
 
 impl<N: StoreName> UnderLatch<N> {
-    // A world in which nothing has happened, and nobody waits.
+    // A world in which nothing has happened, and no call waits.
     fn new(world: World, keeper: Keeper<N>) -> UnderLatch<N>
         requires keeper { (keeper.history ≡ []) × (keeper.guests ≡ []) }
         requires world { Stands world [] × (setting_of world ≡ N.name.setting) }
@@ -193,7 +193,7 @@ impl<N: StoreName> UnderLatch<N> {
         }
     }
 
-    // Notes the reply, and says who is to be woken: those who wait for locks only where a request of one of them was granted.
+    // Notes the reply, and returns the calls to wake: those that wait for locks only if a request of one of them was granted.
     fn note(&mut self, reply: &Reply) -> Woken
         ensures latched { self.new.latched ≡ self.old.latched }
         ensures noted { self.new.waits ≡ noted self.old.waits reply.now }
@@ -205,7 +205,7 @@ impl<N: StoreName> UnderLatch<N> {
         woken
     }
 
-    // Whether the request of a session whose call sleeps waits no more.
+    // Whether the request of a session whose call sleeps no longer waits.
     fn has_granted(&self) -> bool
         ensures { (result ≡ true) ↔ HasGranted N.name.setting self.now.latched self.now.waits.for_locks }
     {
@@ -223,8 +223,8 @@ impl<N: StoreName> UnderLatch<N> {
 // most calls hold it.
 const LOOKS: u32 = 40;
 
-// How often a session's call lets others run after its first look, and at most after a later one. After each look it pauses twice as
-// long as before, so that whoever has the latch can make many calls while the store's data is near.
+// How often a session's call lets others run after its first look, and at most after a later one. After each look it pauses twice
+// as long as before, so that the thread with the latch can make many calls while the store's data is in its cache.
 const FIRST_PAUSE: u32 = 16;
 
 const LONGEST_PAUSE: u32 = 256;
@@ -235,8 +235,8 @@ const FIRST_SHORT_PAUSE: u32 = 1;
 
 const LONGEST_SHORT_PAUSE: u32 = 8;
 
-/// Lets other threads run, so many times: each is a call of the system, and a moment also where no other thread is ready. Nothing is
-/// promised of how long that takes, or of who runs.
+/// Lets other threads run, this many times: each is a system call, and takes a moment even if no other thread is ready. Nothing is
+/// promised of how long it takes, or which thread runs.
 pub fn pause(times: u32) {
     for _ in 0..times {
         thread::yield_now();
@@ -254,7 +254,7 @@ impl<N: StoreName> Shared<N> {
         self.get_latch_after(rt, FIRST_SHORT_PAUSE, LONGEST_SHORT_PAUSE)
     }
 
-    // Gets the latch, and lets others run so often after the first look that finds it held, and at most after a later one.
+    // Gets the latch, and lets others run this often after the first look that finds it held, and at most after a later one.
     fn get_latch_after<R: Wait>(
         &self,
         rt: &R,
@@ -275,7 +275,7 @@ impl<N: StoreName> Shared<N> {
         self.latch.lock(rt)
     }
 
-    // Wakes those who can go on.
+    // Wakes the calls that can go on.
     pub(crate) fn wake(&self, woken: Woken) {
         if woken.for_locks {
             self.granted.notify_all();
@@ -291,8 +291,8 @@ impl<N: StoreName> Shared<N> {
         }
     }
 
-    // Lets the latch go and sleeps, for the session's request, until an end of a transaction has granted a request for which a
-    // call sleeps; then it has the latch again.
+    // Releases the latch and sleeps, for the session's request, until an end of a transaction has granted a request for which a
+    // call sleeps; then takes the latch again.
     pub(crate) fn sleep_for_lock<'a, R: Wait>(
         &'a self,
         rt: &R,
@@ -305,7 +305,7 @@ impl<N: StoreName> Shared<N> {
         held
     }
 
-    // Notes what was answered, lets the latch go, and wakes those who can go on, if there are any.
+    // Notes the answer, releases the latch, and wakes the calls that can go on, if there are any.
     pub(crate) fn let_go(&self, mut held: MutexGuard<'_, UnderLatch<N>>, told: &Reply) {
         if held.waits.note_alone(told) {
             drop(held);
@@ -317,8 +317,8 @@ impl<N: StoreName> Shared<N> {
     }
 
     /// The checkpointer asks for the event that ends the phase of the checkpoint's cycle, and is answered at once: the phase that
-    /// it is then, or the point's part where a capture is done; that transactions or keys are still in the way; or a refusal.
-    /// Which event that is is told by what the checkpointer has seen, which moves on by each answer but a refusal.
+    /// it is then, or the point's part if a capture is done; that transactions or keys are still in the way; or a refusal. The
+    /// history that the checkpointer has seen determines the event; each answer but a refusal extends it.
     pub fn advance<R: Wait>(&self, rt: &R, checkpointer: &mut CheckpointerSeat<N>) -> Reply
         ensures { IsAdvance N.name.setting checkpointer.old result checkpointer.new }
     {
@@ -345,10 +345,10 @@ impl<N: StoreName> Shared<N> {
         Advanced { reply, seen }
     }
 
-    /// The texts of the next entries of the log after those that the pass has handed out, as long as there is room for so many bytes of text,
-    /// which the last one may go beyond; the pass then has them too. The batch has a witness of the store's legal history so far:
-    /// these are the next entries of its log, and where that has more than the pass had, and there is room, it is one at least.
-    /// Refuses with `OutOfMemory` alone, and the pass stays.
+    /// The texts of the next entries of the log after those that the pass has handed out, until they have `room` bytes, which the
+    /// last one may exceed; the pass then has them too. The batch has a witness of the store's legal history so far: these are the
+    /// next entries of its log, at least one if the log has more than the pass had, and there is room. Its only error is
+    /// `OutOfMemory`, and then the pass is unchanged.
     pub fn log_next<R: Wait>(
         &self,
         rt: &R,
@@ -370,11 +370,11 @@ impl<N: StoreName> Shared<N> {
         Ok(LogBatch { text, count, seen })
     }
 
-    /// Ends the store, and tells by one legal history what it leaves: the base that it started from and the log of that history,
+    /// Closes the store, and returns its remains by one legal history: the base that it started from and the log of that history,
     /// of which each session handed in has seen a beginning with all of its own calls, and so has the checkpointer; the sessions'
     /// receipts are exact. Each ticket's part, a joined one too, is the file of its points by that log. The entries that the pass
-    /// has handed out are the first of the log. No two sessions have one number; `all` says whether every session of the store is
-    /// there. It takes no memory.
+    /// has handed out are the first of the log. No two sessions have one number; `all` says whether every session of the store was
+    /// handed in. It allocates nothing.
     pub fn close(
         self,
         sessions: Vec<Session<N>>,
@@ -405,9 +405,9 @@ impl<N: StoreName> Shared<N> {
         close(&tie, count, latched, sessions, checkpointer, tickets, pass)
     }
 
-    /// A ticket of the shelf's file of this number, which is the file of the point of this number, for the checkpointer, who
-    /// knows the shelf by what he has seen. Refuses with `NoFile` exactly where there is no such file, and else only with
-    /// `OutOfMemory`.
+    /// A ticket of the shelf's file of this number, which is the file of the point of this number, for the checkpointer, which
+    /// knows the shelf by the history that it has seen. Returns `NoFile` if and only if there is no such file; otherwise its only
+    /// error is `OutOfMemory`.
     pub fn take_part<R: Wait>(
         &self,
         rt: &R,
@@ -425,9 +425,9 @@ impl<N: StoreName> Shared<N> {
             .take_part(self.alloc, &self.tie, checkpointer, number)
     }
 
-    /// A ticket of the shelf's file of this number, which is the file of the point of this number, for whoever has the witness:
-    /// it has then seen the store's legal history so far. Refuses with `NoFile` exactly where there is no such file after that,
-    /// and else only with `OutOfMemory`.
+    /// A ticket of the shelf's file of this number, which is the file of the point of this number, for the owner of the witness: it
+    /// has then seen the store's legal history so far. Returns `NoFile` if and only if there is no such file after that; otherwise
+    /// its only error is `OutOfMemory`.
     pub fn take_shown<R: Wait>(
         &self,
         rt: &R,
@@ -454,25 +454,26 @@ impl<N: StoreName> Shared<N> {
         held.latched.witness(&self.tie)
     }
 
-    /// Waits until the count of changes isn't `seen`, and gives the count. Each answer but `Wait`, a refusal, `NotYet` and `NoneLeft` is
-    /// a change, all keys of one turn of `take_keys` together are one, and so is a mark of the end; after the greatest `u64` the count
-    /// goes on from 0. Who looks at the store first, and then waits with the count from before the look, misses no change.
+    /// Waits until the count of changes isn't `seen`, and returns the count. Each answer but `Wait`, a refusal, `NotYet` and
+    /// `NoneLeft` is a change, all keys of one turn of `take_keys` together are one, and so is a mark of the end; after the
+    /// greatest `u64` the count goes on from 0. A thread that looks at the store first, and then waits with the count from before
+    /// the look, misses no change.
     pub fn until_changed<R: Wait>(&self, rt: &R, seen: u64) -> u64
         ensures { result ≢ seen }
     {
         self.until(rt, &self.changed, News::Change, seen)
     }
 
-    /// Waits until the count of changes of the phase isn't `seen`, and gives the count. Each answer that names a new phase is
-    /// such a change, and so is a mark of the end; after the greatest `u64` the count goes on from 0. Who waits with the count
-    /// from before a look misses none, and is woken by none of the calls of sessions.
+    /// Waits until the count of changes of the phase isn't `seen`, and returns the count. Each answer that names a new phase is
+    /// such a change, and so is a mark of the end; after the greatest `u64` the count goes on from 0. A thread that waits with the
+    /// count from before a look misses none, and no call of a session wakes it.
     pub fn until_phase<R: Wait>(&self, rt: &R, seen: u64) -> u64
         ensures { result ≢ seen }
     {
         self.until(rt, &self.turned, News::Phase, seen)
     }
 
-    // Waits until it has come another number of times, which the condition tells of.
+    // Waits on the condition until the count of the news isn't `seen`, and gives the count.
     fn until<R: Wait>(&self, rt: &R, told: &Condvar, news: News, seen: u64) -> u64
         ensures { result ≢ seen }
     {
@@ -500,8 +501,8 @@ impl<N: StoreName> Shared<N> {
         LastEntry { number, seen }
     }
 
-    /// The same for the checkpointer, who has seen a beginning of that history: it is no less than the number of the last entry that
-    /// it has seen.
+    /// The same for the checkpointer, which has seen a beginning of that history: it is no less than the number of the last entry
+    /// that it has seen.
     pub fn last_entry_since<R: Wait>(
         &self,
         rt: &R,
@@ -519,8 +520,8 @@ impl<N: StoreName> Shared<N> {
         LastEntry { number, seen }
     }
 
-    /// Waits until the log has the entry of this number, and gives its last one, with a witness of the store's legal history so far,
-    /// of whose log it is; nothing where it hasn't, and the last commit or the end was marked.
+    /// Waits until the log has the entry of this number, and returns its last one, with a witness of the store's legal history so
+    /// far, of whose log it is; None if the log hasn't the entry, and the last commit or the end was marked.
     pub fn until_committed<R: Wait>(&self, rt: &R, number: Lsn) -> Option<LastEntry<N>>
         ensures reached { IfSome result (λ entry. number ≤ entry.number) }
         ensures last { IfSome result (λ entry. entry.number ≡ length (log_of entry.seen)) }
@@ -545,20 +546,20 @@ impl<N: StoreName> Shared<N> {
         unreachable!()
     }
 
-    /// Whether the end was marked. Nothing is promised of the answer; what a mark tells, `end_mark` gives.
+    /// Whether the end was marked. Nothing is promised of the answer; `end_mark` returns a mark with its promise.
     pub fn ended(&self) -> bool {
         self.end.witness().is_some()
     }
 
-    /// Marks that no client commits any more, for who waits for a commit. Nothing is promised of who goes on.
+    /// Marks that no client commits any more, for calls that wait for a commit. Nothing is promised of which go on.
     pub fn mark_last_commit<R: Wait>(&self, rt: &R) {
         self.get_latch(rt).waits.mark_last();
         self.committed.notify_all();
     }
 
-    /// Waits for the turn to begin again what has died, and has it until it is dropped; no two threads have it at once. A thread
-    /// that asks for it is to have no transaction open: then nobody waits for a lock of one that waits here. Nothing of that is
-    /// promised by a clause: that one thread alone has it is the mutex's word.
+    /// Waits for the turn to begin again a job that has died, and has it until it is dropped; no two threads have it at the same
+    /// time. A thread that asks for it must have no transaction open: then no thread waits for a lock of one that waits here. No
+    /// clause promises that; the mutex gives the turn to one thread alone.
     pub fn turn_to_repeat<R: Wait>(&self, rt: &R) -> MutexGuard<'_, Turn> {
         self.repeating.lock(rt)
     }

@@ -10,7 +10,7 @@ use pc_tie::{CheckpointerSeat, StoreName, Tie};
 use pc_types::{Refusal, Reply};
 use std::sync::{MutexGuard, Wait};
 
-/// How a turn of takes has ended.
+/// How a turn of takes ended.
 #[derive(Clone, Copy, Debug, PartialEq, Eq)]
 pub enum TakesEnd {
     /// As many keys were taken as were asked for: more may be left.
@@ -21,14 +21,14 @@ pub enum TakesEnd {
     Refused(Refusal),
 }
 
-/// What a turn of takes came to: how many keys were taken, and how it has ended.
+/// The result of a turn of takes: the number of keys that were taken, and how it ended.
 #[derive(Clone, Copy, Debug, PartialEq, Eq)]
 pub struct Takes {
     pub keys: u32,
     pub end: TakesEnd,
 }
 
-// A reply of the kind that such takes were given last, with no key: whether one was taken.
+// The reply that is noted for a turn of takes, without a key: `NoneLeft` if none was taken, otherwise `Absent`.
 fn told_takes(keys: u32) -> Reply
     ensures { result ≡ told_of_takes keys }
 {
@@ -40,7 +40,7 @@ fn told_takes(keys: u32) -> Reply
 }
 
 impl<N: StoreName> UnderLatch<N> {
-    // Keys of the point are taken, one after the other, until they are this many, none is left, or a take is refused.
+    // Takes keys of the point, in order, until they are this many, none is left, or a take is refused.
     fn take_keys(
         &mut self,
         tie: &Tie<N>,
@@ -70,8 +70,8 @@ impl<N: StoreName> UnderLatch<N> {
 }
 
 impl<N: StoreName> Shared<N> {
-    /// The checkpointer takes one key of the point: the key with what it had there, that none is left, or a refusal. What it has
-    /// seen moves on by each answer but a refusal.
+    /// The checkpointer takes one key of the point: the key with its value there, that none is left, or a refusal. Each answer but
+    /// a refusal extends the history that it has seen.
     pub fn take<R: Wait>(&self, rt: &R, checkpointer: &mut CheckpointerSeat<N>) -> Reply
         ensures { IsTakeCalled N.name.setting checkpointer.old result checkpointer.new }
     {
@@ -81,9 +81,9 @@ impl<N: StoreName> Shared<N> {
         reply
     }
 
-    /// The checkpointer takes keys of the point in one turn of the latch, one after the other, until they are this many, none is
-    /// left, or a take is refused. Each take is a call of its own, and what the checkpointer has seen moves on by each answer but a
-    /// refusal.
+    /// The checkpointer takes keys of the point in one turn of the latch, in order, until they are this many, none is left, or a
+    /// take is refused. Each take is a call of its own, and each answer but a refusal extends the history that the checkpointer has
+    /// seen.
     pub fn take_keys<R: Wait>(
         &self,
         rt: &R,

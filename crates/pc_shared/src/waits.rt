@@ -1,4 +1,4 @@
-//! Who waits at a store's latch, and how often the store has changed.
+//! The calls that wait at a store's latch, and how often the store has changed.
 ghost use Rattle.std.specs.Prelude.{◌≡◌, ◌↔◌, ◌==◌, ◌||◌, ◌&&◌, ◌+◌, ◌-◌, ◌^◌, not, nat_lt, min, if◌then◌else◌, ℕ, true, false};
 ghost use Rattle.pc_shared.specs.Asked.{is_wait};
 ghost use Rattle.pc_shared.specs.Waking.{come, is_awaited, one_more, one_less, of_news, with_news, nobody, none_come, none_due, none_wait, woken_by, noted, woken_by_end};
@@ -6,7 +6,7 @@ ghost use Rattle.pc_shared.specs.Waking.{come, is_awaited, one_more, one_less, o
 use pc_sessions::SessionSet;
 use pc_types::{Lsn, Refusal, Reply};
 
-/// What a thread may wait for, beside locks.
+/// News for which a call may wait, besides locks.
 #[derive(Clone, Copy, Debug, PartialEq, Eq)]
 pub(crate) enum News {
     /// The store changes.
@@ -15,7 +15,7 @@ pub(crate) enum News {
     Phase,
 }
 
-/// How often something has come, and how many calls wait for it.
+/// How often the news has come, and the number of calls that wait for it.
 #[derive(Drop)]
 pub(crate) struct Awaited {
     count: u64,
@@ -23,7 +23,7 @@ pub(crate) struct Awaited {
 }
 
 impl Awaited {
-    // It has not come yet, and nobody waits for it.
+    // It has not come yet, and no call waits for it.
     fn new() -> Awaited
         ensures { result ≡ none_come }
     {
@@ -33,7 +33,7 @@ impl Awaited {
         }
     }
 
-    // It comes once more: whether somebody waits for it.
+    // Counts one occurrence; returns whether a call waits for it.
     fn come(&mut self) -> bool
         ensures come { self.new ≡ come self.old }
         ensures awaited { result ≡ is_awaited self.old }
@@ -49,7 +49,7 @@ impl Awaited {
         self.waiting = self.waiting.saturating_add(1);
     }
 
-    // One call less waits for it.
+    // One fewer call waits for it.
     fn end_waiting(&mut self)
         ensures { self.new ≡ one_less self.old }
     {
@@ -57,8 +57,8 @@ impl Awaited {
     }
 }
 
-/// Which sessions wait for a lock, how often the store and its phase have changed and how many calls wait for that, which entry of
-/// the log is waited for first, and whether the last commit was marked.
+/// The sessions that wait for a lock, how often the store and its phase have changed and how many calls wait for that, the first
+/// log entry that is waited for, and whether the last commit was marked.
 #[derive(Drop)]
 pub struct Waits {
     // The sessions whose calls sleep until their request is granted.
@@ -72,7 +72,7 @@ pub struct Waits {
 // No entry is waited for: none has this number.
 const NONE_DUE: u32 = u32::MAX;
 
-/// Who is to be woken.
+/// The calls to wake.
 #[derive(Drop)]
 pub struct Woken {
     pub(crate) for_locks: bool,
@@ -81,7 +81,7 @@ pub struct Woken {
     pub(crate) for_commit: bool,
 }
 
-// Whether the reply says that the session's request waits: it was put into its queue now, or stands there ungranted.
+// Whether the reply says that the session's request waits: it was put into its queue now, or is there and not yet granted.
 pub(crate) fn is_wait(reply: &Reply) -> bool
     ensures { result ≡ is_wait reply.now }
 {
@@ -89,7 +89,6 @@ pub(crate) fn is_wait(reply: &Reply) -> bool
 }
 
 impl Woken {
-    // Nobody.
     const NOBODY: Woken = Woken {
         for_locks: false,
         for_change: false,
@@ -99,7 +98,7 @@ impl Woken {
 }
 
 impl Waits {
-    // Nobody waits, and nothing has changed.
+    // No call waits, and nothing has changed.
     pub(crate) fn new() -> Waits
         ensures { result ≡ none_wait }
     {
@@ -132,7 +131,7 @@ impl Waits {
         }
     }
 
-    // One call less waits for it.
+    // One fewer call waits for it.
     pub(crate) fn end_waiting(&mut self, news: News)
         ensures { self.new ≡ with_news self.old news (one_less (of_news self.old news)) }
     {
@@ -142,8 +141,8 @@ impl Waits {
         }
     }
 
-    // Notes the reply, and says who is to be woken: those who wait for what it tells, and, where it ends a transaction and so lets
-    // locks go, those who wait for locks.
+    // Notes the reply, and returns the calls to wake: those that wait for its news, and, if it ends a transaction and so releases
+    // locks, those that wait for locks.
     pub(crate) fn note(&mut self, reply: &Reply) -> Woken
         ensures woken { result ≡ woken_by self.old reply.now }
         ensures noted { self.new ≡ noted self.old reply.now }
@@ -173,7 +172,7 @@ impl Waits {
         }
     }
 
-    // Notes the reply where that wakes nobody; else false, and nothing is noted.
+    // Notes the reply if that wakes no call; otherwise false, and nothing is noted.
     pub(crate) fn note_alone(&mut self, reply: &Reply) -> bool
         ensures alone { result ≡ true → woken_by self.old reply.now ≡ nobody }
         ensures noted { self.new ≡ (if result then noted self.old reply.now else self.old) }
@@ -224,7 +223,7 @@ impl Waits {
         self.due = self.due.min(number);
     }
 
-    // Whether somebody waits for the commit of this number; then nobody waits any more, until it is said again.
+    // Whether a call waits for the commit of this number; then none waits any more, until the next `await_commit`.
     fn is_due(&mut self, number: Lsn) -> bool
         ensures due { result ≡ not (nat_lt number self.old.due) }
         ensures noted { self.new ≡ record self.old { due = if nat_lt number self.old.due then self.old.due else none_due } }

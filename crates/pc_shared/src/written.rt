@@ -1,4 +1,4 @@
-//! How many entries of a store's log are written.
+//! The number of entries of a store's log that are written.
 ghost use Rattle.std.specs.Prelude.{◌≡◌};
 ghost use Rattle.pc_log.specs.Texts.{log_text};
 ghost use Rattle.pc_shared.specs.Written.{AreCounted};
@@ -9,7 +9,7 @@ use pc_tie::StoreName;
 use std::alloc::{AllocError, Global};
 use std::marker::PhantomData;
 
-/// The rule of the number: the text of so many entries has gone out. Whoever looks at it learns that.
+/// The rule of the number: the text of that many entries has gone out. A thread that reads the number learns that.
 pub struct CountsEntries<N: StoreName> {
     name: PhantomData<N>,
 }
@@ -29,7 +29,7 @@ impl<S, N: StoreName> Play<S, ()> for CountsEntries<N> {
     ghost then = { λ step before found after. AreCounted N.out N.name.setting found };
 }
 
-/// How many entries of a store's log are written. Only a pass whose text has gone out changes the number.
+/// The number of entries of a store's log that are written. Only a pass whose text has gone out changes it.
 #[derive(Drop)]
 pub(crate) struct Written<N: StoreName> {
     table: Table<(), (), (), CountsEntries<N>, Global>,
@@ -37,13 +37,13 @@ pub(crate) struct Written<N: StoreName> {
 }
 
 impl<N: StoreName> Written<N> {
-    /// None is.
+    /// No entry is written.
     pub(crate) fn new(alloc: Global) -> Result<Written<N>, AllocError> {
         let (table, _seat) = Table::of_words(alloc, &[0], &())?;
         Ok(Written { table })
     }
 
-    /// How many are: their text has gone out.
+    /// The number of written entries: their text has gone out.
     pub(crate) fn get(&self) -> u64
         ensures { AreCounted N.out N.name.setting result }
     {
@@ -51,7 +51,7 @@ impl<N: StoreName> Written<N> {
         entries
     }
 
-    /// Those are that the pass has handed out, whose text has gone out.
+    /// The entries that the pass has handed out are written; their text has gone out.
     pub(crate) fn mark(&self, pass: &LogPass<N>)
         requires { N.out (log_text N.name.setting.run pass.now) }
     {

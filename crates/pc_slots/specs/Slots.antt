@@ -1,4 +1,4 @@
--- A slot: what is kept of a key beside the requests of its lock, and what each moment makes of it.
+-- A slot: what is kept of a key besides the requests of its lock, and what each moment makes of it.
 use Rattle.std.specs.Prelude.{◌≡◌, ℕ, ◌≤◌, ◌==◌, ◌&&◌, ◌||◌, not, Bool, true, false, List, length, Option, Some, None, is_some, is_none, if◌then◌else◌}
 use Rattle.std.specs.Global.{Box}
 use Rattle.std.specs.List.{list_any}
@@ -17,7 +17,7 @@ use Rattle.pc_slots.specs.declared.versions.Stable.TheVariants.{Empty, Held}
 use Rattle.pc_slots.specs.declared.versions.Writer.{Writer}
 use Rattle.pc_slots.specs.Words.{blank_mark, is_marked}
 
--- a slot: its number, its key, and what is kept of the key: what stands in its place, the version that is held and the point that
+-- a slot: its number, its key, and what is kept of the key: the content of its place, the version that is held and the point that
 -- it is known to be of, the open transaction that has written the key, and whether the key is in the two sets
 pub record Slot : Type 0 where
   pub number : ℕ
@@ -33,7 +33,7 @@ pub record Slot : Type 0 where
 abbrev pub nothing_aside : Aside
 nothing_aside = record { writer = None; stable = Empty; mark = 0 }
 
--- what is kept aside in the box, and nothing where there is none
+-- what is kept aside in the box, and nothing if there is none
 abbrev pub aside_in : Option (Box Aside) → Aside
 aside_in None = nothing_aside
 aside_in (Some b) = b.value
@@ -46,15 +46,15 @@ writer_in cell = (aside_in cell.aside).writer
 abbrev pub with_aside : Aside → Slot → Slot
 with_aside aside slot = record slot { stable = aside.stable; mark = aside.mark; writer = aside.writer }
 
--- the slot of the number and the key that has this, where the open set is on the side
+-- the slot of the number and the key that has this, if the open set is on the side
 abbrev pub slot_with : Side → ℕ → List ℕ → Cell → Slot
 slot_with side number key cell = record { number = number; key = key; live = cell.live; stable = (aside_in cell.aside).stable; mark = (aside_in cell.aside).mark; writer = writer_in cell; is_in_open_set = is_marked side cell; is_in_closed_set = is_marked (other_side side) cell }
 
--- what is kept of a key that has this committed, a value or absence, and nothing else; no request stands
+-- what is kept of a key that has this committed, a value or absence, and nothing else; there is no request
 abbrev pub base_cell : Option (List ℕ) → Cell
 base_cell content = record { live = content; aside = None; first_next = 0; second_next = 0; first = blank_mark; second = blank_mark; has_first = false; has_last = false; first_request = 0; last_request = 0 }
 
--- what is committed of a key: what its writer found, or else what stands in its place
+-- the committed content of a key: what its writer found, or else the content of its place
 abbrev pub committed_by : Option Writer → Option (List ℕ) → Option (List ℕ)
 committed_by None live = live
 committed_by (Some w) live = w.before
@@ -63,12 +63,12 @@ committed_by (Some w) live = w.before
 abbrev pub committed : Slot → Option (List ℕ)
 committed slot = committed_by slot.writer slot.live
 
--- the version that is held, or else what stands in the place
+-- the version that is held, or else the content of the place
 abbrev pub version_or : Stable → Option (List ℕ) → Option (List ℕ)
 version_or Empty live = live
 version_or (Held value) live = value
 
--- what the slot's key has at the point, where it is in the closed set
+-- what the slot's key has at the point, if it is in the closed set
 abbrev pub pinned : Slot → Option (List ℕ)
 pinned slot = if slot.is_in_closed_set then version_or slot.stable slot.live else None
 
@@ -78,7 +78,7 @@ pub record Pending : Type 0 where
   pub class : Class
   pub value : Option (List ℕ)
 
--- the write of an open transaction, given what stands in the key's place
+-- the write of an open transaction, given the content of the key's place
 abbrev pub write_of : Option Writer → Option (List ℕ) → Option Pending
 write_of None live = None
 write_of (Some w) live = Some (record { by = w.transaction; class = w.class; value = live })
@@ -100,7 +100,7 @@ is_held (Held value) = true
 abbrev pub is_blank : Aside → Bool
 is_blank aside = is_none aside.writer && (not (is_held aside.stable) && (aside.mark == 0))
 
--- what is held beside a writer where the slot isn't available
+-- what is held during a write if the slot isn't available
 abbrev pub held_for : Option Writer → Stable
 held_for None = Empty
 held_for (Some w) = if same_class w.class During then Held w.before else Empty
@@ -125,7 +125,7 @@ pub record IsSlotSound (point : ℕ) (queue : Queue) (slot : Slot) : Type 0 wher
   pub passed : slot.mark ≤ point
   -- an available slot holds a version
   pub holds : is_available point slot ≡ true → is_held slot.stable ≡ true
-  -- another one holds what is committed where its writer began in prepare, and else nothing
+  -- another one holds what is committed if its writer began in prepare, and otherwise nothing
   pub follows : is_available point slot ≡ false → slot.stable ≡ held_for slot.writer
   -- a key of the closed set that isn't available is written by no transaction but one that began in prepare
   pub prepared : slot.is_in_closed_set ≡ true → (slot.mark == point) ≡ false → is_prepared slot.writer ≡ true
@@ -145,19 +145,19 @@ abbrev pub held_or : Stable → Option (List ℕ) → Stable
 held_or Empty copy = Held copy
 held_or (Held value) copy = Held value
 
--- the slot before the first write of a transaction of the class, given a copy of what stands in the place
+-- the slot before the first write of a transaction of the class, given a copy of the content of the place
 abbrev pub saved : ℕ → Class → Option (List ℕ) → Slot → Slot
 saved point Before copy slot = slot
 saved point During copy slot = record slot { stable = held_or slot.stable copy }
 saved point After copy slot = if slot.is_in_closed_set && not (slot.mark == point) then record slot { stable = Held copy; mark = point } else slot
 
--- a transaction of the class saves a copy of what stands in the place, where it has not written the slot yet
+-- a transaction of the class saves a copy of the content of the place, if it has not written the slot yet
 abbrev pub saves_copy : Class → ℕ → Slot → Bool
 saves_copy Before point slot = false
 saves_copy During point slot = not (is_held slot.stable)
 saves_copy After point slot = slot.is_in_closed_set && not (slot.mark == point)
 
--- the write of a transaction of the class keeps a copy of what stands in the place
+-- the write of a transaction of the class keeps a copy of the content of the place
 abbrev pub keeps_copy : ℕ → Class → Slot → Bool
 keeps_copy point class slot = is_none slot.writer && saves_copy class point slot
 

@@ -3,7 +3,7 @@ use Rattle.std.specs.Prelude.{ℕ, ◌+◌, ◌&&◌, min, Bool, is_some, is_non
 use Rattle.pc_types.specs.declared.limits.TheConstants.{MOST_WRITES}
 use Rattle.pc_slots.specs.declared.cells.Cell.{Cell}
 
--- one more, where there is room for it: there are at most as many as a transaction writes keys
+-- one more, if there is room for it: there are at most as many as a transaction writes keys
 abbrev pub one_more : ℕ → ℕ
 one_more spares = min (spares + 1) MOST_WRITES
 

@@ -26,7 +26,7 @@ place_at slot (Some side) = Some (record { slot = slot; side = side })
 abbrev pub link_at : Word → Option SideSlot
 link_at word = place_at word.slot word.leads_to
 
--- the slot that a link leads to; 0 where it leads to none
+-- the slot that a link leads to; 0 if it leads to none
 abbrev pub slot_of : Option SideSlot → ℕ
 slot_of None = 0
 slot_of (Some place) = place.slot
@@ -92,7 +92,7 @@ pub record HaveLinks (old new : Cell) : Type 0 where
   pub second_slot : new.second_next ≡ old.second_next
   pub second_side : new.second.leads_to ≡ old.second.leads_to
 
--- an end of a queue, where there is one
+-- an end of a queue, if there is one
 abbrev pub end_at : Bool → ℕ → Option ℕ
 end_at true end = Some end
 end_at false end = None

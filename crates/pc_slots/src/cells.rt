@@ -1,4 +1,4 @@
-//! What is kept of a key in its slot.
+//! The record of a key in its slot.
 ghost use Rattle.std.specs.Prelude.{◌≡◌};
 ghost use Rattle.pc_slots.specs.Slots.{base_cell};
 
@@ -8,19 +8,19 @@ use pc_chain::Blank;
 use pc_dirty::Side;
 use pc_types::{SlotId, Value};
 
-/// What is kept of a key, but its requests.
+/// The record of a key, without its requests.
 #[derive(Drop)]
 pub struct Cell {
-    /// What stands in the key's place, a value or absence: what an open transaction has written last, or else what is
+    /// The content of the key's place, a value or absence: what an open transaction has written last, or else what is
     /// committed.
     pub live: Option<Value>,
-    /// What an open transaction or a point needs beside that; none while nothing does.
+    /// The data that an open transaction or a point needs besides that; none while nothing does.
     pub(crate) aside: Option<Box<Aside>>,
-    /// The slots that the links of the two sides lead to, where they lead to one. From here on small fields stand side by side,
-    /// so that all of them and the ends of the queue take 32 bytes.
+    /// The slots that the links of the two sides lead to, if they lead to one. From here on small fields are side by side, so
+    /// that all of them and the ends of the queue take 32 bytes.
     pub(crate) first_next: SlotId,
     pub(crate) second_next: SlotId,
-    /// What else the slot has on each side.
+    /// The slot's other data of each side.
     pub(crate) first: Mark,
     pub(crate) second: Mark,
     /// Whether the queue of the slot's requests has a first and a last one, and which they are then.
@@ -34,8 +34,8 @@ impl Cell {
     ghost use Rattle.std.specs.Prelude.{◌≡◌};
     ghost use Rattle.pc_slots.specs.Words.{is_marked, with_mark};
 
-    /// Whether the slot is in the set on the side: in the open set, where a commit since the last resolve token, or since the
-    /// start, wrote its key; in the closed set, where its key is of the point, and not taken yet.
+    /// Whether the slot is in the set on the side: in the open set, if a commit since the last resolve token, or since the
+    /// start, wrote its key; in the closed set, if its key is of the point, and not taken yet.
     pub(crate) fn is_in(&self, side: Side) -> bool
         ensures { result ≡ is_marked side self.now }
     {
@@ -67,7 +67,7 @@ impl Blank for Cell {
     }
 }
 
-/// What is kept of a key that has this committed, a value or absence, and nothing else.
+/// The record of a key that has this committed, a value or absence, and nothing else.
 pub fn cell_with(content: Option<Value>) -> Cell
     ensures { result ≡ base_cell content }
 {

@@ -5,14 +5,14 @@ ghost use Rattle.pc_slots.specs.Words.{end_at, chain_in, with_ends};
 use crate::cells::Cell;
 use pc_chain::Chain;
 
-// The end, where there is one.
+// The end, if there is one.
 fn end_at(has_end: bool, end: usize) -> Option<usize>
     ensures { result ≡ end_at has_end end }
 {
     if has_end { Some(end) } else { None }
 }
 
-/// The ends of the queue of the slot's requests, where it has any.
+/// The ends of the queue of the slot's requests, if it has any.
 pub fn chain_in(cell: &Cell) -> Chain<usize>
     ensures { result ≡ chain_in cell.now }
 {

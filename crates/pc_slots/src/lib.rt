@@ -1,5 +1,5 @@
-//! What is kept of a key in its slot, and the moments of one slot: its key is written in its place, the write is committed or
-//! undone, and the key is taken. A table of such slots, their locks and the two sets stand above it.
+//! The record of a key in its slot, and the moments of one slot: its key is written in its place, the write is committed or
+//! undone, and the key is taken. A table of such slots, their locks and the two sets are built on it.
 #![tactic(auto)]
 
 mod cells;

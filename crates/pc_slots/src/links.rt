@@ -16,7 +16,7 @@ fn place_at(slot: SlotId, leads_to: Option<Side>) -> Option<SideSlot>
     }
 }
 
-// The slot that a link leads to, 0 where it leads to none, and the side.
+// The slot that a link leads to, 0 if it leads to none, and the side.
 fn parts_of(link: Option<SideSlot>) -> (SlotId, Option<Side>)
     ensures { result ≡ (slot_of link, side_of link) }
 {
@@ -30,7 +30,7 @@ impl Cell {
     ghost use Rattle.std.specs.Prelude.{◌≡◌};
     ghost use Rattle.pc_slots.specs.Words.{link_of, with_link};
 
-    /// What the link of the side leads to, a slot on a side; None where it leads to none.
+    /// The slot and the side to which the link of the side leads; `None` if it leads to none.
     pub fn link(&self, side: Side) -> Option<SideSlot>
         ensures { result ≡ link_of side self.now }
     {

@@ -27,7 +27,7 @@ impl Model for Spares {
 }
 
 impl Spares {
-    /// No boxes yet; an error where memory ran out.
+    /// No boxes yet; an error if an allocation fails.
     pub fn new(alloc: Global) -> Result<Spares, AllocError>
         ensures { IfOk result (λ spares. spares ≡ 0) }
     {
@@ -35,7 +35,7 @@ impl Spares {
         Ok(Spares { boxes })
     }
 
-    /// One of the boxes, or a new one where there is none; an error where there is none and memory ran out.
+    /// One of the boxes, or a new one if there is none; an error if there is none and an allocation failed.
     pub fn take_out(&mut self, alloc: Global) -> Result<Box<Aside>, AllocError>
         ensures blank { IfOk result (λ room. room.value ≡ nothing_aside) }
         ensures fewer { self.new ≡ self.old - 1 }
@@ -47,7 +47,7 @@ impl Spares {
         }
     }
 
-    /// Keeps the box for a later write; where there are as many as there may be it is dropped. It takes no memory.
+    /// Keeps the box for a later write; if there are as many as there may be it is dropped. It allocates no memory.
     pub fn put_back(&mut self, room: Box<Aside>)
         requires { room.value ≡ nothing_aside }
         ensures { self.new ≡ one_more self.old }

@@ -9,7 +9,7 @@ use pc_types::{Class, Point, Refusal, TxnNo, Value};
 use std::alloc::Global;
 use std::test::Fail;
 
-// What happens to a slot; the point is that of the last closed set, and the side that of the open one.
+// A change of a slot; the point is that of the last closed set, and the side that of the open one.
 #[derive(Clone, Copy)]
 enum Moment {
     // A transaction of the class writes a value of one byte, or absence.
@@ -23,8 +23,8 @@ enum Moment {
 
 use Moment::{Close, Commit, Take, Undo, Write};
 
-// What stands in the place, what is committed, what the key has at the point where it is in the closed set, whether anything is
-// kept aside, and how many boxes are kept for later writes.
+// The content of the place, the committed content, the content at the point if the key is in the closed set, whether anything
+// is kept aside, and how many boxes are kept for later writes.
 #[derive(Clone, Copy, Debug, PartialEq)]
 struct SlotSeen(Option<u8>, Option<u8>, Option<u8>, bool, usize);
 
@@ -61,7 +61,6 @@ fn look_at(slot: &Cell, side: Side, spares: &Spares) -> SlotSeen {
     )
 }
 
-// Does it.
 fn happen(alloc: Global, seen: &mut Followed, moment: Moment) -> Result<(), Refusal> {
     let Followed {
         slot,
@@ -216,7 +215,7 @@ fn moments(rt: HostRuntime) -> Result<(), Fail> {
     Ok(())
 }
 
-// How many are kept of so many new boxes that are put back.
+// How many are kept of that many new boxes that are put back.
 fn kept_of(alloc: Global, count: usize) -> Result<usize, Refusal> {
     let mut spares = Spares::new(alloc)?;
     for _ in 0..count {

@@ -16,18 +16,18 @@ use pc_types::{Class, Point, TxnNo, Value, copy_content};
 use std::alloc::{AllocError, Global};
 use std::mem;
 
-/// What a slot keeps beside what stands in its key's place, while an open transaction or a point needs it.
+/// The data of a slot besides the content of its key's place, while an open transaction or a point needs it.
 #[derive(Drop)]
 pub struct Aside {
     /// The open transaction that has written the key.
     pub(crate) writer: Option<Writer>,
-    /// What the key had before, where that is kept for a point.
+    /// The content of the key before, if it is kept for a point.
     pub(crate) stable: Stable,
     /// The point that the stable version is known to be of, if the key is in the closed set.
     pub(crate) mark: Point,
 }
 
-/// What a key had before, kept for the point.
+/// The content of a key before, kept for the point.
 #[derive(Drop)]
 pub(crate) enum Stable {
     /// Nothing is kept.
@@ -41,33 +41,33 @@ pub(crate) enum Stable {
 pub(crate) struct Writer {
     pub(crate) transaction: TxnNo,
     pub(crate) class: Class,
-    /// What is committed of the key, which an abort puts back.
+    /// The committed content of the key, which an abort restores.
     pub(crate) before: Option<Value>,
 }
 
-/// How far the points have come: the side of the open set, and the point of the last closed one.
+/// The progress of the points: the side of the open set, and the point of the last closed one.
 #[derive(Clone, Copy)]
 pub struct Stage {
     pub side: Side,
     pub point: Point,
 }
 
-/// Who writes: an open transaction, and its class.
+/// The writer: an open transaction, and its class.
 #[derive(Clone, Copy)]
 pub struct Author {
     pub transaction: TxnNo,
     pub class: Class,
 }
 
-/// A write that is to stand in a slot, with what is made for it beforehand, so that it takes no memory itself.
+/// A write to be put into a slot, with memory allocated beforehand, so that it takes none itself.
 #[derive(Drop)]
 pub struct Writing {
     pub author: Author,
     /// A box for what the slot keeps aside, in which nothing is kept yet (`Spares::take_out`).
     pub room: Box<Aside>,
-    /// A copy of what stands in the slot, where one is kept (`copy_to_keep`).
+    /// A copy of the slot's content, if one is kept (`copy_to_keep`).
     pub copy: Option<Value>,
-    /// What is written, a value or absence.
+    /// The new content, a value or absence.
     pub value: Option<Value>,
 }
 
@@ -82,7 +82,7 @@ pub(crate) fn nothing_aside() -> Aside
     }
 }
 
-// The slot's box, or this one where it has none; where it has one, this one is put back.
+// The slot's box, or this one if it has none; if it has one, this one is put back.
 fn or_room(aside: Option<Box<Aside>>, room: Box<Aside>, spares: &mut Spares) -> Box<Aside>
     requires { room.value ≡ nothing_aside }
     ensures seen { result.value ≡ aside_in aside }
@@ -97,7 +97,7 @@ fn or_room(aside: Option<Box<Aside>>, room: Box<Aside>, spares: &mut Spares) -> 
     }
 }
 
-// The box, which is put back where nothing is kept in it.
+// The box, which is put back if nothing is kept in it.
 fn trimmed(aside: Box<Aside>, spares: &mut Spares) -> Option<Box<Aside>>
     ensures seen { aside_in result ≡ aside.value }
     ensures gone { is_blank aside.value ≡ true → result ≡ None }
@@ -138,7 +138,7 @@ pub(crate) fn committed_of(slot: &Cell) -> Option<&Value>
     }
 }
 
-/// A copy of the committed value of the slot's key, None where it has none; an error where memory ran out.
+/// A copy of the committed value of the slot's key, `None` if it has none; an error if an allocation fails.
 pub fn committed_copy(alloc: Global, slot: &Cell) -> Result<Option<Value>, AllocError>
     ensures { IfOk result (λ copy. copy ≡ committed (slot_with First 0 [] slot.now)) }
 {
@@ -148,7 +148,7 @@ pub fn committed_copy(alloc: Global, slot: &Cell) -> Result<Option<Value>, Alloc
     }
 }
 
-/// What the slot's key has at the point, where it is in the closed set; None where it has nothing then, or isn't in the set.
+/// The content of the slot's key at the point, if it is in the closed set; `None` if it has nothing then, or isn't in the set.
 pub fn pinned_of(slot: &Cell, side: Side) -> Option<&Value>
     ensures { option_copied result ≡ pinned (slot_with side 0 [] slot.now) }
 {
@@ -161,7 +161,7 @@ pub fn pinned_of(slot: &Cell, side: Side) -> Option<&Value>
     }
 }
 
-// The version that is held, or else what stands in the place.
+// The version that is held, or else the content of the place.
 fn version_or<'a>(stable: &'a Stable, live: &'a Option<Value>) -> Option<&'a Value>
     ensures { option_copied result ≡ version_or stable.now live.now }
 {
@@ -222,8 +222,8 @@ fn is_during(class: Class) -> bool
     }
 }
 
-/// A copy of what stands in the slot, where a write of a transaction of the class keeps one; else None. An error where memory
-/// ran out.
+/// A copy of the slot's content, if a write of a transaction of the class keeps one; else `None`. An error if an allocation
+/// fails.
 pub fn copy_to_keep(
     alloc: Global,
     slot: &Cell,
@@ -240,8 +240,8 @@ pub fn copy_to_keep(
     }
 }
 
-// Whether a write of a transaction of the class keeps a copy of what stands in the slot: it is the first of its transaction,
-// and `save` keeps the copy.
+// Whether a write of a transaction of the class keeps a copy of the slot's content: it is the first of its transaction, and
+// `save` keeps the copy.
 fn keeps_copy(slot: &Cell, stage: Stage, class: Class) -> bool
     ensures { (number : ℕ) (key : List ℕ) → result ≡ keeps_copy stage.point class (slot_with stage.side number key slot.now) }
 {
@@ -255,8 +255,8 @@ fn keeps_copy(slot: &Cell, stage: Stage, class: Class) -> bool
     }
 }
 
-// A transaction of the class is about to write the key, which it has not written yet: the copy is one of what stands there,
-// where one is kept.
+// A transaction of the class is about to write the key, which it has not written yet: the copy is one of the content there, if
+// one is kept.
 fn save(aside: &mut Aside, is_closed: bool, point: Point, class: Class, copy: Option<Value>)
     ensures { (slot : Slot) → slot.is_in_closed_set ≡ is_closed → with_aside aside.new slot ≡ saved point class copy (with_aside aside.old slot) }
 {
@@ -276,8 +276,7 @@ fn save(aside: &mut Aside, is_closed: bool, point: Point, class: Class, copy: Op
     }
 }
 
-// The transaction writes the key in place of what stood there before; its first write is noted. The copy is that of
-// `copy_to_keep`.
+// The transaction writes the key in place of the content before; its first write is noted. The copy is that of `copy_to_keep`.
 fn note(
     aside: &mut Aside,
     is_closed: bool,
@@ -299,7 +298,7 @@ fn note(
     }
 }
 
-/// The write stands in the slot. The slot keeps the room where it has none, and it is put back where it has one. It takes no
+/// Puts the write into the slot. The slot keeps the room if it has none, and it is put back if it has one. It allocates no
 /// memory.
 pub fn put(slot: &mut Cell, stage: Stage, write: Writing, spares: &mut Spares)
     requires { write.room.value ≡ nothing_aside }
@@ -321,7 +320,7 @@ pub fn put(slot: &mut Cell, stage: Stage, write: Writing, spares: &mut Spares)
     slot.aside = Some(aside);
 }
 
-// The write of the writer, if there is one, is committed: true where there is.
+// The write of the writer, if there is one, is committed: true if there is.
 fn commit(aside: &mut Aside, is_closed: bool, point: Point) -> bool
     ensures slot { (slot : Slot) → slot.is_in_closed_set ≡ is_closed → with_aside aside.new (record slot { is_in_open_set = result || slot.is_in_open_set }) ≡ settled point (with_aside aside.old slot) }
     ensures written { result ≡ is_some aside.old.writer }
@@ -339,8 +338,8 @@ fn commit(aside: &mut Aside, is_closed: bool, point: Point) -> bool
     true
 }
 
-/// The write that stands in the slot, if there is one, is committed. True where the slot was not in the open set, and is in it
-/// now. A box in which nothing is kept any more is put back. It takes no memory.
+/// Commits the write in the slot, if there is one. True if the slot was not in the open set, and is in it now. A box in which
+/// nothing is kept any more is put back. It allocates no memory.
 pub fn settle(slot: &mut Cell, stage: Stage, spares: &mut Spares) -> bool
     ensures slot { (number : ℕ) (key : List ℕ) → slot_with stage.side number key slot.new ≡ settled stage.point (slot_with stage.side number key slot.old) }
     ensures links { HaveLinks slot.old slot.new }
@@ -362,7 +361,7 @@ pub fn settle(slot: &mut Cell, stage: Stage, spares: &mut Spares) -> bool
     is_new
 }
 
-// The write of the writer, if there is one, is undone: what it found stands in the place again.
+// The write of the writer, if there is one, is undone: the content that it found is restored.
 fn withdraw(aside: &mut Aside, live: &mut Option<Value>, is_closed: bool, point: Point)
     ensures { (slot : Slot) → slot.is_in_closed_set ≡ is_closed → with_aside aside.new (record slot { live = live.new }) ≡ undone point (with_aside aside.old (record slot { live = live.old })) }
 {
@@ -375,8 +374,7 @@ fn withdraw(aside: &mut Aside, live: &mut Option<Value>, is_closed: bool, point:
     }
 }
 
-/// The write that stands in the slot, if there is one, is undone. A box in which nothing is kept any more is put back. It takes
-/// no memory.
+/// Undoes the write in the slot, if there is one. A box in which nothing is kept any more is put back. It allocates no memory.
 pub fn undo(slot: &mut Cell, stage: Stage, spares: &mut Spares)
     ensures slot { (number : ℕ) (key : List ℕ) → slot_with stage.side number key slot.new ≡ undone stage.point (slot_with stage.side number key slot.old) }
     ensures words { words_of slot.new ≡ words_of slot.old }
@@ -391,7 +389,7 @@ pub fn undo(slot: &mut Cell, stage: Stage, spares: &mut Spares)
 }
 
 /// The key of the slot is taken: the slot is no more in the closed set, and what was kept for the point goes. A box in which
-/// nothing is kept any more is put back. It takes no memory.
+/// nothing is kept any more is put back. It allocates no memory.
 pub fn take(slot: &mut Cell, side: Side, spares: &mut Spares)
     ensures slot { (number : ℕ) (key : List ℕ) → slot_with side number key slot.new ≡ taken_slot (slot_with side number key slot.old) }
     ensures links { HaveLinks slot.old slot.new }

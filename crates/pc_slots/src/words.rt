@@ -1,13 +1,13 @@
-//! What a slot has on each side of the two sets.
+//! The data of a slot on each side of the two sets.
 ghost use Rattle.std.specs.Prelude.{◌≡◌, ◌≢◌, ℕ};
 ghost use Rattle.pc_slots.specs.Words.{blank_mark};
 
 use pc_dirty::Side;
 
-/// What a slot has on one side beside the slot that its link leads to.
+/// The data of a slot on one side besides the slot that its link leads to.
 #[derive(Clone, Copy)]
 pub(crate) struct Mark {
-    /// The side on which the link leads to a slot, what is behind this one in the set; None where it leads to none.
+    /// The side on which the link leads to the next slot of the set; `None` if it leads to none.
     pub(crate) leads_to: Option<Side>,
     /// The slot is in the set on the side.
     pub(crate) is_in: bool,

@@ -1,4 +1,4 @@
--- Readers whose headers were read and are those of one join had such headers before, where they were known.
+-- Readers whose headers were read and are those of one join had such headers before, if they were known.
 use Rattle.std.proofs.Common.{◌≡◌, ℕ, ◌≤◌, eqb, not, ◌||◌, cond, Bool, true, false, List, [], ◌∷◌, length, map, Option, Some, None, Result, Ok, refl, sym, ap, ◌∙◌, arith}
 use Rattle.std.specs.List.{All, list_any}
 use Rattle.std.proofs.lemmas.Bool.Decides.{nat_tests}
@@ -17,9 +17,9 @@ cons_is x y xs ys is = (cc, cc)
 pub some_is : {X : Type 0} (x y : X) → Some x ≡ Some y → x ≡ y
 some_is x y is = cc
 
--- ---- what was known stays
+-- ---- known facts stay
 
--- what one view of each knows stays
+-- facts that one view of each has stay
 abbrev pub StayIn : {A X : Type 0} → (A → Option X) → List A → List A → Type 0
 StayIn view [] [] = Unit {0}
 StayIn view (was ∷ inputs) (now ∷ inputs_now) = StaysKnown (view was) (view now) × StayIn view inputs inputs_now

@@ -1,4 +1,4 @@
--- Why what is to come of readers can't be joined: their keys always rise.
+-- Why the further entries of readers can't be joined: their keys always ascend.
 use Rattle.std.proofs.Common.{◌≡◌, ℕ, zero, suc, Bool, true, false, cond, eqb, List, [], ◌∷◌, length, map, Option, Some, None, Result, Ok, Err, refl, subst, inl, inr}
 use Rattle.std.specs.Prelude.{⊤}
 use Rattle.std.specs.Option.{option_map}
@@ -76,7 +76,7 @@ next_follows format ranges last bytes next rest is =
     let n = bind_ok (number_at Short w16 bytes) (with_count format ranges last) (next, rest) is in
     behind_length format ranges last (eqb n.0.0 0) n.0.0 n.0.1 (next, rest) n.2
 
--- ---- so all that is to come rises
+-- ---- so all further entries ascend
 
 abbrev RisesFrom : {X : Type 0} → List ℕ → List (List ℕ × X) → Type 0
 RisesFrom last [] = ⊤

@@ -1,4 +1,4 @@
--- The headers that were read of readers, one after the other.
+-- The headers that were read of readers, in order.
 use Rattle.std.proofs.Common.{◌≡◌, ℕ, zero, suc, ◌<◌, List, [], ◌∷◌, ◌++◌, length, map, get_or, set, Option, Some, None, Result, Ok, Err, refl, sym, ap, subst, ◌∙◌, arith, inl, inr, cond, Bool, true, false}
 use Rattle.std.specs.List.{AllByRecursion, list_any}
 use Rattle.std.specs.Prelude.{◌==◌, ◌||◌, ◌≢◌, IsTrue, not, slice_get}
@@ -58,11 +58,11 @@ module _ {R : Type 0} (remaining : R → Option (List ℕ)) where
   one_read (suc n) (first ∷ was) (first_now ∷ now) [] x d r h lt is = absurd h
   one_read (suc n) (first ∷ was) (first_now ∷ now) (run ∷ runs) x d r h lt is = (h.0, one_read n was now runs x d r h.1 (omega (arith, lt)) is)
 
-  -- the same of one that is read from where it stands
+  -- the same of one that is read from its current state
   pub one_read_now : (n : ℕ) (was now : Readers) (runs : List ℕ) (x d : PartReader R) (r : ℕ) → AreReadTo remaining n was now runs → n < length was → IsRead remaining (get_or now n d) x r → AreReadTo remaining (suc n) was (set now n x) (runs ++ r ∷ [])
   one_read_now n was now runs x d r h lt is = one_read n was now runs x d r h lt (subst (λ (o : PartReader R). IsRead remaining o x r) (next_is n was now runs d h) is)
 
-  -- what was read stands as it stood
+  -- the readers that were read are unchanged
   pub still : (n : ℕ) (was now : Readers) (runs : List ℕ) → AreReadTo remaining n was now runs → map standing_of now ≡ map standing_of was
   still zero was now runs h = ap (map standing_of) h.0
   still (suc n) [] now runs h = absurd h
@@ -85,7 +85,7 @@ module _ {R : Type 0} (remaining : R → Option (List ℕ)) where
   abbrev SomeOf : Known → List (Option (Result (ℕ × List Range) Refusal))
   SomeOf headers = map (λ (h : Result (ℕ × List Range) Refusal). Some h) headers
 
-  -- where the next one refuses, the headers of all are refused so
+  -- if the next one refuses, the headers of all are refused with that
   refused_there : (n : ℕ) (was now : Readers) (runs : List ℕ) (d : PartReader R) (why : Refusal) → AreReadTo remaining n was now runs → n < length was → header_of remaining (get_or was n d) ≡ Some (Err why)
       → (headers : Known) → map (header_of remaining) was ≡ SomeOf headers → all_headers headers ≡ Err why
   refused_there zero [] now runs d why h lt err headers same = absurd (omega arith)
@@ -119,7 +119,7 @@ module _ {R : Type 0} (remaining : R → Option (List ℕ)) where
       by (Some known) is (inr (inl memory)) = inl memory
       by (Some known) is (inr (inr device)) = inr (inl device)
 
-  -- how all stand then
+  -- the counts of all then
   pub next_stands : (n : ℕ) (was now : Readers) (runs : List ℕ) (d x : PartReader R) (why : Refusal) → AreReadTo remaining n was now runs → n < length was
       → Stands {X = ℕ} (standing_of (get_or now n d)) (standing_of x) (Err why) → AllStand {X = List ℕ} (map standing_of was) (map standing_of (set now n x)) (Err why)
   next_stands n was now runs d x why h lt stands =
@@ -130,7 +130,7 @@ module _ {R : Type 0} (remaining : R → Option (List ℕ)) where
       subst (λ (ss : List Standing). AllStand {X = List ℕ} (map standing_of was) ss (Err why)) (sym is)
       (one_refused ℕ (List ℕ) (map standing_of was) n (standing_of x) within why (subst (λ (s : Standing). Stands {X = ℕ} s (standing_of x) (Err why)) (sym at) stands))
 
-  -- where the next one refuses, not all are read
+  -- if the next one refuses, not all are read
   pub next_unread : (n : ℕ) (was now : Readers) (runs : List ℕ) (d x : PartReader R) (why : Refusal) → AreReadTo remaining n was now runs → n < length was
       → Refuses {X = ℕ} (refused_of (get_or now n d)) (refused_of x) (Err why) → (all : List ℕ) → ¬ AreReadTo remaining (length was) was (set now n x) all
   next_unread n was now runs d x why h lt refused all whole =
@@ -158,7 +158,7 @@ module _ {R : Type 0} (remaining : R → Option (List ℕ)) where
       no_header (Among place) known kept run ranges refused told = absurd cc
       no_header (Refused other) known kept run ranges refused told = absurd cc
 
-  -- the runs that are read are told by what is read
+  -- the runs that are read depend only on the readers
   pub same_runs : (n : ℕ) (was now : Readers) (runs others : List ℕ) → AreReadTo remaining n was now runs → AreReadTo remaining n was now others → runs ≡ others
   same_runs zero was now runs others h k = h.1 ∙ sym k.1
   same_runs (suc n) [] now runs others h k = absurd h
@@ -231,7 +231,7 @@ module _ {R : Type 0} (remaining : R → Option (List ℕ)) where
   runs_back (first ∷ was) (first_now ∷ now) [] h = absurd h
   runs_back (first ∷ was) (first_now ∷ now) (run ∷ runs) h = ap (λ (rs : List ℕ). run ∷ rs) (runs_back was now runs h.1)
 
-  -- what is known of the headers before is what was read
+  -- the known headers before are those that were read
   all_are : (was now : Readers) (runs : List ℕ) → AreRead was now runs → (headers : Known) → map (header_of remaining) was ≡ SomeOf headers → all_headers headers ≡ Ok (headers_of now runs)
   all_are [] [] runs h [] same = refl
   all_are [] [] runs h (header ∷ headers) same = absurd cc
@@ -248,7 +248,7 @@ module _ {R : Type 0} (remaining : R → Option (List ℕ)) where
   pub no_one_run : (was now : Readers) (runs : List ℕ) (why : Refusal) → AreRead was now runs → runs_fault runs ≡ Some why → IsHeadersFault (map (header_of remaining) was) why
   no_one_run was now runs why h fault = inr (inr (λ headers same. ap headers_fault (all_are was now runs h headers same) ∙ ap runs_fault (runs_back was now runs h) ∙ fault))
 
-  -- no inputs have no file, and nothing else is told of them
+  -- no inputs have no file, and no other refusal
   pub none_fault : (was now : Readers) (runs : List ℕ) (why : Refusal) → AreRead was now runs → was ≡ [] → runs_fault runs ≡ Some why → why ≡ NoFile
   none_fault [] now runs why h none fault = let same : Some NoFile ≡ Some why = sym (ap runs_fault h.1) ∙ fault in cc
   none_fault (first ∷ was) now runs why h none fault = absurd cc
@@ -257,7 +257,7 @@ module _ {R : Type 0} (remaining : R → Option (List ℕ)) where
   none_agree [] now runs h none fault = let same : Some NoFile ≡ None = sym (ap runs_fault h.1) ∙ fault in absurd cc
   none_agree (first ∷ was) now runs h none fault = absurd cc
 
-  -- what is told of headers that were read
+  -- the refusal of headers that were read
   pub run_refusal : (was now : Readers) (runs : List ℕ) (why : Refusal) → AreRead was now runs → runs_fault runs ≡ Some why → IsHeadersRefusal remaining was now why
   run_refusal was now [] why h fault = let same : why ≡ NoFile = cc in inl (same, nil_from_length was (sym (many_runs was now [] h)))
   run_refusal was now (run ∷ others) why h fault = by (list_any (λ other. not (other == run)) others) fault
@@ -327,7 +327,7 @@ module _ {R : Type 0} (remaining : R → Option (List ℕ)) where
             (keep_to (set_of.contains (points_of ranges)) (one ∷ was) now runs h (λ p there. ap (λ s. set_of.contains s p) points ∙ there));
       }
 
--- one more is seen behind the others
+-- one more is seen after the others
 pub seen_more : (runs : List ℕ) (run : ℕ) → with_run (runs_seen runs).first (runs_seen runs).differ run ≡ runs_seen (runs ++ run ∷ [])
 seen_more [] run = refl
 seen_more (first ∷ others) run =
@@ -354,7 +354,7 @@ seen_one (run ∷ others) one is = by (list_any (λ other. not (other == run)) o
     by true is = absurd cc
     by false is = (cc, refl)
 
--- the same of what was seen
+-- the same of the runs so far
 pub fault_seen : (seen : RunsSeen) (runs : List ℕ) (why : Refusal) → seen ≡ runs_seen runs → run_of_all seen.first seen.differ ≡ Err why → runs_fault runs ≡ Some why
 fault_seen seen runs why is told = seen_fault runs why (subst (λ (s : RunsSeen). run_of_all s.first s.differ ≡ Err why) is told)
 

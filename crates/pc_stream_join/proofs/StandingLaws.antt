@@ -1,4 +1,4 @@
--- How inputs stand where the call of one was refused.
+-- The counts of failures of inputs after the call of one was refused.
 use Rattle.std.proofs.Common.{◌≡◌, ℕ, zero, suc, ◌<◌, List, [], ◌∷◌, length, map, set, Option, Some, None, Ok, Err, refl, sym, ap, subst, ◌∙◌, arith, inl, inr}
 use Rattle.pc_types.specs.Counted.{HasRisen}
 use Rattle.pc_types.specs.declared.Refusal.{Refusal}
@@ -20,7 +20,7 @@ set_at [] place now lt = absurd (omega arith)
 set_at (first ∷ was) zero now lt = refl
 set_at (first ∷ was) (suc place) now lt = set_at was place now (omega (arith, lt))
 
--- a call that was not refused leaves all as it stood
+-- a call that was not refused leaves all unchanged
 pub ok_stands : {X : Type 0} (was now : Standing) (x : X) → Stands was now (Ok x) → now ≡ was
 ok_stands {X} was now x stands = by was.refused stands
   where
@@ -28,7 +28,7 @@ ok_stands {X} was now x stands = by was.refused stands
     by None stands = stands
     by (Some why) stands = let bad : Ok x ≡ Err why = stands.0 in absurd cc
 
--- where nothing failed all stand as they stood
+-- if nothing failed all are unchanged
 pub none_failed : (X : Type 0) (was now : List Standing) (why : Refusal) → (why ≡ Device → ⊥) → now ≡ was → AllStand {X = X} was now (Err why)
 none_failed X was now why other same = (λ device. absurd (other device), λ _. ap failures same)
 

@@ -1,4 +1,4 @@
--- How a join begins, and what its end says.
+-- How a join begins, and the facts at its end.
 use Rattle.std.proofs.Common.{◌≡◌, ◌<◌, ◌^◌, ℕ, List, [], ◌∷◌, append-nil, map, Option, Some, None, Result, Ok, Err, refl, sym, ap, ◌∙◌, inl, arith}
 use Rattle.std.specs.Prelude.{IfErr, IfOk, IsTrue, OnErr}
 use Rattle.std.proofs.lemmas.List.Elements.{All-nil}
@@ -22,7 +22,7 @@ use Rattle.pc_stream_join.specs.Joining.{IsJoinRefusal, IsJoinWritten, IsUnjoine
 use Rattle.pc_stream_join.specs.Steps.{Begun, IsJoining, JoinEnds}
 use Rattle.pc_stream_join.specs.Writing.{Writing, header_text}
 
--- where the inputs were refused, the output has no failure more
+-- if the inputs were refused, the output has no further failure
 pub inputs_refused : (X : Type 0) (was now : List Standing) (failures : ℕ) (why : Refusal) → AllStand {X = X} was now (Err why) → JoinStands {X = ℕ} was now failures failures (Err why)
 inputs_refused X was now failures why all = (λ device. inl (all.0 device), λ other. (all, refl))
 
@@ -80,7 +80,7 @@ module _ {R : Type 0} (remaining : R → Option (List ℕ)) where
   one_known None now coming is stays = absurd cc
   one_known (Some first) now coming is stays = stays ∙ is
 
-  -- what is known of all stays so
+  -- known facts of all stay
   pub known_stays : (inputs read : List (PartReader R)) (was : List Coming) → StayKnown remaining inputs read → all_known (map (coming_of remaining) inputs) ≡ Some was → all_known (map (coming_of remaining) read) ≡ Some was
   known_stays [] [] was stays is = is
   known_stays [] (x ∷ read) was stays is = absurd stays

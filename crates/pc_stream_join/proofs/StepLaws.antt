@@ -46,7 +46,7 @@ take_front : (xs ys : List ℕ) → take (length xs) (xs ++ ys) ≡ xs
 take_front [] ys = refl
 take_front (x ∷ xs) ys = ap (λ (rest : List ℕ). x ∷ rest) (take_front xs ys)
 
--- what went out is a beginning of it and what is kept
+-- the text that went out is a beginning of it and of the bytes that are kept
 front : (was now : Option (List ℕ)) (gone kept text : List ℕ) → Appends was now gone → gone ++ kept ≡ text → AppendsBeginning was now text
 front None now gone kept text sent is = tt
 front (Some was) None gone kept text sent is = absurd sent
@@ -66,7 +66,7 @@ below_push key (first ∷ given) entry below less =
     let parts = both (is_lt (key_cmp key first.key)) (below_all key_cmp key (entries_of given)) below in
     and_of (is_lt (key_cmp key first.key)) (below_all key_cmp key (entries_of (given ++ entry ∷ []))) parts.0 (below_push key given entry parts.1 less)
 
--- an entry above all others comes behind them
+-- an entry above all others comes after them
 rise_push : (given : List Triple) (entry : Triple) → KeysRise (entries_of given) → AllByRecursion (λ e. key_cmp e.key entry.key ≡ Less) given → KeysRise (entries_of (given ++ entry ∷ []))
 rise_push [] entry rise less = refl
 rise_push (first ∷ given) entry rise less =
@@ -77,7 +77,7 @@ below_trans : (key other : List ℕ) (first : Option Triple) → key_cmp key oth
 below_trans key other None less below = tt
 below_trans key other (Some first) less below = key_order.total.trans key other first.key less below
 
--- ---- what may be refused
+-- ---- possible refusals
 
 merge_refusal : (why : Refusal) → IsMergeRefusal IsReadRefusal why → IsJoinRefusal why
 merge_refusal why (inl conflict) = inl conflict
@@ -95,7 +95,7 @@ module _ {R W : Type 0} (remaining : R → Option (List ℕ)) (contents : W → 
   so_far_short given writing out so = begins_short begun.run begun.ranges given so.run_fits so.apart so.rise so.covered so.fit so.few (contents (inner_of begun.out)) (contents (inner_of out))
       (front (contents (inner_of begun.out)) (contents (inner_of out)) so.gone writing.kept (header_text begun.run begun.ranges ++ flat_map triple_text given) so.sent so.text)
 
-  -- ---- how all stands
+  -- ---- the counts of all
 
   refused_stands : (X : Type 0) (inputs now : List (PartReader R)) (out : Tally W) (why : Refusal) → map standing_of inputs ≡ map standing_of begun.inputs → failures_of out ≡ failures_of begun.out
       → AllStand {X = X} (map standing_of inputs) (map standing_of now) (Err why) → JoinStands {X = ℕ} (map standing_of begun.inputs) (map standing_of now) (failures_of begun.out) (failures_of out) (Err why)
@@ -267,13 +267,13 @@ module _ {R W : Type 0} (remaining : R → Option (List ℕ)) (contents : W → 
       why_failed (inl memory) = inl memory.0
       why_failed (inr device) = inr (inl device.0)
 
--- ---- what the merge answered
+-- ---- the answers of the merge
 
 pub none_of : (next : Option Triple) → ((entry : Triple) → next ≡ Some entry → ⊥) → next ≡ None
 none_of None never = refl
 none_of (Some entry) never = absurd (never entry refl)
 
--- what is known where the merge has answered
+-- the facts after an answer of the merge
 abbrev pub HasAnswered : {R : Type 0} → (R → Option (List ℕ)) → List (PartReader R) → Merging → List (PartReader R) → Merging → Option Triple → Type 0
 HasAnswered remaining inputs merge now merge_now next =
     GoesOn (left_in (map (coming_of remaining) inputs) merge) (left_in (map (coming_of remaining) now) merge_now) (Ok next) × (map standing_of now ≡ map standing_of inputs) × KeysGoOn merge.firsts merge_now.firsts (Ok next)

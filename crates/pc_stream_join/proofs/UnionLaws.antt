@@ -36,7 +36,7 @@ contains-insert_all s (k ∷ ks) q = ap is_some (get-insert (set.insert_all s ks
 contains-items : (s : Set number_order) (q : ℕ) → list_any (eq_by_cmp nat_cmp q) (set.items s) ≡ set.contains s q
 contains-items s q = sym (ap is_some (get-entries s q) ∙ is_some-find nat_cmp q s.entries)
 
--- the union has what either has
+-- the union has the points of both
 pub contains-union : (s t : Set number_order) (q : ℕ) → set.contains (set.union s t) q ≡ (set.contains s q || set.contains t q)
 contains-union s t q = contains-insert_all s (set.items t) q ∙ ap (λ b. b || set.contains s q) (contains-items t q) ∙ or_comm (set.contains t q) (set.contains s q)
 
@@ -53,7 +53,7 @@ pub union_associates : (s t u : Set number_order) → set.union (set.union s t) 
 union_associates s t u = same_set (set.union (set.union s t) u) (set.union s (set.union t u)) (λ q. contains-union (set.union s t) u q ∙ ap (λ b. b || set.contains u q) (contains-union s t q)
     ∙ or_assoc (set.contains s q) (set.contains t q) (set.contains u q) ∙ ap (λ b. set.contains s q || b) (sym (contains-union t u q)) ∙ sym (contains-union s (set.union t u) q))
 
--- what isn't none has some
+-- a list that isn't empty has an element
 pub some_long : {X : Type 0} (xs : List X) → (xs ≡ [] → ⊥) → 0 < length xs
 some_long [] some = absurd (some refl)
 some_long (x ∷ xs) some = omega arith

@@ -1,4 +1,4 @@
--- How a text goes out in pieces, and what is kept of it.
+-- How a text goes out in pieces, and the bytes that are kept of it.
 use Rattle.std.proofs.Common.{◌≤◌, ◌<◌, ◌+◌, ◌-◌, ◌*◌, ℕ, List, [], ◌∷◌, ◌++◌, length, Option, Some, None, Err, refl, sym, arith, inl}
 use Rattle.std.proofs.lemmas.List.{append-nil, length-append}
 use Rattle.pc_types.specs.Counted.{AppendsBeginning, AppendsPart}
@@ -29,6 +29,6 @@ pub some_end : (kept : List ℕ) (count : ℕ) → 0 < length (kept ++ end_text 
 some_end kept count = omega (arith, length-append kept (end_text count))
 
 module _ {T : Type 0} (contents : T → Option (List ℕ)) where
-  -- no memory for the end
+  -- no room for the end
   pub no_room_to_end : (out : Tally T) (kept : List ℕ) (count : ℕ) → Ends contents out out kept count (Err OutOfMemory)
   no_room_to_end out kept count = (inl (refl, refl), no_part (contents (inner_of out)) (kept ++ end_text count) (some_end kept count))

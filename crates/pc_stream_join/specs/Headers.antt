@@ -13,7 +13,7 @@ use Rattle.pc_streams.specs.declared.reader.PartReader.{PartReader}
 use Rattle.pc_streams.specs.Readers.{KeepsToRanges, StaysKnown, coming_of, header_of, ranges_read, reads_within, standing_of}
 use Rattle.pc_streams.specs.Refusals.{IsReadRefusal}
 
--- the headers of all, or what the first is refused with that is
+-- the headers of all, or the refusal of the first that has one
 abbrev pub all_headers : List (Result (ℕ × List Range) Refusal) → Result (List (ℕ × List Range)) Refusal
 all_headers [] = Ok []
 all_headers (header ∷ headers) = header >>= λ first. all_headers headers >>= λ others. Ok (first ∷ others)
@@ -23,7 +23,7 @@ abbrev pub runs_fault : List ℕ → Option Refusal
 runs_fault [] = Some NoFile
 runs_fault (run ∷ others) = if list_any (λ other. not (other == run)) others then Some OtherRun else None
 
--- what is seen of parts of these runs, one after the other: the first one, and whether another one is of another run
+-- the runs of parts so far, in order: the first one, and whether another one is of another run
 abbrev pub runs_seen : List ℕ → RunsSeen
 runs_seen [] = record { first = None; differ = false }
 runs_seen (run ∷ others) = record { first = Some run; differ = list_any (λ other. not (other == run)) others }
@@ -39,17 +39,17 @@ run_of_all None differ = Err NoFile
 run_of_all (Some run) true = Err OtherRun
 run_of_all (Some run) false = Ok run
 
--- the same where headers may be refused
+-- the same if headers may be refused
 abbrev pub headers_fault : Result (List (ℕ × List Range)) Refusal → Option Refusal
 headers_fault (Err why) = Some why
 headers_fault (Ok headers) = runs_fault (map (λ header. header.0) headers)
 
--- Why there is no header of all: memory ran out, a device failed, or, where the headers of all are known, the first of these.
+-- Why there is no header of all: an allocation failed, a device failed, or, if the headers of all are known, the first of these.
 abbrev pub IsHeadersFault : List (Option (Result (ℕ × List Range) Refusal)) → Refusal → Type 0
 IsHeadersFault known why =
     (why ≡ OutOfMemory) ⊎ (why ≡ Device) ⊎ ((headers : List (Result (ℕ × List Range) Refusal)) → known ≡ map Some headers → headers_fault (all_headers headers) ≡ Some why)
 
--- the headers of all are those of one join, where they are known
+-- the headers of all are those of one join, if they are known
 abbrev pub HaveOneHeader : List (Option (Result (ℕ × List Range) Refusal)) → Type 0
 HaveOneHeader known = (headers : List (Result (ℕ × List Range) Refusal)) → known ≡ map Some headers → headers_fault (all_headers headers) ≡ None
 
@@ -58,8 +58,8 @@ abbrev pub HaveTwoRuns : {R : Type 0} → (R → Option (List ℕ)) → List (Pa
 HaveTwoRuns remaining inputs =
     (headers : List (ℕ × List Range)) × (map (header_of remaining) inputs ≡ map (λ header. Some (Ok header)) headers) × (headers_fault (Ok headers) ≡ Some OtherRun)
 
--- What may be refused of inputs, whether their headers are known or not: NoFile where there are none, OtherRun once all headers are read
--- and two are of different runs, and what a reader refuses.
+-- The possible refusals of inputs, whether their headers are known or not: NoFile if there are none, OtherRun once all headers are
+-- read and two are of different runs, and those of a reader.
 abbrev pub IsHeadersRefusal : {R : Type 0} → (R → Option (List ℕ)) → List (PartReader R) → List (PartReader R) → Refusal → Type 0
 IsHeadersRefusal remaining was now why = ((why ≡ NoFile) × (was ≡ [])) ⊎ ((why ≡ OtherRun) × HaveTwoRuns remaining now) ⊎ IsReadRefusal why
 
@@ -79,7 +79,7 @@ pub record IsHeaderOfAll (run : ℕ) (ranges : List Range) (headers : List (ℕ 
   pub apart : AreRanges ranges
   pub points : points_of ranges ≡ points_of_all headers
 
--- The header of an input was read: it is of this run. What was known of it stays, and nothing was refused; all that is to come of it is
+-- The header of an input was read: it is of this run. Known facts of it stay, and nothing was refused; all its further entries are
 -- of its points.
 pub record IsRead {R : Type 0} (remaining : R → Option (List ℕ)) (was now : PartReader R) (run : ℕ) : Type 0 where
   pub told : header_of remaining now ≡ Some (Ok (run, ranges_read now))
@@ -89,7 +89,7 @@ pub record IsRead {R : Type 0} (remaining : R → Option (List ℕ)) (was now : 
   pub stands : standing_of now ≡ standing_of was
   pub within : KeepsToRanges now (ranges_read now)
 
--- the same of the first so many inputs; nothing was read of the others
+-- the same of the first `count` inputs; nothing was read of the others
 abbrev pub AreReadTo : {R : Type 0} → (R → Option (List ℕ)) → ℕ → List (PartReader R) → List (PartReader R) → List ℕ → Type 0
 AreReadTo remaining zero was now runs = (now ≡ was) × (runs ≡ [])
 AreReadTo remaining (suc count) (first ∷ was) (first_now ∷ now) (run ∷ runs) = IsRead remaining first first_now run × AreReadTo remaining count was now runs
@@ -102,7 +102,7 @@ pub record AreHeaded {R : Type 0} (remaining : R → Option (List ℕ)) (run : �
   pub of_all : IsHeaderOfAll run ranges headers
   pub within : All (λ input. reads_within input (set.contains (points_of ranges))) inputs
 
--- what was known of each input stays so: its header, and what is to come of it
+-- known facts of each input stay: its header, and its further entries
 abbrev pub StayKnown : {R : Type 0} → (R → Option (List ℕ)) → List (PartReader R) → List (PartReader R) → Type 0
 StayKnown remaining [] [] = ⊤
 StayKnown remaining (was ∷ inputs) (now ∷ inputs_now) =

@@ -30,8 +30,8 @@ use Rattle.pc_stream_join.specs.declared.join.Joined.{Joined}
 abbrev pub file_of : ℕ → List Range → List Triple → File
 file_of run ranges entries = part_of_fields (record { run = run; ranges = ranges; entries = entries })
 
--- The text of a part of this run and these ranges was written, and it has so many entries; where it is known what was to come of the
--- inputs, they are the merge of it.
+-- The text of a part of this run and these ranges was written, and it has this many entries; if the further entries of the inputs
+-- are known, they are the merge of them.
 pub record IsJoinWritten {R W : Type 0} (remaining : R → Option (List ℕ)) (contents : W → Option (List ℕ)) (run : ℕ) (ranges : List Range) (inputs : List (PartReader R)) (old new : Tally W) (count : ℕ) : Type 0 where
   pub given : List Triple
   pub rise : KeysRise (entries_of given)
@@ -40,33 +40,33 @@ pub record IsJoinWritten {R W : Type 0} (remaining : R → Option (List ℕ)) (c
   pub many : count ≡ length given
   pub merge : (was : List Coming) → all_known (map (coming_of remaining) inputs) ≡ Some was → IsMerge was given
 
--- why what was to come of the inputs can't be joined to one text: memory ran out or a device failed, one of them ends in that
--- refusal, two have a key at one point with different contents, or there are too many entries
+-- why the further entries of the inputs can't be joined to one text: an allocation or a device failed, one of the inputs ends in
+-- that refusal, two have a key at one point with different contents, or there are too many entries
 abbrev pub IsJoinCause : List Coming → Refusal → Type 0
 IsJoinCause was why = (why ≡ OutOfMemory) ⊎ (why ≡ Device) ⊎ HasFault was why ⊎ ((why ≡ Conflict) × HaveConflict was) ⊎ ((why ≡ Full) × HasTooMany was)
 
--- the same where it may not be known
+-- the same if they may not be known
 abbrev pub IsUnjoinedFor : {R : Type 0} → (R → Option (List ℕ)) → List (PartReader R) → Refusal → Type 0
 IsUnjoinedFor remaining inputs why = (was : List Coming) → all_known (map (coming_of remaining) inputs) ≡ Some was → IsJoinCause was why
 
--- what may be refused of inputs that have one header, whether it is known what is to come of them or not: two that conflict, too many
--- entries, and what a reader refuses
+-- the possible refusals of inputs that have one header, whether their further entries are known or not: two that conflict, too many
+-- entries, and those of a reader
 abbrev pub IsJoinRefusal : Refusal → Type 0
 IsJoinRefusal why = (why ≡ Conflict) ⊎ (why ≡ Full) ⊎ IsReadRefusal why
 
--- what was written, taken alone, is read as Short
+-- the text that was written, taken alone, is read as Short
 abbrev pub LeavesShort : Option (List ℕ) → Option (List ℕ) → Type 0
 LeavesShort None now = ⊤
 LeavesShort (Some was) None = ⊥
 LeavesShort (Some was) (Some now) = (written : List ℕ) × (now ≡ was ++ written) × (part_at written ≡ Err Short)
 
--- How the inputs and the output stand: Device is answered where one of them failed; else no count has changed.
+-- The counts of failures of the inputs and the output: Device is answered if one of them failed; otherwise no count has changed.
 abbrev pub JoinStands : {X : Type 0} → List Standing → List Standing → ℕ → ℕ → Result X Refusal → Type 0
 JoinStands {X} was now failures failures_now (Ok x) = (now ≡ was) × (failures_now ≡ failures)
 JoinStands {X} was now failures failures_now (Err why) =
     (why ≡ Device → HasFailed was now ⊎ HasRisen failures failures_now) × (why ≢ Device → AllStand {X = X} was now (Err why) × (failures_now ≡ failures))
 
--- The join of the inputs was written and told of: its points and how many entries it has.
+-- The join of the inputs was written, with this result: its points and the number of its entries.
 pub record IsStreamJoined {R W : Type 0} (remaining : R → Option (List ℕ)) (contents : W → Option (List ℕ)) (inputs : List (PartReader R)) (old new : Tally W) (joined : Joined) : Type 0 where
   pub run : ℕ
   pub ranges : List Range
@@ -76,8 +76,8 @@ pub record IsStreamJoined {R W : Type 0} (remaining : R → Option (List ℕ)) (
   pub written : IsJoinWritten remaining contents run ranges read old new joined.entries
   pub points : joined.points ≡ set.items (file_of run ranges written.given).points
 
--- Why no join is written: the inputs have no header together, and the output is as it was; or they have one, and what is to come of
--- them can't be joined.
+-- Why no join is written: the inputs have no header together, and the output is unchanged; or they have one, and their further
+-- entries can't be joined.
 abbrev pub IsStreamCause : {R W : Type 0} → (R → Option (List ℕ)) → List (PartReader R) → List (PartReader R) → Tally W → Tally W → Refusal → Type 0
 IsStreamCause remaining inputs inputs_now old new why =
     (IsHeadersFault (map (header_of remaining) inputs) why × IsHeadersRefusal remaining inputs inputs_now why × (new ≡ old)) ⊎ (HaveOneHeader (map (header_of remaining) inputs) × IsUnjoinedFor remaining inputs why × IsJoinRefusal why)

@@ -1,4 +1,4 @@
--- How a join stands while it is written.
+-- The state of a join while it is written.
 use Rattle.std.specs.Prelude.{◌≡◌, ◌+◌, ◌≤◌, ◌<◌, ◌^◌, ℕ, Bool, true, false, List, ◌++◌, Option, Some, None, Result, Ok, Err, length, map}
 use Rattle.std.specs.Io.KnownBytes.{Appends}
 use Rattle.std.specs.List.{All, flat_map}
@@ -24,14 +24,14 @@ use Rattle.pc_streams.specs.Readers.{coming_of, reads_within, standing_of}
 use Rattle.pc_stream_join.specs.Joining.{IsJoinRefusal, IsJoinWritten, IsUnjoinedFor, JoinStands, LeavesShort}
 use Rattle.pc_stream_join.specs.Writing.{Writing, header_text}
 
--- what the join began with: the run and the ranges of its header, the inputs, and where it goes
+-- the arguments of the join: the run and the ranges of its header, the inputs, and the output
 pub record Begun (R W : Type 0) : Type 0 where
   pub run : ℕ
   pub ranges : List Range
   pub inputs : List (PartReader R)
   pub out : Tally W
 
--- these entries were given, and what is left of the inputs is known
+-- these entries were given, and the rest of the inputs is known
 abbrev pub HasGivenLeft : List Coming → List Triple → Option (List Coming) → Type 0
 HasGivenLeft was given known = (left : List Coming) × (known ≡ Some left) × HasGiven was given left
 
@@ -66,7 +66,7 @@ pub record IsAllGiven {R W : Type 0} (remaining : R → Option (List ℕ)) (cont
   pub stand : map standing_of inputs ≡ map standing_of begun.inputs
   pub merged : (was : List Coming) → all_known (map (coming_of remaining) begun.inputs) ≡ Some was → IsMerge was given
 
--- the join was refused for a cause, and what it left is read as Short
+-- the join was refused for a cause, and the text that it left is read as Short
 pub record JoinFails {R W : Type 0} (remaining : R → Option (List ℕ)) (contents : W → Option (List ℕ)) (begun : Begun R W) (inputs : List (PartReader R)) (out : Tally W) (why : Refusal) : Type 0 where
   pub cause : IsUnjoinedFor remaining begun.inputs why
   pub refusal : IsJoinRefusal why

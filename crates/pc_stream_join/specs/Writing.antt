@@ -10,26 +10,26 @@ use Rattle.pc_types.specs.declared.tally.Tally.{Tally}
 use Rattle.pc_part.specs.declared.ranges.Range.{Range}
 use Rattle.pc_part.specs.Texts.{bounds_text, end_text, head_text}
 
--- what is kept of a text that goes out, and how many entries it has so far
+-- the bytes that are kept of a text that goes out, and the number of its entries so far
 pub record Writing : Type 0 where
   pub kept : List ℕ
   pub count : ℕ
 
--- what stands before the entries
+-- the bytes before the entries
 abbrev pub header_text : ℕ → List Range → List ℕ
 header_text run ranges = head_text run (length ranges) ++ flat_map bounds_text ranges
 
--- memory ran out, which no count tells of, or the device failed
+-- an allocation failed, which no count shows, or the device failed
 abbrev pub FailsFor : {T : Type 0} → Tally T → Tally T → Refusal → Type 0
 FailsFor old new why = ((why ≡ OutOfMemory) × (failures_of new ≡ failures_of old)) ⊎ ((why ≡ Device) × HasRisen (failures_of old) (failures_of new))
 
--- A text comes behind what is kept: a beginning of both goes out, and what is left of them is kept then.
+-- A text comes after the bytes that are kept: a beginning of both goes out, and the rest is kept then.
 abbrev pub GoesOut : {T : Type 0} → (T → Option (List ℕ)) → Tally T → Tally T → List ℕ → List ℕ → List ℕ → Result (Unit {0}) Refusal → Type 0
 GoesOut contents old new kept kept_now text (Ok u) =
     (gone : List ℕ) × Appends (contents (inner_of old)) (contents (inner_of new)) gone × (gone ++ kept_now ≡ kept ++ text) × (failures_of new ≡ failures_of old)
 GoesOut contents old new kept kept_now text (Err why) = FailsFor old new why × AppendsBeginning (contents (inner_of old)) (contents (inner_of new)) (kept ++ text)
 
--- What is kept goes out with the end behind it, or not all of that.
+-- The bytes that are kept go out with the end after them, or not all of that.
 abbrev pub Ends : {T : Type 0} → (T → Option (List ℕ)) → Tally T → Tally T → List ℕ → ℕ → Result ℕ Refusal → Type 0
 Ends contents old new kept count (Ok total) =
     (total ≡ count) × Appends (contents (inner_of old)) (contents (inner_of new)) (kept ++ end_text count) × (failures_of new ≡ failures_of old)

@@ -1,4 +1,4 @@
-//! The headers of several parts, made one.
+//! The headers of several parts, united into one.
 ghost use Rattle.std.specs.Prelude.{◌≡◌, ◌≢◌, ◌⊎◌, ℕ, List, [], Some, Ok, Err, IsOk, IfOk, IfErr, OnOk, OnErr, length, map};
 ghost use Rattle.pc_model.specs.Sets as set;
 ghost use Rattle.pc_types.specs.declared.Refusal.{Refusal};
@@ -14,10 +14,10 @@ use pc_types::{Format, Refusal};
 use std::alloc::{AllocError, Global};
 use std::io::Read;
 
-/// The header of the join of the inputs, which is written in format 02: their run, and the points of all as ranges. The header of each
-/// input, whose text is in either format, is read where it isn't yet, in their order, and nothing behind it. Refuses, in this order: with
-/// what the first input refuses that does; with `NoFile` exactly where there are no inputs; with `OtherRun` exactly where all headers are
-/// read and two are of different runs. Where the headers agree it refuses with `OutOfMemory` alone.
+/// The header of the join of the inputs, which is written in format 02: their run, and the points of all as ranges. The header of
+/// each input, whose text is in either format, is read if it isn't yet, in their order, and nothing after it. Errors, in this
+/// order: the error of the first input that has one; `NoFile` if and only if there are no inputs; `OtherRun` if and only if all
+/// headers are read and two are of different runs. If the headers agree its only error is `OutOfMemory`.
 pub fn read_headers<R: Read>(
     alloc: Global,
     inputs: &mut [PartReader<R>],
@@ -42,7 +42,7 @@ pub fn read_headers<R: Read>(
     })
 }
 
-// What was seen of the runs of several parts: the first one, and whether another one is of another run.
+// The runs of several parts so far: the first one, and whether another one is of another run.
 #[derive(Clone, Copy)]
 pub(crate) struct RunsSeen {
     first: Option<u64>,
@@ -81,7 +81,7 @@ impl RunsSeen {
     }
 }
 
-// Reads the run of each input; it takes no memory of its own.
+// Reads the run of each input; it allocates nothing itself.
 fn read_runs<R: Read>(inputs: &mut [PartReader<R>]) -> Result<RunsSeen, Refusal>
     ensures read { IfOk result (λ seen. (runs : List ℕ) × AreReadTo R.remaining (length inputs.old) inputs.old inputs.new runs × (seen ≡ runs_seen runs)) }
     ensures unread { OnErr result ((runs : List ℕ) → ¬ AreReadTo R.remaining (length inputs.old) inputs.old inputs.new runs) }

@@ -16,19 +16,19 @@ use pc_types::{Items, MOST_FILE_ENTRIES, Point, Refusal, Tally};
 use std::alloc::Global;
 use std::io::{Read, Write};
 
-/// What is told of a join that was written: its points, rising, and how many entries it has.
+/// The result of a join that was written: its points, in ascending order, and the number of its entries.
 #[derive(Drop)]
 pub struct Joined {
     pub points: Items<Point>,
     pub entries: u32,
 }
 
-/// Writes the text of the join of the inputs, of their header, which `read_headers` gave: of each key that one of them has the entry
-/// of the greatest point. It tells how many entries the join has. In memory is an entry of each input, and a piece of the text.
-/// Refuses with the first fault of an input's text that is met, with `Conflict` where two inputs have a key at one point with
-/// different contents (and never writes a join where that is a key's greatest point), with `Full` where there are more than
-/// 4,294,967,295 entries, with `OutOfMemory`, which it answers of more than 1,073,741,824 inputs too, and with `Device` where a read
-/// or a write failed. What it wrote until then is read as `Short`, since the end mark goes out once every input has ended.
+/// Writes the text of the join of the inputs, under their header from `read_headers`: of each key that one of them has the entry of
+/// the greatest point. Returns the number of entries of the join. In memory are an entry of each input, and a piece of the text.
+/// Errors: the first fault that is met in an input's text; `Conflict` if two inputs have a key at one point with different contents
+/// (it never writes a join if that is a key's greatest point); `Full` if there are more than 4,294,967,295 entries; `OutOfMemory`,
+/// also for more than 1,073,741,824 inputs; and `Device` if a read or a write failed. The text that it wrote until then is read as
+/// `Short`, since the end mark goes out once every input has ended.
 pub fn join_entries<R: Read, W: Write>(
     alloc: Global,
     header: &PartHeader,
@@ -51,7 +51,7 @@ pub fn join_entries<R: Read, W: Write>(
     write_entries(&mut merge, inputs, writer, out)
 }
 
-// Writes one entry after the other, and the end behind the last.
+// Writes the entries in order, and the end after the last.
 fn write_entries<R: Read, W: Write>(
     merge: &mut Merge,
     inputs: &mut [PartReader<R>],
@@ -70,7 +70,7 @@ fn write_entries<R: Read, W: Write>(
     Err(Refusal::Full)
 }
 
-// Writes the next entry, and answers whether there was one.
+// Writes the next entry, and returns whether there was one.
 fn write_next<R: Read, W: Write>(
     merge: &mut Merge,
     inputs: &mut [PartReader<R>],
@@ -92,9 +92,9 @@ fn write_next<R: Read, W: Write>(
     Ok(true)
 }
 
-/// Reads the headers of the inputs, as `read_headers` does, and writes the text of their join, as `join_entries` does; it tells the
-/// points and how many entries it has. Refuses as `read_headers` does, and then the output is as it was; or, where the headers agree, as
-/// `join_entries` does.
+/// Reads the headers of the inputs, as `read_headers` does, and writes the text of their join, as `join_entries` does; returns its
+/// points and the number of its entries. Its errors are those of `read_headers`, and then the output is unchanged; or, if the
+/// headers agree, those of `join_entries`.
 pub fn stream_join<R: Read, W: Write>(
     alloc: Global,
     inputs: &mut [PartReader<R>],

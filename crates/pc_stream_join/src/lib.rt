@@ -1,5 +1,4 @@
-//! Part texts joined as they are read: into one text, with no more in memory than a piece and an entry of each, and a piece of what
-//! goes out.
+//! Part texts joined as they are read: into one text, with no more in memory than a piece and an entry of each, and a piece of the output.
 #![tactic(auto)]
 
 mod headers;

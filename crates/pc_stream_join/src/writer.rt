@@ -14,15 +14,15 @@ use std::io::Write;
 use std::marker::Model;
 use std::mem;
 
-// Bytes are kept until they are so many, and go out together.
+// Bytes are kept until they are this many, and go out together.
 const PIECE: usize = 65_536;
 
-// The text of a part, of which a beginning went out. A contract sees what is kept of it, and how many entries it has.
+// The text of a part, of which a beginning went out. A contract sees the bytes that are kept of it, and the number of its entries.
 #[derive(Drop)]
 pub(crate) struct PartWriter {
     alloc: Global,
     kept: Tally<Vec<u8>>,
-    // About how many bytes are kept.
+    // The number of bytes that are kept, about.
     size: usize,
     count: u32,
 }
@@ -37,7 +37,7 @@ impl Model for PartWriter {
 }
 
 impl PartWriter {
-    // Keeps what stands before the entries. It takes room for a piece and the header.
+    // Keeps the header, which comes before the entries. It allocates room for a piece and the header.
     pub(crate) fn new(alloc: Global, header: &PartHeader) -> Result<PartWriter, Refusal>
         requires { AreRanges header.now.ranges.items }
         ensures begun { IfOk result (λ writer. writer ≡ record { kept = header_text header.now.run header.now.ranges.items; count = 0 }) }
@@ -83,7 +83,7 @@ impl PartWriter {
         self.drain(out)
     }
 
-    // Writes what stands last, and all that is kept; how many entries the text has.
+    // Writes the end, and all bytes that are kept; gives the number of entries of the text.
     pub(crate) fn end<W: Write>(self, out: &mut Tally<W>) -> Result<u32, Refusal>
         ensures { Ends W.contents out.old out.new self.kept self.count result }
     {
@@ -93,7 +93,7 @@ impl PartWriter {
         Ok(writer.count)
     }
 
-    // Writes all that is kept.
+    // Writes all bytes that are kept.
     fn drain<W: Write>(&mut self, out: &mut Tally<W>) -> Result<(), Refusal>
         ensures put { Puts W.contents out.old out.new result self.old.kept }
         ensures kept { OnOk result (self.new ≡ record self.old { kept = [] }) }
@@ -108,7 +108,7 @@ impl PartWriter {
     }
 }
 
-// What is kept in memory can fail for want of it alone.
+// Bytes that are kept in memory can fail only for a failed allocation.
 fn in_memory(put: Result<(), Refusal>) -> Result<(), Refusal>
     ensures { MatchResult result (λ _. put ≡ Ok tt) (λ why. why ≡ Refusal.OutOfMemory) }
 {

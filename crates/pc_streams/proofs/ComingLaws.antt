@@ -16,7 +16,7 @@ none_read : (format : Format) (ranges : List Range) (last : List ℕ) → next_e
 unfolding next_entry_at
 none_read format ranges last = refl
 
--- what comes from there on, where others that come behind are the same
+-- what comes from there on, if others that come after are the same
 same_others : (f g : List ℕ → List ℕ → Coming) (count : ℕ) (r : Result (Option Triple × List ℕ) Refusal) → ((key rest : List ℕ) (next : Option Triple) → r ≡ Ok (next, rest) → f key rest ≡ g key rest) → coming_from f count r ≡ coming_from g count r
 same_others f g count (Err why) h = refl
 same_others f g count (Ok (None, rest)) h = refl

@@ -57,7 +57,7 @@ with_entry key there = Ok (Some (triple key there.0), there.1)
 abbrev with_key : List Range → List ℕ × List ℕ → Result Next Refusal
 with_key ranges key = entry_at ranges key.1 >>= with_entry key.0
 
--- what stands behind a length
+-- the bytes after a length
 behind_length : (format : Format) (ranges : List Range) (last : List ℕ) (t : Bool) (count : ℕ) (rest : List ℕ) (next : Next) → cond t (Ok (None, rest)) (next_key_at format last count rest >>= with_key ranges) ≡ Ok next → IsLawfulNext ranges last (Ok next.0)
 behind_length format ranges last true count rest next is = subst (λ (x : Next). IsLawfulNext ranges last (Ok x.0)) (ok_is (None, rest) next is) tt
 behind_length format ranges last false count rest next is =

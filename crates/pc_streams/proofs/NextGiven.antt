@@ -59,7 +59,7 @@ module _ (place : Place) (going : place.ended ≡ false) where
   abbrev passed : Triple → Place
   passed entry = record place { last = entry.key; count = one_more place.count }
 
-  -- an entry is given, and the place is behind it
+  -- an entry is given, and the place is after it
   pub some_given : (old mid : Option (List ℕ)) (entry : Triple) (now : Place) → now ≡ passed entry → Draws (λ (x : Option Triple). x) old mid (Ok (Some entry)) (next_entry_at place.format place.ranges place.last) → GivesNext (place_coming place old) (place_coming now mid) (Ok (Some entry))
   some_given old mid entry now is drawn =
       let left : place_coming now mid ≡ option_map (coming_of_bytes place.format place.ranges (one_more place.count) entry.key) mid =

@@ -20,7 +20,7 @@ short_alone false p f is = cc
 guarded : (w : Width) (bytes : List ℕ) (y : ℕ) (rest : List ℕ) → number_at Short w bytes ≡ Ok (y, rest) → (ltb (length bytes) (byte_len w) ≡ false) × (front w bytes ≡ (y, rest))
 guarded w bytes y rest is = guard_ok (ltb (length bytes) (byte_len w)) Short (front w bytes) (y, rest) is
 
--- so the rest stands behind a text
+-- so the rest is after a text
 pub number_back : (w : Width) (bytes : List ℕ) (y : ℕ) (rest : List ℕ) → number_at Short w bytes ≡ Ok (y, rest) → (text : List ℕ) × (bytes ≡ text ++ rest)
 number_back w bytes y rest is =
     (take (byte_len w) bytes, sym (take-append-drop (byte_len w) bytes) ∙ ap (λ (p : ℕ × List ℕ). take (byte_len w) bytes ++ p.1) (guarded w bytes y rest is).1)

@@ -17,7 +17,7 @@ keeps_on (Some a) None c p q = absurd p
 keeps_on (Some a) (Some b) None p q = absurd q
 keeps_on (Some a) (Some b) (Some c) p q = q ∙ p
 
--- what is left behind a text
+-- what is left after a text
 pub behind_text : (bytes text rest : List ℕ) → bytes ≡ text ++ rest → drop (length bytes - length rest) bytes ≡ rest
 behind_text bytes text rest is =
     let whole : length bytes ≡ length text + length rest = ap length is ∙ length-append text rest in
@@ -28,7 +28,8 @@ behind_text bytes text rest is =
 pub rest_fits : (bytes text rest : List ℕ) → bytes ≡ text ++ rest → length rest ≤ length bytes
 rest_fits bytes text rest is = omega (arith, ap length is, length-append text rest)
 
--- why a call stands refused: memory or the device failed, or the bytes have this fault, and where they end too soon no more come
+-- why a call is refused for good: memory or the device failed, or the bytes have this fault, and if they end too soon no more
+-- come
 abbrev pub Stands : Refusal → Refusal → List ℕ → List ℕ → Option (List ℕ) → Type 0
 Stands e why buffer after rem = (e ≡ OutOfMemory) ⊎ (e ≡ Device) ⊎ ((e ≡ why) × (why ≡ Short → (after ≡ buffer) × IsAtEnd rem))
 
@@ -38,7 +39,7 @@ module _ {X Y : Type 0} (view : X → Y) (read : List ℕ → Result (Y × List 
   drawn (Some xs) None buffer rest x keeps is = absurd keeps
   drawn (Some xs) (Some ys) buffer rest x keeps is = ap read (sym keeps) ∙ local.ok buffer ys (view x) rest is
 
-  -- something was read, and what is behind it is kept
+  -- something was read, and what is after it is kept
   pub drawn_by : (old rem : Option (List ℕ)) (buffer seen rest kept : List ℕ) (x : X) → Keeps old (prepend_known buffer rem) → seen ≡ buffer → kept ≡ drop (length buffer - length rest) buffer → read seen ≡ Ok (view x, rest) → Draws view old (prepend_known kept rem) (Ok x) read
   drawn_by old rem buffer seen rest kept x keeps same left is =
       let here : read buffer ≡ Ok (view x, rest) = ap read (sym same) ∙ is in
@@ -68,7 +69,7 @@ module _ {X Y : Type 0} (view : X → Y) (read : List ℕ → Result (Y × List 
       by memory device (inr (inl d)) = absurd (device d)
       by memory device (inr (inr h)) = fault_of xs buffer after zs ys why was now h.1 (is (λ m. memory (h.0 ∙ m))) ∙ ap (λ (f : Refusal). Err f) (sym h.0)
 
-  -- a call that stands refused
+  -- a call that is refused for good
   pub refused_by : (old rem new : Option (List ℕ)) (buffer seen after : List ℕ) (why e : Refusal) (result : Result X Refusal) → Keeps old (prepend_known buffer rem) → Keeps (prepend_known buffer rem) (prepend_known after new) → seen ≡ buffer → (why ≢ OutOfMemory → read seen ≡ Err why) → Stands e why buffer after new → IsErr result × IsErrAnd result (λ f. f ≡ e) → Draws view old (prepend_known after new) result read
   refused_by old rem new buffer seen after why e (Ok x) was then same is cause given = let bad : false ≡ true = given.0 in absurd cc
   refused_by old rem new buffer seen after why e (Err f) was then same is cause given =

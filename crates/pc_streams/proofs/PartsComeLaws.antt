@@ -1,4 +1,4 @@
--- What is to come of a text is what is read of it at once.
+-- What is to come of a text is what is read of it in one piece.
 use Rattle.std.proofs.Common.{◌≡◌, ℕ, zero, suc, ◌-◌, ◌^◌, ◌<◌, eqb, cond, Bool, true, false, List, [], ◌∷◌, ◌++◌, length, drop, Option, Some, None, Result, Ok, Err, refl, sym, ap, subst, ◌∙◌, append_assoc, append-nil, arith, inl, inr}
 use Rattle.std.specs.Prelude.{min}
 use Rattle.std.specs.List.{All}
@@ -27,7 +27,7 @@ bytes_of bytes h i = elim (cases_lt i (length bytes)) [
   | inr le ↦ rw (get_or_past bytes i 0 le) (omega arith)
 ]
 
--- what stands behind a text of bytes is bytes
+-- the rest after a text of bytes is bytes
 bytes_behind : (bytes text rest : List ℕ) → bytes ≡ text ++ rest → IsBytes bytes → IsBytes rest
 bytes_behind bytes text rest is fits = subst IsBytes (ap (drop (length text)) is ∙ drop_at text rest (length text) refl) (IsBytes-drop (length text) bytes fits)
 
@@ -53,7 +53,7 @@ after_total header entries total = where_true (eqb total.0 (length entries)) Bad
 abbrev after_front : ℕ × List Range → List Triple → List Triple × List ℕ → Result PartFields Refusal
 after_front header front entries = number_at Short w32 entries.1 >>= after_total header (front ++ entries.0)
 
--- the fields of some entries and what is to come behind them
+-- the fields of some entries and what is to come after them
 abbrev with_coming : ℕ × List Range → List Triple → Coming → Result PartFields Refusal
 with_coming header front coming = fields_of header (front ++ coming.entries) coming.fault
 

@@ -1,10 +1,10 @@
--- A piece that was read stands behind what was left.
+-- A piece that was read is after what was left.
 use Rattle.std.proofs.Common.{◌≡◌, ◌≤◌, ℕ, ◌+◌, List, ◌++◌, length, take, drop, Option, Some, None, sym, ap, ◌∙◌, append_assoc, arith}
 use Rattle.std.specs.Io.KnownBytes.{Keeps, Consumes, prepend_known}
 use Rattle.std.proofs.Math.Seq.{take-append-add}
 use Rattle.std.proofs.lemmas.List.{take-append-le, drop-append-le, length-take-le, take-take}
 
--- the bytes in front of `filled`, and so many of the piece
+-- the bytes in front of `filled`, and that many of the piece
 behind_filled : (used filled count : ℕ) (front piece tail : List ℕ) → used ≤ filled → length front ≡ filled → count ≤ length piece → drop used (take (filled + count) (front ++ (piece ++ tail))) ≡ drop used front ++ take count piece
 behind_filled used filled count front piece tail within len fits =
     let long : used ≤ length front = omega (arith, len, within) in

@@ -42,12 +42,12 @@ leaves_number w bytes = leaves_counted (ltb (length bytes) (byte_len w)) (from_b
 leaves_bytes : (count : ℕ) (bytes : List ℕ) → Leaves (length bytes) (bytes_at Short count bytes)
 leaves_bytes count bytes = leaves_counted (ltb (length bytes) count) (take count bytes) count bytes
 
--- so many bytes, where that is lawful
+-- that many bytes, if that is valid
 leaves_lawful : (test : Bool) (count : ℕ) (bytes : List ℕ) → Leaves (length bytes) (where_true test BadLength count >>= λ lawful. bytes_at Short lawful bytes)
 leaves_lawful true count bytes = leaves_bytes count bytes
 leaves_lawful false count bytes = tt
 
--- behind a test
+-- after a test
 leaves_tested : {A X : Type 0} (n : ℕ) (test : Bool) (fault : Refusal) (x : A) (f : A → Result (X × List ℕ) Refusal) → Leaves n (f x) → Leaves n (where_true test fault x >>= f)
 leaves_tested n true fault x f h = h
 leaves_tested n false fault x f h = tt
@@ -85,7 +85,7 @@ leaves_entry ranges bytes = leaves_then (length bytes) _ _ (leaves_then (length 
 abbrev Next : Type 0
 Next = Option Triple × List ℕ
 
--- behind a length
+-- after a length
 leaves_behind : (format : Format) (ranges : List Range) (last : List ℕ) (t : Bool) (count : ℕ) (rest : List ℕ) → Leaves {X = Option Triple} (length rest) (cond t (Ok (None, rest)) (next_key_at format last count rest >>= λ key. entry_at ranges key.1 >>= λ there. Ok (Some (record { key = key.0; point = there.0.point; content = there.0.content }), there.1)))
 leaves_behind format ranges last true count rest = omega arith
 leaves_behind format ranges last false count rest = leaves_then (length rest) _ _ (leaves_key format last count rest) (λ key. leaves_then (length key.1) _ _ (leaves_entry ranges key.1) (λ there. omega arith))

@@ -82,7 +82,7 @@ memory_or : (why : Refusal) → (why ≡ OutOfMemory) ⊎ (why ≢ OutOfMemory)
 memory_or OutOfMemory = inl refl
 memory_or why = inr (λ memory. cc)
 
--- what stands refused is refused by a reader
+-- what is refused for good is refused by a reader
 pub refusal_by : {X Y : Type 0} (r : Result X Refusal) (why e : Refusal) (buffer after : List ℕ) (rem : Option (List ℕ)) (result : Result Y Refusal) → IsSpared r → (why ≢ OutOfMemory → r ≡ Err why) → Stands e why buffer after rem
     → IsErr result × IsErrAnd result (λ f. f ≡ e) → IfErr result IsReadRefusal
 refusal_by r why e buffer after rem (Ok y) h is cause given = tt

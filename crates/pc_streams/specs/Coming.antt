@@ -1,4 +1,4 @@
--- What is to come of the text of a part.
+-- The future of the text of a part.
 use Rattle.std.specs.Prelude.{ℕ, zero, suc, ◌==◌, if◌then◌else◌, List, [], length, Option, Some, None, Result, Ok, Err}
 use Rattle.std.specs.Int.{w32}
 use Rattle.pc_types.specs.Counted.{one_more}
@@ -11,7 +11,7 @@ use Rattle.pc_part.specs.declared.ranges.Range.{Range}
 use Rattle.pc_part.specs.Reading.{next_entry_at, header_at}
 use Rattle.pc_merge.specs.Coming.{Coming, ended, refused, after_entry}
 
--- the end of a part behind so many entries: how many they are, and nothing more
+-- the end of a part after that many entries: their number, and nothing more
 abbrev pub part_end_at : ℕ → Result (ℕ × List ℕ) Refusal → Coming
 part_end_at count (Err why) = refused why
 part_end_at count (Ok total) = if total.0 == count then (if length total.1 == 0 then ended else refused Trailing) else refused BadLength
@@ -22,8 +22,8 @@ coming_from others count (Err why) = refused why
 coming_from others count (Ok (None, rest)) = part_end_at count (number_at Short w32 rest)
 coming_from others count (Ok (Some entry, rest)) = after_entry entry (others entry.key rest)
 
--- What is to come behind a last key, with so many entries before it; the count stays at the greatest u64, which no number of 4
--- bytes is. Each entry takes more than one of the bytes, so that no more turns are needed than there are bytes.
+-- The entries to come after a last key, with that many entries before it; the count stays at the greatest u64, which no
+-- number of 4 bytes is. Each entry takes more than one of the bytes, so that no more turns are needed than there are bytes.
 unfoldable pub coming_at : Format → ℕ → List Range → ℕ → List ℕ → List ℕ → Coming
 coming_at format zero ranges count last bytes = refused Short
 coming_at format (suc turns) ranges count last bytes = coming_from (coming_at format turns ranges (one_more count)) count (next_entry_at format ranges last bytes)
@@ -32,7 +32,7 @@ coming_at format (suc turns) ranges count last bytes = coming_from (coming_at fo
 abbrev pub coming_of_bytes : Format → List Range → ℕ → List ℕ → List ℕ → Coming
 coming_of_bytes format ranges count last bytes = coming_at format (length bytes) ranges count last bytes
 
--- what is to come of a part behind its header
+-- what is to come of a part after its header
 abbrev pub coming_behind : Result ((Format × (ℕ × List Range)) × List ℕ) Refusal → Coming
 coming_behind (Err why) = refused why
 coming_behind (Ok (header, rest)) = coming_of_bytes header.0 header.1.1 0 [] rest

@@ -1,4 +1,4 @@
--- What is drawn from the front of a text whose bytes may be known.
+-- The results of drawing from the front of a text whose bytes may be known.
 use Rattle.std.specs.Prelude.{◌≡◌, ◌≢◌, ℕ, List, Option, Some, None, Result, Ok, Err, ⊤}
 use Rattle.pc_types.specs.Counted.{HasRisen}
 use Rattle.pc_types.specs.Tallies.{failures_of}
@@ -13,12 +13,12 @@ DrawsKnown view xs None result read = ⊥
 DrawsKnown view xs (Some ys) (Ok x) read = read xs ≡ Ok (view x, ys)
 DrawsKnown view xs (Some ys) (Err e) read = (ys ≡ xs) × (e ≢ OutOfMemory → e ≢ Device → read xs ≡ Err e)
 
--- the same where they may not be known
+-- the same if they may not be known
 abbrev pub Draws : {X Y : Type 0} → (X → Y) → Option (List ℕ) → Option (List ℕ) → Result X Refusal → (List ℕ → Result (Y × List ℕ) Refusal) → Type 0
 Draws view None new result read = ⊤
 Draws view (Some xs) new result read = DrawsKnown view xs new result read
 
--- failures are counted: Device is answered where the count has risen, and else it stays
+-- failures are counted: Device is returned if the count increased, and otherwise the count stays
 abbrev pub Counts : {X T : Type 0} → Tally T → Tally T → Result X Refusal → Type 0
 Counts old new (Ok x) = failures_of new ≡ failures_of old
 Counts old new (Err Device) = HasRisen (failures_of old) (failures_of new)

@@ -17,7 +17,7 @@ fields_of header entries (Some why) = Err why
 abbrev pub fields_coming : ℕ × List Range → Coming → Result PartFields Refusal
 fields_coming header coming = fields_of header coming.entries coming.fault
 
--- The header of a text and what is to come behind it are the fields that are read of the text, with the same fault.
+-- The header of a text and what is to come after it are the fields that are read of the text, with the same fault.
 abbrev pub FieldsCome : Type 0
 FieldsCome = (bytes : List ℕ) → All (λ byte. byte < 256) bytes → part_fields_at bytes ≡ (part_header bytes >>= λ header. fields_coming header (part_coming bytes))
 

@@ -1,4 +1,4 @@
--- Where a reader stands in the text of a part, and what is to come from there.
+-- The place of a reader in the text of a part, and what is to come from there.
 use Rattle.std.specs.Prelude.{◌≡◌, ℕ, Bool, false, List, [], Option, Some, Result, Ok, Err, ◌⊎◌, ⊤, None, IsTrue, if◌then◌else◌}
 use Rattle.std.specs.Option.{option_map}
 use Rattle.std.specs.Ordering.{is_lt}
@@ -14,7 +14,7 @@ use Rattle.pc_part.specs.Reading.{header_at}
 use Rattle.pc_merge.specs.Coming.{Coming, ended, refused}
 use Rattle.pc_streams.specs.Coming.{coming_of_bytes}
 
--- a place behind the header: the format, the run and the ranges, the key of the last entry, which is empty before the first, how
+-- a place after the header: the format, the run and the ranges, the key of the last entry, which is empty before the first, how
 -- many entries there were, and whether the end was read
 pub record Place : Type 0 where
   pub format : Format
@@ -24,11 +24,11 @@ pub record Place : Type 0 where
   pub count : ℕ
   pub ended : Bool
 
--- the place behind a header
+-- the place after a header
 abbrev pub first_place : Format × (ℕ × List Range) → Place
 first_place header = record { format = header.0; run = header.1.0; ranges = header.1.1; last = []; count = 0; ended = false }
 
--- the same where the header stands first in the bytes
+-- the same if the header comes first in the bytes
 abbrev pub first_place_at : List ℕ → Result (Place × List ℕ) Refusal
 first_place_at bytes = header_at bytes >>= λ header. Ok (first_place header.0, header.1)
 

@@ -1,4 +1,4 @@
--- What a reader of a part's text has read, what is to come of it, and what it refused.
+-- The state of a reader of a part's text: the fields read, the entries to come, and the refusal.
 use Rattle.std.specs.Prelude.{◌≡◌, ℕ, Bool, IsTrue, false, List, [], Option, Some, None, Result, Ok, Err, ◌⊎◌, ⊤}
 use Rattle.std.specs.Option.{option_map}
 use Rattle.pc_types.specs.declared.Refusal.{Refusal}
@@ -56,7 +56,7 @@ counted_by reader = tally_of reader.source
 abbrev pub coming_of : {R : Type 0} → (R → Option (List ℕ)) → PartReader R → Option Coming
 coming_of remaining reader = stage_coming reader.stage (text_left remaining reader.source)
 
--- its run and its ranges, where they are known
+-- its run and its ranges, if they are known
 abbrev pub header_of : {R : Type 0} → (R → Option (List ℕ)) → PartReader R → Option (Result (ℕ × List Range) Refusal)
 header_of remaining reader = stage_header reader.stage (text_left remaining reader.source)
 
@@ -76,13 +76,13 @@ last_given reader = stage_last reader.stage
 abbrev pub has_ended : {R : Type 0} → PartReader R → Bool
 has_ended reader = stage_over reader.stage
 
--- where a call was refused, each later call is refused so
+-- if a call was refused, each later call is refused so
 abbrev pub Refuses : {X : Type 0} → Option Refusal → Option Refusal → Result X Refusal → Type 0
 Refuses (Some why) now result = (result ≡ Err why) × (now ≡ Some why)
 Refuses None now (Ok x) = now ≡ None
 Refuses None now (Err why) = now ≡ Some why
 
--- failures are counted; where a refusal is told again nothing is read
+-- failures are counted; if a refusal is returned again nothing is read
 abbrev pub CountsOnce : {X T : Type 0} → Option Refusal → Tally T → Tally T → Result X Refusal → Type 0
 CountsOnce None old new result = Counts old new result
 CountsOnce (Some why) old new result = new ≡ old
@@ -103,7 +103,7 @@ abbrev pub TellsRanges : Option (Result (ℕ × List Range) Refusal) → List Ra
 TellsRanges (Some (Ok header)) ranges = header.1 ≡ ranges
 TellsRanges known ranges = ⊥
 
--- how a reader stands: what it refused, and how many of its calls failed
+-- the state of a reader: what it refused, and how many of its calls failed
 abbrev pub standing_of : {R : Type 0} → PartReader R → Standing
 standing_of reader = record { refused = refused_of reader; failures = failures_of (counted_by reader) }
 

@@ -1,4 +1,4 @@
--- What a reader of a part's text may refuse, whether its bytes are known or not.
+-- The possible refusals of a reader of a part's text, whether its bytes are known or not.
 use Rattle.std.specs.Prelude.{◌≡◌, ◌⊎◌, ⊤}
 use Rattle.pc_types.specs.declared.Refusal.{Refusal}
 use Rattle.pc_types.specs.declared.Refusal.TheVariants.{OutOfMemory, Device, Short, BadMagic, BadRanges, KeyOrder, BadKind, BadLength, Trailing, NotCovered}
@@ -15,6 +15,6 @@ IsTextFault Trailing = ⊤
 IsTextFault NotCovered = ⊤
 IsTextFault why = ⊥
 
--- memory ran out, a device failed, or the text has a fault
+-- an allocation failed, a device failed, or the text has a fault
 abbrev pub IsReadRefusal : Refusal → Type 0
 IsReadRefusal why = (why ≡ OutOfMemory) ⊎ (why ≡ Device) ⊎ IsTextFault why

@@ -1,4 +1,4 @@
--- What is left of a text that is read piece by piece.
+-- The rest of a text that is read piece by piece.
 use Rattle.std.specs.Prelude.{ℕ, List, length, Option, Result, Ok, ◌==◌, Bool}
 use Rattle.std.specs.Io.KnownBytes.{prepend_known}
 use Rattle.pc_types.specs.Tallies.{inner_of}

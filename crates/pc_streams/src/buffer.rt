@@ -9,7 +9,7 @@ use std::alloc::{AllocError, Global};
 use std::io::Read;
 use std::marker::Model;
 
-// The reader is asked for at least so many bytes at a time.
+// The fewest bytes that the reader is asked for at a time.
 const PIECE: usize = 16_384;
 
 // Bytes of a text: those in front of `used` are used, those up to `filled` are left, and the rest is room for more. A
@@ -32,7 +32,7 @@ impl Model for Buffer {
 }
 
 impl Buffer {
-    // Nothing is left. It takes no memory.
+    // Nothing is left. It allocates no memory.
     pub(crate) fn new(alloc: Global) -> Buffer
         ensures { result ≡ [] }
     {
@@ -50,7 +50,7 @@ impl Buffer {
         &self.bytes[self.used..self.filled]
     }
 
-    // Uses all but so many of the bytes that are left.
+    // Uses all but the given number of the bytes that are left.
     pub(crate) fn keep_last(&mut self, count: usize)
         requires { count ≤ length self.old }
         ensures { self.new ≡ drop (length self.old - count) self.old }
@@ -58,7 +58,7 @@ impl Buffer {
         self.used = self.filled - count;
     }
 
-    // Reads one more piece behind what is left, and answers of how many bytes it was, 0 at the reader's end. A refusal leaves
+    // Reads one more piece after what is left, and answers of how many bytes it was, 0 at the reader's end. A refusal leaves
     // all as it was.
     pub(crate) fn read_more<R: Read>(&mut self, from: &mut Tally<R>) -> Result<usize, Refusal>
         ensures kept { Keeps (prepend_known self.old (R.remaining (inner_of from.old))) (prepend_known self.new (R.remaining (inner_of from.new))) }
@@ -92,7 +92,7 @@ impl Buffer {
     }
 }
 
-// Has room for a piece behind the first so many bytes, which stay. It fails only where memory ran out.
+// Makes room for a piece after the first bytes, whose number is given, and which stay. It fails only if an allocation fails.
 fn make_room(bytes: &mut Vec<u8>, filled: usize) -> Result<(), AllocError>
     requires { filled ≤ vec_len bytes.old }
     ensures same { take filled bytes.new.items ≡ take filled bytes.old.items }

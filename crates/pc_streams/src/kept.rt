@@ -5,7 +5,7 @@ ghost use Rattle.pc_streams.specs.Refusals.{IsReadRefusal};
 use pc_types::Refusal;
 use std::marker::Model;
 
-// A refusal of a reader: memory ran out, its device failed, or its text has a fault. A contract sees which.
+// A refusal of a reader: an allocation failed, its device failed, or its text has a fault. A contract sees which.
 #[derive(Drop)]
 pub(crate) struct KeptRefusal {
     why: Refusal,
@@ -23,7 +23,6 @@ impl Model for KeptRefusal {
 }
 
 impl KeptRefusal {
-    // It is kept.
     pub(crate) fn new(why: Refusal) -> KeptRefusal
         requires { IsReadRefusal why }
         ensures { result ≡ why }
@@ -31,7 +30,6 @@ impl KeptRefusal {
         KeptRefusal { why }
     }
 
-    // The refusal.
     pub(crate) fn why(&self) -> Refusal
         ensures same { result ≡ self.now }
         ensures refusal { IsReadRefusal self.now }

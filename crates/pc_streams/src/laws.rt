@@ -1,8 +1,7 @@
 //! Laws of what is to come of a part's text. Each function does nothing, and its contract is a law.
 ghost use Rattle.pc_streams.specs.Laws.{FieldsCome, PartsCome};
 
-/// What a reader gives of a text, its header and then its entries, up to the end or the first fault, is what is read of the whole
-/// text at once.
+/// A reader gives the same header, entries and end or first fault as reading the whole text in one piece.
 pub fn parts_come()
     ensures fields { FieldsCome }
     ensures parts { PartsCome }

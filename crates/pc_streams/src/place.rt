@@ -1,4 +1,4 @@
-//! Where the text of a part is read, behind its header.
+//! The place at which the text of a part is read, after its header.
 ghost use Rattle.std.specs.Prelude.{◌≡◌, true, false, [], None, Ok, OnOk, IfErr, IfOk};
 ghost use Rattle.std.specs.Int.{w32};
 ghost use Rattle.std.specs.Option.{option_map};
@@ -20,8 +20,8 @@ use std::alloc::{AllocError, Global};
 use std::io::Read;
 use std::marker::Model;
 
-// Behind the header, the last key, and so many entries; the end may have been read. A contract sees the format, the run, the
-// ranges and the rest.
+// After the header, the last key, and a number of entries; the end may have been read. A contract sees the format, the run,
+// the ranges and the rest.
 #[derive(Drop)]
 pub(crate) struct Place {
     header: PartHeader,
@@ -45,7 +45,7 @@ impl Model for Place {
 }
 
 impl Place {
-    // Reads the header, which stands first.
+    // Reads the header, which comes first.
     pub(crate) fn open<R: Read>(alloc: Global, source: &mut Source<R>) -> Result<Place, Refusal>
         ensures drawn { Draws (λ place. place) (text_left R.remaining source.old) (text_left R.remaining source.new) result first_place_at }
         ensures first { IfOk result (λ place. (place.last ≡ []) × (place.count ≡ 0) × (place.ended ≡ false)) }
@@ -62,7 +62,6 @@ impl Place {
         })
     }
 
-    // The run.
     pub(crate) fn run(&self) -> u64
         ensures run { result ≡ self.now.run }
         ensures apart { AreRanges self.now.ranges }
@@ -77,7 +76,7 @@ impl Place {
         &self.header.ranges
     }
 
-    // The next entry, kept in this memory, or None at the end.
+    // The next entry, kept in this memory, or `None` at the end.
     #[inline(always)]
     pub(crate) fn next<R: Read>(
         &mut self,
@@ -115,7 +114,7 @@ impl Place {
         }
     }
 
-    // Counts an entry of this key, which has this head. It fails only where memory ran out.
+    // Counts an entry of this key, which has this head. It fails only if an allocation fails.
     #[inline(always)]
     fn pass(&mut self, key: &[u8], head: u64) -> Result<(), AllocError>
         requires { IsHead key.now head }
@@ -131,7 +130,7 @@ impl Place {
     }
 }
 
-// Reads how many entries there were, and that nothing stands behind.
+// Reads the number of entries, and checks that nothing follows.
 fn read_end<R: Read>(source: &mut Source<R>, count: u64) -> Result<(), Refusal>
     ensures ends { EndsAs (option_map (λ bytes. part_end_at count (number_at Refusal.Short w32 bytes)) (text_left R.remaining source.old)) result }
     ensures counts { Counts (tally_of source.old) (tally_of source.new) result }

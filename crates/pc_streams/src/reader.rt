@@ -1,4 +1,4 @@
-//! A part's text, of which the entries come one after the other.
+//! A part's text, of which the entries come in order.
 ghost use Rattle.std.specs.Prelude.{◌≡◌, true, Some, None, Ok, Err, OnOk, IfErr, IfOk};
 ghost use Rattle.std.specs.Option.{option_map};
 ghost use Rattle.pc_types.specs.Tallies.{inner_of, failures_of};
@@ -20,9 +20,9 @@ use pc_types::{Refusal, Tally};
 use std::alloc::Global;
 use std::io::Read;
 
-/// A part's text, read from a counted reader as its entries are asked for. In memory are its ranges, the last key, and a
-/// buffer for the longest entry, or the header, and two pieces of 16,384 bytes. Its entries take memory where that in which they
-/// are to be kept has no room for their text.
+/// A part's text, read from a counted reader as its entries are asked for. In memory are its ranges, the last key, and a buffer for
+/// the longest entry, or the header, and two pieces of 16,384 bytes. Its entries take memory if that in which they are to be kept
+/// has no room for their text.
 #[derive(Drop)]
 pub struct PartReader<R> {
     alloc: Global,
@@ -30,7 +30,7 @@ pub struct PartReader<R> {
     stage: PartStage,
 }
 
-// How far a part's text is read.
+// The progress of reading a part's text.
 #[derive(Drop)]
 enum PartStage {
     // Nothing is read.
@@ -56,16 +56,16 @@ impl<R: Read> PartReader<R> {
         }
     }
 
-    /// How many reads failed.
+    /// The number of reads that failed.
     pub fn failures(&self) -> u64
         ensures { result ≡ failures_of (counted_by self.now) }
     {
         self.source.failures()
     }
 
-    /// The run. It stands before the entries, as the ranges do; both are read where they aren't yet. Refuses with `OutOfMemory`
-    /// and, exactly where the count of failures has risen, with `Device`, else with `Short`, `BadMagic` or `BadRanges`, the
-    /// first fault of the text. After a refusal of any call it answers the same one from then on.
+    /// The run. It comes before the entries, as the ranges do; both are read if they aren't yet. Fails with `OutOfMemory` and, if
+    /// and only if the count of failures has increased, with `Device`, else with `Short`, `BadMagic` or `BadRanges`, the first fault
+    /// of the text. After a refusal of any call it answers the same one from then on.
     pub fn header(&mut self) -> Result<u64, Refusal>
         ensures header { AnswersAs (λ run. (run, ranges_read self.new)) (header_of R.remaining self.old) result }
         ensures told { IfOk result (λ run. header_of R.remaining self.new ≡ Some (Ok (run, ranges_read self.new))) }
@@ -86,7 +86,7 @@ impl<R: Read> PartReader<R> {
         }
     }
 
-    /// The points as ranges, rising, with at least one point left out between two. They are none where the header isn't read, or a
+    /// The points as ranges, ascending, with at least one point left out between two. They are none if the header isn't read, or a
     /// call was refused.
     pub fn ranges(&self) -> &[Range]
         ensures { result.now ≡ ranges_read self.now }
@@ -132,7 +132,7 @@ impl<R: Read> PartReader<R> {
         self.stage = PartStage::Refused(KeptRefusal::new(*why));
     }
 
-    // The next entry, kept in this memory, or None at the end. A refusal is not kept.
+    // The next entry, kept in this memory, or `None` at the end. A refusal is not kept.
     #[inline(always)]
     fn step(&mut self, memory: Vec<u8>) -> Result<Option<EntryText>, Refusal>
         ensures given { GivesNext (coming_of R.remaining self.old) (coming_of R.remaining self.new) result }
@@ -155,7 +155,7 @@ impl<R: Read> PartReader<R> {
         }
     }
 
-    // The header, and then the first entry, kept in this memory, or None at the end.
+    // The header, and then the first entry, kept in this memory, or `None` at the end.
     fn first(&mut self, memory: Vec<u8>) -> Result<Option<EntryText>, Refusal>
         requires { self.old.stage ≡ PartStage.Unread }
         ensures given { GivesNext (coming_of R.remaining self.old) (coming_of R.remaining self.new) result }
@@ -187,9 +187,10 @@ impl<R: Read> Entries for PartReader<R> {
 
     ghost refusals = { IsReadRefusal };
 
-    /// The next entry, kept in this memory, or None at the end. The header is read before the first. Behind the last one it sees that the text tells
-    /// how many there were, and ends. Refuses with `OutOfMemory` and, exactly where the count of failures has risen, with `Device`,
-    /// else with the first fault of the text, which is that of `Part::decode`. After a refusal it answers the same one from then on.
+    /// The next entry, kept in this memory, or `None` at the end. The header is read before the first. After the last one it checks
+    /// that the text has their number, and ends. Fails with `OutOfMemory` and, if and only if the count of failures has increased,
+    /// with `Device`, else with the first fault of the text, which is that of `Part::decode`. After a refusal it answers the same
+    /// one from then on.
     #[inline(always)]
     fn next(&mut self, memory: Vec<u8>) -> Result<Option<EntryText>, Refusal>
         ensures given { GivesNext (coming_of R.remaining self.old) (coming_of R.remaining self.new) result }

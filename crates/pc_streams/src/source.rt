@@ -37,14 +37,14 @@ impl<R: Read> Source<R> {
         Source { tally, buffer }
     }
 
-    /// How many reads failed.
+    /// The number of reads that failed.
     pub fn failures(&self) -> u64
         ensures { result ≡ failures_of (tally_of self.now) }
     {
         self.tally.failures()
     }
 
-    /// The header, which stands first. Refuses with `OutOfMemory` and, exactly where the count of failures has risen, with `Device`,
+    /// The header, which comes first. Fails with `OutOfMemory` and, if and only if the count of failures has increased, with `Device`,
     /// else with `Short`, `BadMagic` or `BadRanges`, the first fault of the text that is left.
     pub fn header(&mut self, alloc: Global) -> Result<PartHeader, Refusal>
         ensures drawn { Draws (λ header. (header.format, (header.run, header.ranges.items))) (text_left R.remaining self.old) (text_left R.remaining self.new) result header_at }
@@ -64,9 +64,9 @@ impl<R: Read> Source<R> {
         }
     }
 
-    /// The entry behind the last key, which has this head, or None at the end mark, of a text in this format. It is kept in this memory. Refuses with
-    /// `OutOfMemory` and, exactly where the count of failures has risen, with `Device`, else with `Short`, `BadLength`, `KeyOrder`, `NotCovered` or `BadKind`, the first fault of the text
-    /// that is left.
+    /// The entry after the last key, which has this head, or `None` at the end mark, of a text in this format. It is kept in this
+    /// memory. Fails with `OutOfMemory` and, if and only if the count of failures has increased, with `Device`, else with `Short`,
+    /// `BadLength`, `KeyOrder`, `NotCovered` or `BadKind`, the first fault of the text that is left.
     #[inline(always)]
     pub fn entry(
         &mut self,
@@ -96,8 +96,8 @@ impl<R: Read> Source<R> {
         }
     }
 
-    /// A number of 4 bytes, the highest one first. Refuses with `OutOfMemory` and, exactly where the count of failures has risen, with
-    /// `Device`, else with `Short` where fewer bytes are left.
+    /// A number of 4 bytes, the highest one first. Fails with `OutOfMemory` and, if and only if the count of failures has increased,
+    /// with `Device`, else with `Short` if fewer bytes are left.
     pub fn number(&mut self) -> Result<u32, Refusal>
         ensures drawn { Draws (λ number. number) (text_left R.remaining self.old) (text_left R.remaining self.new) result (number_at Refusal.Short w32) }
         ensures counts { Counts (tally_of self.old) (tally_of self.new) result }
@@ -115,7 +115,7 @@ impl<R: Read> Source<R> {
         }
     }
 
-    /// Whether no byte is left. Refuses with `OutOfMemory` and, exactly where the count of failures has risen, with `Device`.
+    /// Whether no byte is left. Fails with `OutOfMemory` and, if and only if the count of failures has increased, with `Device`.
     pub fn is_over(&mut self) -> Result<bool, Refusal>
         ensures drawn { Draws (λ over. over) (text_left R.remaining self.old) (text_left R.remaining self.new) result is_over_at }
         ensures counts { Counts (tally_of self.old) (tally_of self.new) result }
@@ -128,8 +128,7 @@ impl<R: Read> Source<R> {
         Ok(count == 0)
     }
 
-    // Reads one more piece where the bytes that are left end too soon; any other refusal stands, and so does this one where no
-    // more come.
+    // Reads one more piece if the bytes that are left end too soon; any other refusal is returned, and so is this one if no more come.
     fn read_on(&mut self, why: Refusal) -> Result<(), Refusal>
         requires { why ≢ Refusal.Device }
         ensures kept { Keeps (text_left R.remaining self.old) (text_left R.remaining self.new) }
@@ -148,7 +147,7 @@ impl<R: Read> Source<R> {
     }
 }
 
-// The entry, if there is one, kept in this memory. It fails only where memory ran out.
+// The entry, if there is one, kept in this memory. It fails only if an allocation fails.
 #[inline(always)]
 fn keep(entry: Option<LentEntry>, memory: Vec<u8>) -> Result<Option<EntryText>, AllocError>
     ensures { IfOk result (λ kept. kept ≡ entry.entry) }

@@ -30,7 +30,7 @@ module _ {T : Type 0} where
   contents_from : (items : List (Option (TableEntry T))) (capacity : ℕ) (rows : List (TableRow T)) → length items ≡ capacity → rows_from 0 items ≡ rows → contents_of items ≡ record { capacity = capacity; rows = rows }
   contents_from items capacity rows c r = rw (c, r)
 
-  -- the key that stands in the slot, if one does, is this one
+  -- the key in the slot, if there is one, is this one
   abbrev pub HasOnly : List (Option (TableEntry T)) → List ℕ → ℕ → Type 0
   HasOnly items key id = (k : List ℕ) → key_at key_in items id ≡ Some k → k ≡ key
 
@@ -40,7 +40,7 @@ module _ {T : Type 0} where
   only_behind : (item : Option (TableEntry T)) (items : List (Option (TableEntry T))) (key : List ℕ) (id : ℕ) → IsOnlyIn (item ∷ items) key (suc id) → IsOnlyIn items key id
   only_behind item items key id o = λ j h. let s : suc j ≡ suc id = o (suc j) h in omega (arith, s)
 
-  -- what is looked up once an entry stands in a slot
+  -- what is looked up once an entry is in a slot
   look_set : (key : List ℕ) (n id : ℕ) (items : List (Option (TableEntry T))) (entry : TableEntry T) → id < length items → IsOnlyIn items entry.key id → HasOnly items entry.key id →
       look key n (set items id (Some entry)) ≡ cond (same_bytes key entry.key) (Some (n + id, entry.item)) (look key n items)
   look_set key n id [] entry w o h = absurd (omega (arith, w))
@@ -134,6 +134,6 @@ module _ {T : Type 0} where
           found_looked q 0 (set slots.items id None) ∙ (look_cleared q 0 id slots.items entry e (λ j h. k.index.distinct j id entry.key h (ap (option_map key_in) e))
           ∙ (ap (cond (same_bytes q entry.key) None) (sym (found_looked q 0 slots.items)) ∙ sym (find-without key_order entry.key q (rows_from 0 slots.items))))
 
-  -- each slot is taken exactly where there are as many rows as slots
+  -- each slot is taken if and only if there are as many rows as slots
   pub full_rows : (items : List (Option (TableEntry T))) → AreDistinct items → is_full items ≡ (length (rows_from 0 items) == length items)
   full_rows items d = full_taken items ∙ ap (λ m. m == length items) (sym (rows_taken 0 items d))

@@ -41,7 +41,7 @@ module _ {T : Type 0} (slots : Slots (TableEntry T)) (by_key : IndexView) (table
   pub taken_of : (id : ℕ) → HasRow table.rows id → IsTaken slots.items id
   taken_of id h = sym (is_mapped (pair_in slots.items k.index.distinct) (at slots.items id)) ∙ (sym (ap is_some (seen_slot id)) ∙ h)
 
-  -- what stands in a slot is its row
+  -- the entry of a slot is its row
   pub row_of : (id : ℕ) (entry : TableEntry T) → at slots.items id ≡ Some entry → in_slot table.rows id ≡ Some (entry.key, entry.item)
   row_of id entry e = seen_slot id ∙ ap (option_map (pair_in slots.items k.index.distinct)) e
 

@@ -1,4 +1,4 @@
--- Rows that rise by key, looked up by key and by slot.
+-- Rows that ascend by key, looked up by key and by slot.
 use Rattle.std.proofs.Common.{◌≡◌, ℕ, ◌==◌, List, [], ◌∷◌, map, filter, Option, Some, None, option_map, is_some, Bool, true, false, cond, not, refl, sym, ap, ◌∙◌}
 use Rattle.std.specs.FinMap.{find, put, is_sorted}
 use Rattle.std.specs.FinMap.Entries.{below_all, find-put, is_sorted-put, same_entries}
@@ -15,7 +15,7 @@ use Rattle.pc_table.specs.Rows.{TableRow, Contents, slot_of, in_slot, with_recor
 pub own_key : (key : List ℕ) → same_bytes key key ≡ true
 own_key key = (eq_by_cmp_equiv key_order.total).refl key
 
--- rising entries that are found alike are the same
+-- ascending entries that are found alike are the same
 pub same_rows : {X : Type 0} (es fs : List (List ℕ × X)) → Rise es → Rise fs → ((q : List ℕ) → find key_cmp q es ≡ find key_cmp q fs) → es ≡ fs
 same_rows es fs r s e = same_entries key_cmp key_order.total key_order.exact es fs (computes r) (computes s) e
 
@@ -147,7 +147,7 @@ module _ {T : Type 0} where
       hidden true o = refl
       hidden false o = refl
 
-  -- the record in a slot, where the slot has another one
+  -- the record in a slot, if the slot has another one
   abbrev in_place : ℕ → T → ℕ × T → ℕ × T
   in_place id x place = (place.0, cond (place.0 == id) x place.1)
 
@@ -161,7 +161,7 @@ module _ {T : Type 0} where
       by false rest = rest
 
   module _ (table : Contents T) (key : List ℕ) (id : ℕ) (a : AreInSlots table) (s : slot_of table.rows key ≡ Some id) where
-    -- a place that is found is the slot exactly where it is found of the key
+    -- a place that is found is the slot if and only if it is found of the key
     pub place_key : (q : List ℕ) (p : ℕ × T) → find key_cmp q table.rows ≡ Some p → (p.0 == id) ≡ same_bytes q key
     place_key q p e = by (p.0 == id) (same_bytes q key) refl refl
       where

@@ -1,4 +1,4 @@
--- What is seen of entries: by key and by slot they are found as they stand.
+-- The view of entries: by key and by slot they are found as they are.
 use Rattle.std.proofs.Common.{◌≡◌, ℕ, zero, suc, ◌+◌, List, [], ◌∷◌, Option, Some, None, option_map, is_some, Bool, true, false, cond, refl, sym, ap, ◌∙◌, arith}
 use Rattle.std.specs.FinMap.{find}
 use Rattle.std.specs.FinMap.Entries.{find-put, is_sorted-put}
@@ -16,7 +16,7 @@ use Rattle.pc_table.specs.Entries.{key_in, entry_of, rows_from, contents_of, Are
 use Rattle.pc_table.proofs.RowLaws.{own_key, no_row, same_some, slot_found, found_has}
 
 module _ {T : Type 0} where
-  -- the key stands in this slot alone, if in any
+  -- the key is in this slot alone, if in any
   abbrev pub IsOnlyIn : List (Option (TableEntry T)) → List ℕ → ℕ → Type 0
   IsOnlyIn items key id = (j : ℕ) → key_at key_in items j ≡ Some key → j ≡ id
 
@@ -38,7 +38,7 @@ module _ {T : Type 0} where
   rows_rise n (None ∷ items) = rows_rise (n + 1) items
   rows_rise n (Some entry ∷ items) = tested (is_sorted-put key_cmp key_order.total entry.key (n, entry.item) (rows_from (n + 1) items) (computes (rows_rise (n + 1) items)))
 
-  -- what is looked up stands there
+  -- what is looked up is there
   pub looked_at : (key : List ℕ) (n : ℕ) (items : List (Option (TableEntry T))) (id : ℕ) (x : T) → look key n items ≡ Some (id, x) → (i : ℕ) × (id ≡ n + i) × (at items i ≡ Some (entry_of key x))
   looked_at key n [] id x e = absurd (no_row e)
   looked_at key n (None ∷ items) id x e = let h = looked_at key (n + 1) items id x e in (suc h.0, omega (arith, h.1), h.2)
@@ -52,7 +52,7 @@ module _ {T : Type 0} where
       by true t rest e = let p = same_some e in here (ap (λ (p : ℕ × T). p.0) p) (ap (λ (p : ℕ × T). p.1) p) (one_key key entry.key t)
       by false t rest e = let h = rest e in (suc h.0, omega (arith, h.1), h.2)
 
-  -- what stands in a slot, and of its key alone there, is looked up
+  -- the entry of a slot, alone with its key there, is looked up
   pub at_looked : (n : ℕ) (items : List (Option (TableEntry T))) (i : ℕ) (entry : TableEntry T) → at items i ≡ Some entry → IsOnlyIn items entry.key i → look entry.key n items ≡ Some (n + i, entry.item)
   at_looked n [] i entry e o = absurd (no_row e)
   at_looked n (None ∷ items) zero entry e o = absurd (no_row e)
@@ -68,7 +68,7 @@ module _ {T : Type 0} where
       by true t rest = absurd (let s : 0 ≡ suc i = o 0 (ap Some (sym (one_key entry.key first.key t))) in omega (arith, s))
       by false t rest = rest
 
-  -- a key that stands nowhere isn't found
+  -- a key that is nowhere isn't found
   pub none_looked : (key : List ℕ) (n : ℕ) (items : List (Option (TableEntry T))) → IsAbsent key_in items key → look key n items ≡ None
   none_looked key n [] a = refl
   none_looked key n (None ∷ items) a = none_looked key (n + 1) items (λ j. a (suc j))
@@ -79,7 +79,7 @@ module _ {T : Type 0} where
       by false t rest = rest
 
   module _ (items : List (Option (TableEntry T))) (distinct : (id other : ℕ) (key : List ℕ) → key_at key_in items id ≡ Some key → key_at key_in items other ≡ Some key → id ≡ other) where
-    -- what stands in a slot is found by its key
+    -- the entry of a slot is found by its key
     pub at_found : (id : ℕ) (entry : TableEntry T) → at items id ≡ Some entry → find key_cmp entry.key (rows_from 0 items) ≡ Some (id, entry.item)
     at_found id entry e = found_looked entry.key 0 items ∙ (at_looked 0 items id entry e (λ j h. distinct j id entry.key h (ap (option_map key_in) e)) ∙ ap (λ m. Some (m, entry.item)) (omega arith))
 
@@ -89,7 +89,7 @@ module _ {T : Type 0} where
     abbrev pub pair_in : TableEntry T → List ℕ × T
     pair_in entry = (entry.key, entry.item)
 
-    -- what is seen in a slot stands there
+    -- what is seen in a slot is there
     pub seen_at : (id : ℕ) → in_slot (rows_from 0 items) id ≡ option_map pair_in (at items id)
     seen_at id = by (in_slot (rows_from 0 items) id) (at items id) refl refl
       where

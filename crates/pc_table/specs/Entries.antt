@@ -1,4 +1,4 @@
--- What the slots of a table have: a key with its record each, which an index finds.
+-- The contents of a table's slots: a key with its record each, which an index finds.
 use Rattle.std.specs.Prelude.{ℕ, ◌+◌, ◌≤◌, List, [], ◌∷◌, length, Option, Some, None}
 use Rattle.std.specs.FinMap.{put}
 use Rattle.pc_types.specs.declared.limits.TheConstants.{MOST_KEYS}
@@ -17,7 +17,7 @@ module _ {T : Type 0} where
   abbrev pub entry_of : List ℕ → T → TableEntry T
   entry_of key x = record { key = key; item = x }
 
-  -- the rows with the one of an entry, where there is one, which has the slot
+  -- the rows with the one of an entry, if there is one, which has the slot
   abbrev pub with_entry : ℕ → Option (TableEntry T) → List (TableRow T) → List (TableRow T)
   with_entry id None rows = rows
   with_entry id (Some entry) rows = put key_cmp entry.key (id, entry.item) rows
@@ -31,7 +31,7 @@ module _ {T : Type 0} where
   abbrev pub contents_of : List (Option (TableEntry T)) → Contents T
   contents_of items = record { capacity = length items; rows = rows_from 0 items }
 
-  -- the index is of these entries, and there are at most so many slots
+  -- the index is of these entries, and there are at most that many slots
   pub record AreEntriesKept (slots : Slots (TableEntry T)) (by_key : IndexView) : Type 0 where
     pub index : IsIndex key_in slots by_key
     pub most : length slots.items ≤ MOST_KEYS

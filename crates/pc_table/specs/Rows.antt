@@ -1,4 +1,4 @@
--- What is seen of a table: rows that rise by key, each with its slot and its record.
+-- The view of a table: rows that ascend by key, each with its slot and its record.
 use Rattle.std.specs.Prelude.{◌≡◌, ◌↔◌, ℕ, ◌<◌, ◌≤◌, ◌==◌, not, List, [], ◌∷◌, length, map, filter, Option, Some, None, IsSome, option_map, if◌then◌else◌}
 use Rattle.std.specs.FinMap.{find, put}
 use denote.Ref.{Bor}
@@ -17,11 +17,11 @@ pub record Contents (T : Type 0) : Type 0 where
   pub rows : List (TableRow T)
 
 module _ {T : Type 0} where
-  -- the slot of the key; None where the key has no row
+  -- the slot of the key; `None` if the key has no row
   abbrev pub slot_of : List (TableRow T) → List ℕ → Option ℕ
   slot_of rows key = option_map (λ place. place.0) (find key_cmp key rows)
 
-  -- the key and the record in the slot; None where the slot has no row
+  -- the key and the record in the slot; `None` if the slot has no row
   abbrev pub in_slot : List (TableRow T) → ℕ → Option (List ℕ × T)
   in_slot [] id = None
   in_slot (row ∷ rows) id = if row.1.0 == id then Some (row.0, row.1.1) else in_slot rows id
@@ -50,7 +50,7 @@ module _ {T : Type 0} where
   abbrev pub IsTableFull : Contents T → Type 0
   IsTableFull table = length table.rows ≡ table.capacity
 
-  -- why a key gets no row: the table is full, or else memory ran out
+  -- why a key gets no row: the table is full, or else an allocation failed
   abbrev pub why_refused : Contents T → Refusal
   why_refused table = if length table.rows == table.capacity then Full else OutOfMemory
 
@@ -58,11 +58,12 @@ module _ {T : Type 0} where
   abbrev pub IsNewSlot : Contents T → ℕ → Type 0
   IsNewSlot table id = (id < table.capacity) × (in_slot table.rows id ≡ None)
 
-  -- the key and the record behind the references
+  -- the key and the record after the references
   abbrev pub pair_behind : Bor (List ℕ) × Bor T → List ℕ × T
   pair_behind pair = (pair.0.now, pair.1.now)
 
-  -- the rows rise by key, each has a slot of its own below the capacity, and what is found in a slot is what is found of its key
+  -- the rows ascend by key, each has a slot of its own below the capacity, and what is found in a slot is what is found of its
+  -- key
   pub record AreInSlots (table : Contents T) : Type 0 where
     pub rise : KeysRise table.rows
     pub most : table.capacity ≤ MOST_KEYS

@@ -1,4 +1,4 @@
-//! Entries: what stands in a slot.
+//! Entries: the contents of slots.
 use pc_chain::{Blank, Keyed};
 use pc_types::Key;
 use std::alloc::{AllocError, Global};
@@ -16,7 +16,7 @@ impl<T> TableEntry<T> {
     ghost use Rattle.pc_table.specs.Lending.{LendsEntryRecord};
     ghost use Rattle.pc_table.specs.Rows.{pair_behind};
 
-    /// The record, to be changed where it stands.
+    /// The record, to be changed in place.
     pub(crate) fn item_mut(&mut self) -> &mut T
         ensures* lends { sem 𝓛 (LendsEntryRecord T.row self.entry result) }
         ensures value { self.old.item ≡ result.now }
@@ -24,7 +24,7 @@ impl<T> TableEntry<T> {
         &mut self.item
     }
 
-    /// Both at once.
+    /// Both together.
     pub(crate) fn pair(&self) -> (&Key, &T)
         ensures { pair_behind result ≡ (self.now.key, self.now.item) }
     {

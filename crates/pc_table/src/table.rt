@@ -14,8 +14,8 @@ use std::hash::RandomState;
 use std::marker::Model;
 
 /// Records by key, each in a slot of its own, whose number is below the capacity. A key is looked for along one hash chain; a
-/// slot's record is reached at once, and stays where it is until its key is removed. The table is seen as its rows, which
-/// rise by key: each has a key, its slot, and its record.
+/// slot's record is reached directly, and stays where it is until its key is removed. The table is seen as its rows, which
+/// ascend by key: each has a key, its slot, and its record.
 ///
 /// All memory for slots is taken when the table is made. Only a new key of more than 16 bytes of its own takes memory.
 #[derive(Drop)]
@@ -37,9 +37,9 @@ impl<T> Model for Table<T> {
 }
 
 impl<T: Blank> Table<T> {
-    /// A table for at most so many keys, of which there may be at most 2^20; none has a row yet. It fails only where memory ran
-    /// out. The seed is that of the hashes of keys: two words given by chance (`RandomState::new`), so that whoever picks the
-    /// keys can't make them share a chain.
+    /// A table for at most the given number of keys, itself at most 2^20; none has a row yet. It fails only if an allocation
+    /// fails. The seed is that of the hashes of keys: a random 128-bit number (`RandomState::new`), so that a client that picks
+    /// the keys can't make them share a chain.
     pub fn new(alloc: Global, capacity: u32, seed: RandomState) -> Result<Table<T>, AllocError>
         requires { capacity ≤ MOST_KEYS }
         ensures { IfOk result (λ table. table ≡ record { capacity = capacity; rows = [] }) }
@@ -49,7 +49,7 @@ impl<T: Blank> Table<T> {
         Ok(Table { entries, index })
     }
 
-    /// How many keys may have a row. Each slot has a number below it.
+    /// The number of keys that may have a row. Each slot has a number below it.
     pub fn capacity(&self) -> u32
         ensures count { result ≡ self.now.capacity }
         ensures slots { AreInSlots self.now }
@@ -65,7 +65,7 @@ impl<T: Blank> Table<T> {
         self.entries.is_full()
     }
 
-    /// The slot of the key; None where the key has no row.
+    /// The slot of the key; `None` if the key has no row.
     pub fn find(&self, key: &Key) -> Option<SlotId>
         ensures slot { result ≡ slot_of self.now.rows key.now }
         ensures row { IfSome result (HasRow self.now.rows) }
@@ -74,7 +74,7 @@ impl<T: Blank> Table<T> {
         self.index.find(&self.entries, key)
     }
 
-    /// The slot of the key, which is looked for in the given slot first: what `find` gives, without a search where it is there.
+    /// The slot of the key, which is looked for in the given slot first: what `find` gives, without a search if it is there.
     pub fn find_near(&self, key: &Key, near: Option<SlotId>) -> Option<SlotId>
         ensures slot { result ≡ slot_of self.now.rows key.now }
         ensures row { IfSome result (HasRow self.now.rows) }
@@ -115,7 +115,7 @@ impl<T: Blank> Table<T> {
         &self.entries.get(id).item
     }
 
-    /// The record in the slot, which has a row, to be changed where it stands. Nothing else changes.
+    /// The record in the slot, which has a row, to be changed in place. Nothing else changes.
     pub fn get_mut(&mut self, id: SlotId) -> &mut T
         requires { HasRow self.old.rows id }
         ensures* lends { sem 𝓛 (LendsRow T.row self.entry id result) }
@@ -125,8 +125,8 @@ impl<T: Blank> Table<T> {
         self.entries.get_mut(id).item_mut()
     }
 
-    /// The key and the record in the slot; None where the slot has no row. So a caller that asks for each slot below the
-    /// capacity sees each row once.
+    /// The key and the record in the slot; `None` if the slot has no row. So a caller that asks for each slot below the capacity
+    /// sees each row once.
     pub fn get_if_taken(&self, id: SlotId) -> Option<(&Key, &T)>
         ensures pair { option_map pair_behind result ≡ in_slot self.now.rows id }
         ensures slots { AreInSlots self.now }
@@ -137,9 +137,9 @@ impl<T: Blank> Table<T> {
         }
     }
 
-    /// The slot of a key that has no row and gets one, in a free slot, with a blank record. Refuses with `Full` exactly where as
-    /// many keys have a row as may, and else only with `OutOfMemory`, where a key of more than 16 bytes of its own can't be
-    /// copied; the table is then as it was.
+    /// The slot of a key that has no row and gets one, in a free slot, with a blank record. Returns `Full` if and only if as
+    /// many keys have a row as may; otherwise the only error is `OutOfMemory`, if a key of more than 16 bytes of its own can't
+    /// be copied; the table is then as it was.
     pub fn make(&mut self, alloc: Global, key: &Key) -> Result<SlotId, Refusal>
         requires { slot_of self.old.rows key.now ≡ None }
         ensures made { IfOk result (λ id. self.new ≡ with_row self.old key.now id T.blank) }
@@ -156,7 +156,8 @@ impl<T: Blank> Table<T> {
         self.index.make(&mut self.entries, alloc, key)
     }
 
-    /// Takes away the row in the slot, which has one, and gives its record. The slot is free from then on. It takes no memory.
+    /// Takes away the row in the slot, which has one, and returns its record. The slot is free from then on. It allocates no
+    /// memory.
     pub fn remove(&mut self, id: SlotId) -> T
         requires { HasRow self.old.rows id }
         ensures given { option_map (λ pair. pair.1) (in_slot self.old.rows id) ≡ Some result }

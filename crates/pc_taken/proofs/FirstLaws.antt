@@ -1,4 +1,4 @@
--- The first entry of two lists, of the second of which the first is held, and what comes behind it.
+-- The first entry of two lists, of the second of which the first is held, and what comes after it.
 use Rattle.std.proofs.Common.{◌≡◌, ℕ, Bool, true, false, List, [], ◌∷◌, Option, Some, None, length, refl, sym, ap, ◌∙◌, arith}
 use Rattle.std.specs.declared.cmp.Ordering.{Ordering}
 use Rattle.std.specs.declared.cmp.Ordering.TheVariants.{Less, Equal, Greater}
@@ -12,14 +12,14 @@ use Rattle.pc_model.proofs.MergeItemLaws.{items}
 use Rattle.pc_taken.specs.Takings.{Captured, newest, as_one}
 use Rattle.pc_taken.specs.Firsts.{Lent, with_held, IsFirst}
 
--- where one list is done the other goes on
+-- if one list is done the other goes on
 rising_alone : (x : Captured) (xs : List Captured) → as_one (x ∷ xs) [] ≡ x ∷ as_one xs []
 rising_alone x xs = sym (merged_items newest (x ∷ xs) []) ∙ ap (λ l. x ∷ gathered newest l) (sym (merge_join_by-nil (λ (x y : Captured). key_cmp x.0 y.0) xs)) ∙ ap (λ l. x ∷ l) (merged_items newest xs [])
 
 others_alone : (y : Captured) (ys : List Captured) → as_one [] (y ∷ ys) ≡ y ∷ as_one [] ys
 others_alone y ys = sym (merged_items newest [] (y ∷ ys)) ∙ ap (λ l. y ∷ l) (merged_items newest [] ys)
 
--- where both go on the lesser one comes first, and the second list's of two of one key
+-- if both go on the lesser one comes first, and the second list's of two of one key
 module _ (x y : Captured) (xs ys : List Captured) where
   by_order : (o : Ordering) → key_cmp x.0 y.0 ≡ o → as_one (x ∷ xs) (y ∷ ys) ≡ gathered newest (by_ordering o (Left x ∷ items xs (y ∷ ys)) (Both x y ∷ items xs ys) (Right y ∷ items (x ∷ xs) ys))
   by_order o is = sym (merged_items newest (x ∷ xs) (y ∷ ys)) ∙ ap (λ o. gathered newest (by_ordering o (Left x ∷ items xs (y ∷ ys)) (Both x y ∷ items xs ys) (Right y ∷ items (x ∷ xs) ys))) is
@@ -57,6 +57,6 @@ module _ (rising : List Captured) (other : Option Lent) (key : List ℕ) (conten
     pub greater_first : (one : Captured) (rest : List Captured) → rising ≡ one ∷ rest → left ≡ rising → key_cmp one.0 held.0.now ≡ Greater → IsFirst rising other (key, content) left is_of_others
     greater_first one rest at behind above = rw (behind, at, some, the_key, the_content, is) (λ others. greater one (held.0.now, held.1.now) rest others above)
 
--- and where neither list goes on nothing is to come
+-- and if neither list goes on nothing is to come
 pub none_first : (rising others : List Captured) (other : Option Lent) → rising ≡ [] → other ≡ None → as_one rising (with_held other others) ≡ []
 none_first rising others other none nothing = rw (none, nothing) (sym (merged_items newest [] []))

@@ -23,12 +23,12 @@ use Rattle.itertools.specs.declared.either_or_both.EitherOrBoth.{EitherOrBoth}
 use Rattle.itertools.specs.declared.either_or_both.EitherOrBoth.TheVariants.{Both, Left, Right}
 use Rattle.pc_taken.specs.Takings.{Captured, newest, as_one, IsAbove, AreTaken}
 
--- a key above all is the last one: to put it is to add it behind them
+-- a key above all is the last one: to put it is to add it after them
 put_above : (key : List ℕ) (x : Option (List ℕ)) (es : List Captured) → IsAbove key es → put key_cmp key x es ≡ es ++ (key, x) ∷ []
 put_above key x [] above = refl
 put_above key x (e ∷ es) above = ap (λ o. by_order o ((key, x) ∷ e ∷ es) ((e.0, x) ∷ es) (e ∷ put key_cmp key x es)) above.0 ∙ ap (λ l. e ∷ l) (put_above key x es above.1)
 
--- how the last entry stands to a key tells whether the key is above all
+-- comparing the last entry with a key tells whether the key is above all
 same_entry : (x e : Captured) → Some x ≡ Some e → x ≡ e
 same_entry x e is = cc
 
@@ -67,7 +67,7 @@ above_last key (x ∷ xs) e b rise is test = (
     at : slice_get (x ∷ xs) (length xs) ≡ Some e
     at = ap (slice_get (x ∷ xs)) (sym place) ∙ sym is
 
--- a key above a longer list is above its beginning
+-- a key above a longer list is above its prefix
 above_less : (q : List ℕ) (es more : List Captured) → IsAbove q (es ++ more) → IsAbove q es
 above_less q [] more above = tt
 above_less q (e ∷ es) more above = (above.0, above_less q es more above.1)
@@ -112,7 +112,7 @@ module _ (rising others new : List Captured) (key : List ℕ) (x : Option (List 
     apart = λ q some. none_of q (same_bytes q key) refl (subst IsSome (find_in_new q) some);
   }
 
--- a key that is above all goes behind the first list
+-- a key that is above all goes after the first list
 module _ (rising others new : List Captured) (key : List ℕ) (x : Option (List ℕ)) (taken : AreTaken rising others) (above : IsAbove key rising) (is : new ≡ rising ++ (key, x) ∷ []) where
   is_put : put key_cmp key x rising ≡ new
   is_put = put_above key x rising above ∙ sym is

@@ -1,4 +1,4 @@
--- Two passes over rising triples, gone through together: which has the least key, and what is to become of it.
+-- Two passes over ascending triples, gone through together: which has the least key, and what is to become of it.
 use Rattle.std.specs.Prelude.{ℕ, nat_lt, Bool, false, List, [], ◌∷◌, Option, Some, None, slice_get, if◌then◌else◌}
 use Rattle.std.specs.Option.{option_map}
 use Rattle.std.specs.declared.cmp.Ordering.{Ordering}
@@ -31,12 +31,12 @@ key_at triples = option_map (λ triple. triple.key) (slice_get triples 0)
 abbrev pub side_of : List Triple → List Triple → Option Side
 side_of a b = side_by (key_at a) (key_at b)
 
--- the triples behind the first one
+-- the triples after the first one
 abbrev pub behind : List Triple → List Triple
 behind [] = []
 behind (triple ∷ triples) = triples
 
--- what is to come of the first behind the least key
+-- what is to come of the first after the least key
 abbrev pub first_behind : Side → List Triple → List Triple
 first_behind Second a = a
 first_behind side a = behind a

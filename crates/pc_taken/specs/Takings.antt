@@ -1,4 +1,4 @@
--- What was taken of a point: two lists of entries by key, seen as one.
+-- The captured entries of a point: two lists of entries by key, seen as one.
 use Rattle.std.specs.Prelude.{◌≡◌, ℕ, List, Option, Some, None, IsSome}
 use Rattle.std.specs.List.{AllByRecursion}
 use Rattle.std.specs.Coded.{Coded, coded×, coded_ℕ, coded_list, coded_option}
@@ -16,7 +16,7 @@ abbrev pub newest : {X : Type 0} → Option X → Option X → Option X
 newest first None = first
 newest first (Some x) = Some x
 
--- the entries of both, rising by key; of a key that both have the second's
+-- the entries of both, ascending by key; of a key that both have the second's
 abbrev pub as_one : List Captured → List Captured → List Captured
 as_one = merged newest
 
@@ -24,7 +24,7 @@ as_one = merged newest
 abbrev pub IsAbove : {X : Type 0} → List ℕ → List (List ℕ × X) → Type 0
 IsAbove key entries = AllByRecursion (λ entry. key_cmp key entry.0 ≡ Greater) entries
 
--- both lists rise by key; a key above those of the first is in neither, and no key is in both
+-- both lists ascend by key; a key above those of the first is in neither, and no key is in both
 pub record AreTaken (rising others : List Captured) : Type 0 where
   pub rise : KeysRise rising
   pub others_rise : KeysRise others

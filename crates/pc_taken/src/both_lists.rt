@@ -9,15 +9,15 @@ use std::cmp::Ordering;
 use std::collections::{BTreeMap, btree_map};
 use std::marker::Model;
 
-/// A key, and what it had at the point, lent from where they stand.
+/// A key, and its content at the point, borrowed in place.
 pub(crate) type LentEntry<'a> = (&'a Key, &'a Option<Value>);
 
-/// What two lists have to come, in one order, rising by key; of two entries of one key the second list's. A contract sees it as
-/// one list.
+/// The entries to come of two lists, in one order, ascending by key; of two entries of one key the second list's. A contract
+/// sees it as one list.
 #[derive(Drop)]
 pub(crate) struct BothLists<'a> {
     rising: &'a [(Headed, Option<Value>)],
-    // The first entry to come of the second list, and those behind it.
+    // The first entry to come of the second list, and those after it.
     other: Option<(&'a Headed, &'a Option<Value>)>,
     others: btree_map::Iter<'a, Headed, Option<Value>>,
 }
@@ -73,7 +73,7 @@ impl<'a> BothLists<'a> {
     }
 }
 
-// The first entry of two lists, what comes behind it in the first list, and whether it is that of the second one.
+// The first entry of two lists, what comes after it in the first list, and whether it is that of the second one.
 #[derive(Drop)]
 struct First<'a> {
     key: &'a Key,

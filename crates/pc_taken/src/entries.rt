@@ -14,7 +14,6 @@ pub struct Entries {
     form: Form,
 }
 
-// How they are kept.
 #[derive(Drop)]
 enum Form {
     Listed(Vec<Triple>),
@@ -41,7 +40,7 @@ impl Entries {
         }
     }
 
-    /// What was taken of the point, as it stands. It takes a constant time and no memory.
+    /// The captured entries of the point, moved. It takes constant time and no memory.
     pub fn taken(point: Point, taken: Taken) -> Entries
         ensures { result ≡ map (triple_at point) taken }
     {
@@ -60,7 +59,7 @@ impl Entries {
         }
     }
 
-    /// The same entries once more. It fails only where memory ran out.
+    /// A copy of the entries. It fails only if an allocation fails.
     pub fn copy(&self, alloc: Global) -> Result<Entries, AllocError>
         ensures { IfOk result (λ copy. copy ≡ self.now) }
     {

@@ -1,4 +1,4 @@
-//! Keys with their heads beside them, so that most comparisons look at one number each.
+//! Keys next to their heads, so that most comparisons look at one number each.
 ghost use Rattle.std.specs.Prelude.{◌≡◌};
 ghost use Rattle.std.specs.Ordering.{nat_cmp, eq_by_cmp};
 ghost use Rattle.std.specs.Cmp.Lexicographic.{slice_cmp};
@@ -46,7 +46,7 @@ impl Headed {
         &self.key
     }
 
-    /// How the keys are ordered: as their heads are where these differ, and else byte by byte.
+    /// The order of the keys: as their heads if these differ, and otherwise byte by byte.
     pub(crate) fn compare(&self, other: &Headed) -> Ordering
         ensures { result ≡ slice_cmp nat_cmp self.now other.now }
     {

@@ -1,16 +1,16 @@
-//! Triples that are lent from where their keys and contents stand.
+//! Triples that borrow their keys and contents in place.
 ghost use Rattle.std.specs.Prelude.{◌≡◌, IfOk};
 
 use pc_types::{Key, Point, Triple, Value, copy_content};
 use std::alloc::{AllocError, Global};
 use std::marker::Model;
 
-/// A triple of a file, lent. A contract sees the triple.
+/// A borrowed triple of a file. A contract sees the triple.
 #[derive(Drop)]
 pub struct LentTriple<'a> {
     pub key: &'a Key,
     pub point: Point,
-    /// What the key had at the point, a value or nothing.
+    /// The content of the key at the point, a value or nothing.
     pub content: &'a Option<Value>,
 }
 
@@ -23,7 +23,6 @@ impl<'a> Model for LentTriple<'a> {
 }
 
 impl<'a> LentTriple<'a> {
-    // The triple, lent.
     pub(crate) fn of(triple: &'a Triple) -> LentTriple<'a>
         ensures { result ≡ triple.now }
     {
@@ -34,7 +33,7 @@ impl<'a> LentTriple<'a> {
         }
     }
 
-    /// A triple of its own. It fails only where memory ran out.
+    /// A triple of its own. It fails only if an allocation fails.
     pub fn copy(&self, alloc: Global) -> Result<Triple, AllocError>
         ensures { IfOk result (λ copy. copy ≡ self.now) }
     {

@@ -1,5 +1,6 @@
-//! What is taken of a point: its keys, each once, with what they had there. It grows by puts in any order, and is then the
-//! entries of the point's part where it stands. Entries of a part, however they are kept, are gone over in one pass.
+//! The captured entries of a point: its keys, each once, with their contents there. They grow by puts in any order, and
+//! then become the entries of the point's part in place. Entries of a part, however they are kept, are gone over in one
+//! pass.
 #![tactic(auto)]
 
 mod both_lists;

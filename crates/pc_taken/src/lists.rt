@@ -10,7 +10,7 @@ use pc_types::Value;
 use std::alloc::AllocError;
 use std::collections::BTreeMap;
 
-// Whether the key is above those of all entries, which rise by key.
+// Whether the key is above those of all entries, which ascend by key.
 pub(crate) fn is_above(entries: &[(Headed, Option<Value>)], key: &Headed) -> bool
     requires { KeysRise entries.now }
     ensures { IsTrue result ↔ IsAbove key.now entries.now }
@@ -21,7 +21,7 @@ pub(crate) fn is_above(entries: &[(Headed, Option<Value>)], key: &Headed) -> boo
     }
 }
 
-// Where the entry of the key is, or else where one would go, in entries that rise by key: a binary search.
+// The place of the key's entry, or else the place where one would go, in entries that ascend by key: a binary search.
 pub(crate) fn place(entries: &[(Headed, Option<Value>)], key: &Headed) -> Result<usize, usize>
     requires { KeysRise entries.now }
     ensures at { IfOk result (IsAt entries.now key.now) }
@@ -30,7 +30,7 @@ pub(crate) fn place(entries: &[(Headed, Option<Value>)], key: &Headed) -> Result
     entries.binary_search_by(|entry| entry.0.compare(key))
 }
 
-// Puts the entry into the tree. Where memory ran out the tree stays.
+// Puts the entry into the tree. If an allocation failed the tree stays.
 pub(crate) fn put_among(
     others: &mut BTreeMap<Headed, Option<Value>>,
     key: Headed,

@@ -1,5 +1,5 @@
-//! A pass over the entries of a part. Where they lie in a list a step is a few instructions, which go into the loop; what was
-//! taken is gone over behind a call, so that it doesn't lie in their way.
+//! A pass over the entries of a part. If they lie in a list a step is a few instructions, which go into the loop; what was
+//! taken is gone over after a call, so that it doesn't lie in their way.
 ghost use Rattle.std.specs.Prelude.{◌≡◌, ◌++◌, ◌∷◌, [], length, option_copied, slice_get, OnOk, OnErr};
 ghost use Rattle.std.specs.Iterator.{YieldsFirst, item_count};
 ghost use Rattle.std.specs.Option.{option_map, option_to_list};
@@ -12,13 +12,12 @@ use std::alloc::{AllocError, Global};
 use std::marker::Model;
 use std::slice;
 
-/// The entries of a part, lent one after the other. A contract sees those to come.
+/// Borrowed entries of a part, in order. A contract sees those to come.
 #[derive(Drop)]
 pub struct Pass<'a> {
     form: PassForm<'a>,
 }
 
-// How they are kept.
 #[derive(Drop)]
 enum PassForm<'a> {
     Listed(slice::Iter<'a, Triple>),
@@ -76,7 +75,7 @@ impl<'a> Pass<'a> {
         }
     }
 
-    /// Adds a copy of the first one to come, which stays. It fails only where memory ran out, and then nothing is added.
+    /// Adds a copy of the first one to come, which stays. It fails only if an allocation fails, and then nothing is added.
     #[inline(always)]
     pub fn push_first(&self, alloc: Global, out: &mut Vec<Triple>) -> Result<(), AllocError>
         ensures pushed { OnOk result (out.new.items ≡ out.old.items ++ option_to_list (slice_get self.now 0)) }
@@ -91,7 +90,7 @@ impl<'a> Pass<'a> {
         }
     }
 
-    /// How many are to come.
+    /// The number of items to come.
     pub fn len(&self) -> usize
         ensures { result ≡ length self.now }
     {
@@ -123,7 +122,7 @@ impl<'a> Iterator for Pass<'a> {
     }
 }
 
-// The first triple, lent.
+// The first triple, borrowed.
 #[inline(always)]
 fn first_of(triples: &[Triple]) -> Option<LentTriple<'_>>
     ensures { result ≡ slice_get triples.now 0 }
@@ -157,7 +156,6 @@ fn push_first_of(alloc: Global, out: &mut Vec<Triple>, triples: &[Triple]) -> Re
     }
 }
 
-// Adds the triple.
 #[inline(always)]
 fn push(out: &mut Vec<Triple>, triple: Triple) -> Result<(), AllocError>
     ensures pushed { OnOk result (out.new.items ≡ out.old.items ++ triple ∷ []) }
@@ -167,7 +165,7 @@ fn push(out: &mut Vec<Triple>, triple: Triple) -> Result<(), AllocError>
     Ok(())
 }
 
-// The next triple, lent.
+// The next triple, borrowed.
 #[inline(always)]
 fn next_of<'a>(triples: &mut slice::Iter<'a, Triple>) -> Option<LentTriple<'a>>
     ensures { YieldsFirst iter_rest triples.old result triples.new }

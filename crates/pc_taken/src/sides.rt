@@ -1,4 +1,4 @@
-//! Two passes over rising entries, gone through together. Each step is a few instructions, which go into the loop.
+//! Two passes over ascending entries, gone through together. Each step is a few instructions, which go into the loop.
 ghost use Rattle.std.specs.Prelude.{◌≡◌, ◌++◌, slice_get, OnOk, if◌then◌else◌};
 ghost use Rattle.std.specs.Option.{option_to_list};
 ghost use Rattle.pc_model.specs.Files.{same_content};
@@ -9,7 +9,7 @@ use pc_types::{Triple, Value};
 use std::alloc::{AllocError, Global};
 use std::cmp::Ordering;
 
-/// Which of two passes has the least key next: one of them, or both.
+/// The one of two passes that has the least key next: one of them, or both.
 #[derive(Clone, Copy)]
 pub enum Side {
     First,
@@ -17,7 +17,7 @@ pub enum Side {
     Both,
 }
 
-/// Which of the passes has the least key next, if any is to come.
+/// The pass that has the least key next, if any is to come.
 #[inline(always)]
 pub fn side_of(first: &Pass, second: &Pass) -> Option<Side>
     ensures { result ≡ side_of first.now second.now }
@@ -34,7 +34,7 @@ pub fn side_of(first: &Pass, second: &Pass) -> Option<Side>
     }
 }
 
-/// Goes on behind the least key.
+/// Goes on after the least key.
 #[inline(always)]
 pub fn go_on(side: Side, first: &mut Pass, second: &mut Pass)
     ensures first { first.new ≡ first_behind side first.old }

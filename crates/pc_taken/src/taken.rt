@@ -1,4 +1,4 @@
-//! What was taken of a point, as one value.
+//! The captured entries of a point, as one value.
 ghost use Rattle.std.specs.Prelude.{◌≡◌, [], length, map, OnOk, OnErr};
 ghost use Rattle.std.specs.FinMap.{put as put_entry};
 ghost use Rattle.pc_model.specs.Database.{KeysRise, key_cmp};
@@ -13,9 +13,9 @@ use std::collections::BTreeMap;
 use std::marker::Model;
 use std::mem;
 
-/// What was taken of a point: each key once, with what it had there, a value or nothing. A contract sees it as the list of
-/// these entries, which rise strictly by key. A put of a key above all others costs one comparison; another one costs a
-/// logarithm of how many keys there are.
+/// The captured entries of a point: each key once, with its content there, a value or nothing. A contract sees it as the
+/// list of these entries, which ascend strictly by key. A put of a key above all others costs one comparison; another one
+/// costs a logarithm of how many keys there are.
 #[derive(Drop)]
 pub struct Taken {
     alloc: Global,
@@ -39,7 +39,7 @@ impl Model for Taken {
 }
 
 impl Taken {
-    /// Nothing yet. It takes no memory.
+    /// Nothing yet. It allocates no memory.
     pub fn new(alloc: Global) -> Taken
         ensures { result ≡ [] }
     {
@@ -50,7 +50,7 @@ impl Taken {
         }
     }
 
-    /// How many keys were taken; a key that came twice counts once.
+    /// The number of keys taken; a key that came twice counts once.
     pub fn len(&self) -> usize
         ensures { result ≡ length self.now }
     {
@@ -58,7 +58,7 @@ impl Taken {
     }
 
     /// Puts the key in its place, with what it had at the point; what was there of the same key is replaced. It fails only
-    /// where memory ran out, and then nothing has changed.
+    /// if an allocation fails, and then nothing has changed.
     pub fn put(&mut self, key: Key, content: Option<Value>) -> Result<(), AllocError>
         ensures put { OnOk result (self.new ≡ put_entry key_cmp key content self.old) }
         ensures kept { OnErr result (self.new ≡ self.old) }
@@ -76,7 +76,7 @@ impl Taken {
         Ok(())
     }
 
-    /// All that was taken, as it stands; nothing is left then. It takes a constant time and no memory.
+    /// Moves all captured entries out; nothing is left then. It takes constant time and no memory.
     pub fn move_out(&mut self) -> Taken
         ensures taken { result ≡ self.old }
         ensures rise { KeysRise result }
@@ -86,7 +86,7 @@ impl Taken {
         mem::replace(self, nothing)
     }
 
-    // The entries as triples of the point, one after the other.
+    // The entries as triples of the point, in order.
     pub(crate) fn pass(&self, point: Point) -> TakenPass<'_>
         ensures { result ≡ map (triple_at point) self.now }
     {

@@ -12,14 +12,14 @@ use pc_types::{Key, Point, Value};
 use std::collections::BTreeMap;
 use std::marker::Model;
 
-/// The entries of two lists as triples of one point, one after the other, rising by key. A contract sees those to come.
+/// The entries of two lists as triples of one point, in order, ascending by key. A contract sees those to come.
 #[derive(Drop)]
 pub(crate) struct TakenPass<'a> {
     point: Point,
-    // The first entry to come, and those behind it.
+    // The first entry to come, and those after it.
     first: Option<LentEntry<'a>>,
     behind: BothLists<'a>,
-    // How many are to come.
+    // The number of items to come.
     left: usize,
 }
 
@@ -37,7 +37,7 @@ impl<'a> Model for TakenPass<'a> {
 }
 
 impl<'a> TakenPass<'a> {
-    /// The entries of both lists, of which there are so many.
+    /// The entries of both lists, whose number is given.
     pub(crate) fn new(
         point: Point,
         rising: &'a [(Headed, Option<Value>)],
@@ -79,7 +79,7 @@ impl<'a> TakenPass<'a> {
         }
     }
 
-    /// How many are to come.
+    /// The number of items to come.
     pub(crate) fn len(&self) -> usize
         ensures { result ≡ length self.now }
     {

@@ -11,14 +11,14 @@ appends_kept (Some a) None c x out kept = absurd out
 appends_kept (Some a) (Some b) None x out kept = absurd kept
 appends_kept (Some a) (Some b) (Some c) x out kept = kept ∙ out
 
--- so does a beginning
+-- so does a prefix
 pub begins_kept : (a b c : Option (List ℕ)) (x : List ℕ) → AppendsBeginning a b x → Keeps b c → AppendsBeginning a c x
 begins_kept None b c x out kept = tt
 begins_kept (Some a) None c x out kept = absurd out
 begins_kept (Some a) (Some b) None x out kept = absurd kept
 begins_kept (Some a) (Some b) (Some c) x out kept = (out.0, out.1, kept ∙ out.2)
 
--- a text that went out whole is a beginning of itself
+-- a text that went out whole is a prefix of itself
 pub whole_begins : (a b : Option (List ℕ)) (x : List ℕ) → Appends a b x → AppendsBeginning a b x
 whole_begins None b x p = tt
 whole_begins (Some a) None x p = absurd p

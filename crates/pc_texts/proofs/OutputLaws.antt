@@ -21,7 +21,7 @@ module _ {T : Type 0} (contents : T → Option (List ℕ)) (a b c : Tally T) (x 
   whole_printed (Ok u) p kept printed = (appends_kept (contents a.inner) (contents b.inner) (contents c.inner) x p.0 kept, printed.1 ∙ p.1)
   whole_printed (Err e) p kept printed = absurd (let other : Err e ≡ Ok tt = printed.0 in cc)
 
-  -- a beginning, where the output failed
+  -- a prefix, if the output failed
   pub part_printed : (put : Result (Unit {0}) Refusal) (why : Refusal) → Puts contents a b put x → Keeps (contents b.inner) (contents c.inner) → IsUnprinted put b c why
       → HasRisen (failures_of a) (failures_of c) × AppendsBeginning (contents a.inner) (contents c.inner) x
   part_printed (Ok u) why p kept (inl both) = absurd (let other : Ok u ≡ Err why = both.0 in cc)

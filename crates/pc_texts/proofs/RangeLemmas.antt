@@ -15,7 +15,7 @@ parts : (low high p : ℕ) (ranges : List (ℕ × ℕ)) → p ≢ high + 1 → w
 parts low high p [] e = grind (arith, nat_tests)
 parts low high p (r ∷ ranges) e = grind (arith, nat_tests)
 
--- the text of a first range, where another one follows
+-- the text of a first range, if another one follows
 first_text : (low high p : ℕ) (ranges : List (ℕ × ℕ)) → ranges_text ((low, high) ∷ with_range p p ranges) ≡ range_text (low, high) ++ (codes "," ++ ranges_text (with_range p p ranges))
 first_text low high p [] = refl
 first_text low high p (r ∷ ranges) = elim (r.0 == p + 1) as (λ b. ranges_text ((low, high) ∷ (if b then (p, r.1) ∷ ranges else (p, p) ∷ r ∷ ranges)) ≡ range_text (low, high) ++ (codes "," ++ ranges_text (if b then (p, r.1) ∷ ranges else (p, p) ∷ r ∷ ranges))) [ true ↦ refl | false ↦ refl ]

@@ -1,4 +1,4 @@
--- What becomes of what a command prints.
+-- The fate of a command's output.
 use Rattle.std.specs.Prelude.{◌≡◌, ◌⊎◌, Err}
 use Rattle.std.specs.declared.result.Result.{Result}
 use Rattle.pc_types.specs.Counted.{HasRisen}
@@ -7,7 +7,7 @@ use Rattle.pc_types.specs.declared.refusal.Refusal.{Refusal}
 use Rattle.pc_types.specs.declared.refusal.Refusal.TheVariants.{Device}
 use Rattle.pc_types.specs.declared.tally.Tally.{Tally}
 
--- What was put didn't all go out, for this reason: it was refused, whatever became of the flush behind it; or the device failed at
+-- Not all of the text went out, for this reason: it was refused, whatever became of the flush after it; or the device failed at
 -- the flush, which was counted.
 abbrev pub IsUnprinted : {A T : Type 0} → Result A Refusal → Tally T → Tally T → Refusal → Type 0
 IsUnprinted put old new why = ((put ≡ Err why) × ((failures_of new ≡ failures_of old) ⊎ HasRisen (failures_of old) (failures_of new)))

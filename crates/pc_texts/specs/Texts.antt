@@ -1,4 +1,4 @@
--- What is printed: the text of each reply, and of the bytes of keys and values.
+-- The printed texts: that of each reply, and of the bytes of keys and values.
 use Rattle.std.specs.Prelude.{ℕ, zero, suc, ◌/◌, ◌%◌, ◌==◌, Bool, List, [], ◌∷◌, ◌++◌, Option, Some, None, if◌then◌else◌, codes, decimal}
 use Rattle.std.specs.List.{flat_map}
 use Rattle.std.specs.Str.{bytes_eq}
@@ -30,7 +30,7 @@ abbrev pub printed : List ℕ → List ℕ
 printed [] = codes "-"
 printed (b ∷ bytes) = if bytes_eq (b ∷ bytes) (codes "-") then 92 ∷ 120 ∷ 50 ∷ 100 ∷ [] else flat_map printed_byte (b ∷ bytes)
 
--- what stands before a key's own bytes: nothing in space 0, else `\sN:` of its space
+-- the prefix of a key's own bytes: nothing in space 0, else `\sN:` of its space
 abbrev pub printed_space : ℕ → List ℕ
 printed_space zero = []
 printed_space (suc n) = codes "\\s" ++ (decimal (suc n) ++ codes ":")
@@ -114,10 +114,10 @@ check_line sound = if sound then codes "check ok\n" else codes "check failed\n"
 abbrev pub file_line : List ℕ → List ℕ → ℕ → List ℕ
 file_line word points count = (word ++ ranges_text (ranges_of points)) ++ (codes " entries " ++ (decimal count ++ codes "\n"))
 
--- what tells of a joined file
+-- the line of a joined file
 abbrev pub joined_line : List ℕ → ℕ → List ℕ
 joined_line points count = file_line (codes "points ") points count
 
--- what tells of the file of all points of a run
+-- the line of the file of all points of a run
 abbrev pub collapsed_line : List ℕ → ℕ → List ℕ
 collapsed_line points count = file_line (codes "collapsed ") points count

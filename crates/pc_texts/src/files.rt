@@ -1,4 +1,4 @@
-//! Files that may have been opened: their bytes, and the line that tells why a command failed.
+//! Files that may have been opened: their bytes, and the error line of a command.
 ghost use Rattle.std.specs.Prelude.{◌≡◌, ◌++◌, codes, IsOk, IfOk, IfErr, IfSome, OnOk};
 ghost use Rattle.std.specs.declared.result.Result.{Result};
 ghost use Rattle.pc_types.specs.declared.refusal.Refusal.{Refusal};
@@ -23,14 +23,14 @@ pub struct NamedFile<R> {
 pub enum Unread<R> {
     /// It can't be opened, for this reason.
     Absent(Refusal),
-    /// Memory ran out.
+    /// An allocation failed.
     NoMemory,
     /// The device failed in a read of the file, which has counted that.
     Failed(Tally<R>),
 }
 
 impl<R> Unread<R> {
-    /// The refusal by which it is told.
+    /// The refusal that reports it.
     pub fn refusal(&self) -> Refusal
         ensures { result ≡ refusal_of self.now }
     {
@@ -42,8 +42,8 @@ impl<R> Unread<R> {
     }
 }
 
-/// All bytes of a file, or why they can't be had: it can't be opened or read, or memory ran out. Of a file that can't be read the
-/// reader is handed back, which has counted the read that failed.
+/// All bytes of a file, or why they can't be had: it can't be opened or read, or an allocation failed. Of a file that can't be
+/// read the reader is handed back, which has counted the read that failed.
 pub fn read_opened<R: Read + Drop>(
     alloc: Global,
     opened: Result<R, Refusal>,
@@ -66,16 +66,16 @@ pub fn read_opened<R: Read + Drop>(
     }
 }
 
-/// Writes the line that tells why a command failed, by the name of a file or a word of the command line. `Device` is answered
-/// exactly where the device failed in this call.
+/// Writes the error line of a command, by the name of a file or a word of the command line. Returns `Device` if and only if the
+/// device failed in this call.
 pub fn report<E: Write>(name: &[u8], why: Refusal, errors: &mut Tally<E>) -> Result<(), Refusal>
     ensures { Puts E.contents errors.old errors.new result (report_text name.now why) }
 {
     report_words(name, why.name().as_bytes(), errors)
 }
 
-/// Writes the line that tells something that is no refusal, by the name of a file or a word of the command line. `Device` is
-/// answered exactly where the device failed in this call.
+/// Writes the error line of a cause that is no refusal, with the name of a file or a word of the command line. Returns `Device`
+/// if and only if the device failed in this call.
 pub fn report_words<E: Write>(
     name: &[u8],
     words: &[u8],

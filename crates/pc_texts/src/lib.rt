@@ -1,5 +1,5 @@
 //! The texts of replies, states and files, and the names of files; files that may have been opened: their bytes; how a command's
-//! output ends, and what is told where a command fails.
+//! output ends, and the report if a command fails.
 #![tactic(auto)]
 
 mod file_names;

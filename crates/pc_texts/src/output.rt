@@ -1,4 +1,4 @@
-//! How a command's output ends.
+//! The end of a command's output.
 ghost use Rattle.std.specs.Prelude.{◌≡◌, IfOk, IfErr};
 ghost use Rattle.std.specs.Io.KnownBytes.{Keeps};
 ghost use Rattle.pc_types.specs.Tallies.{failures_of, inner_of};
@@ -7,8 +7,8 @@ ghost use Rattle.pc_texts.specs.Outputs.{IsUnprinted};
 use pc_types::{Refusal, Tally};
 use std::io::Write;
 
-/// Ends what a command prints: what was put goes out of whatever keeps it. It is what the put gave, where that was refused, or where
-/// all has gone out; else the device has failed now.
+/// Ends the output of a command: flushes the text that was put. Returns the result of the put if that was refused, or if the flush
+/// succeeds; otherwise `Device`.
 pub fn end_output<T: Copy, W: Write>(
     put: Result<T, Refusal>,
     out: &mut Tally<W>,

@@ -1,4 +1,4 @@
-//! The texts that are printed. They go out in pieces and take no memory, so that no reply is lost for want of it.
+//! The texts that are printed. They go out in pieces and take no memory, so that no reply is lost to an allocation failure.
 ghost use Rattle.std.specs.Prelude.{◌≡◌, ◌<◌, ◌≤◌, ◌+◌, ◌++◌, List, ℕ, IfSome, codes, decimal, length};
 ghost use Rattle.arrayvec.specs.ArrayVec.{array_vec_len};
 ghost use Rattle.std.specs.List.{flat_map};
@@ -15,7 +15,7 @@ use pc_part::Base;
 use pc_types::{Key, Phase, Point, Refusal, Reply, Tally, Value};
 use std::io::Write;
 
-// What is printed of up to this many bytes is put together: at most four for each.
+// The most bytes that are put together for printing, with at most four for each.
 const SOME: usize = 64;
 
 const MOST_PRINTED: usize = 256;
@@ -62,7 +62,7 @@ fn put_number<W: Write>(out: &mut Tally<W>, word: &[u8], number: u64) -> Result<
     out.put_all(&[word, buffer.format(number).as_bytes()])
 }
 
-// A sum, with a minus where it is below 0.
+// A sum, with a minus if it is below 0.
 fn put_sum<W: Write>(out: &mut Tally<W>, sum: i64) -> Result<(), Refusal>
     ensures { Puts W.contents out.old out.new result (codes "sum " ++ signed_decimal sum) }
 {
@@ -157,7 +157,7 @@ fn put_file<W: Write>(
     put_number(out, b" entries ", entries)
 }
 
-// A word and the ranges of points that rise.
+// A word and the ranges of points that ascend.
 fn put_points<W: Write>(out: &mut Tally<W>, word: &[u8], points: &[Point]) -> Result<(), Refusal>
     ensures { Puts W.contents out.old out.new result (word.now ++ ranges_text (ranges_of points.now)) }
 {
@@ -165,7 +165,7 @@ fn put_points<W: Write>(out: &mut Tally<W>, word: &[u8], points: &[Point]) -> Re
     put_ranges(out, points)
 }
 
-// The ranges of points that rise.
+// The ranges of points that ascend.
 fn put_ranges<W: Write>(out: &mut Tally<W>, points: &[Point]) -> Result<(), Refusal>
     ensures { Puts W.contents out.old out.new result (ranges_text (ranges_of points.now)) }
 {
@@ -201,7 +201,7 @@ fn put_range<W: Write>(out: &mut Tally<W>, low: u16, high: u16, end: &[u8]) -> R
     ])
 }
 
-/// Writes the line that tells of a joined file: its points, which rise, and how many entries it has.
+/// Writes the line of a joined file: its points, which ascend, and how many entries it has.
 pub fn put_joined<W: Write>(
     out: &mut Tally<W>,
     points: &[Point],
@@ -212,7 +212,7 @@ pub fn put_joined<W: Write>(
     put_file_line(out, b"points ", points, entries)
 }
 
-/// Writes the line that tells of the file of all points of a run: its points, which rise, and how many entries it has.
+/// Writes the line of the file of all points of a run: its points, which ascend, and how many entries it has.
 pub fn put_collapsed<W: Write>(
     out: &mut Tally<W>,
     points: &[Point],
@@ -223,7 +223,7 @@ pub fn put_collapsed<W: Write>(
     put_file_line(out, b"collapsed ", points, entries)
 }
 
-// A word, the ranges of points that rise, and how many entries there are, with the end of the line.
+// A word, the ranges of points that ascend, and how many entries there are, with the end of the line.
 fn put_file_line<W: Write>(
     out: &mut Tally<W>,
     word: &[u8],
@@ -236,7 +236,7 @@ fn put_file_line<W: Write>(
     put_entries(out, entries)
 }
 
-// How many entries there are, and the end of the line.
+// The number of entries, and the end of the line.
 fn put_entries<W: Write>(out: &mut Tally<W>, entries: u64) -> Result<(), Refusal>
     ensures { Puts W.contents out.old out.new result (codes " entries " ++ (decimal entries ++ codes "\n")) }
 {
@@ -261,7 +261,7 @@ pub fn put_reason<W: Write>(out: &mut Tally<W>, why: Refusal) -> Result<(), Refu
     }
 }
 
-/// Writes a key as it is printed: its space, where it is another than 0, and its own bytes.
+/// Writes a key as it is printed: its space, if it is another than 0, and its own bytes.
 pub fn put_key<W: Write>(out: &mut Tally<W>, key: &Key) -> Result<(), Refusal>
     ensures { Puts W.contents out.old out.new result (printed_key key.now) }
 {
@@ -269,7 +269,7 @@ pub fn put_key<W: Write>(out: &mut Tally<W>, key: &Key) -> Result<(), Refusal>
     put_printed(out, key.own_bytes())
 }
 
-// What tells a space before a key's own bytes: nothing for space 0.
+// Prints the space before a key's own bytes: nothing for space 0.
 fn put_space<W: Write>(out: &mut Tally<W>, space: u16) -> Result<(), Refusal>
     ensures { Puts W.contents out.old out.new result (printed_space space) }
 {
@@ -372,7 +372,7 @@ fn put_state_pairs<W: Write>(out: &mut Tally<W>, pairs: &[(Key, Value)]) -> Resu
 }
 
 /// Writes a line for each pair. Lines are put together in pieces of at most 65,536 bytes, and a longer one goes out by itself. It
-/// takes no memory.
+/// allocates no memory.
 pub fn put_pairs<W: Write>(out: &mut Tally<W>, pairs: &[(Key, Value)]) -> Result<(), Refusal>
     ensures { Puts W.contents out.old out.new result (flat_map pair_text pairs.now) }
 {
@@ -413,7 +413,7 @@ fn most_printed(pair: &(Key, Value)) -> usize {
     bytes.saturating_mul(4).saturating_add(12)
 }
 
-// Writes the lines in one piece where they fit into it, else one by one.
+// Writes the lines in one piece if they fit into it, else one by one.
 fn put_together<W: Write>(out: &mut Tally<W>, pairs: &[(Key, Value)]) -> Result<(), Refusal>
     ensures { Puts W.contents out.old out.new result (flat_map pair_text pairs.now) }
 {
@@ -423,7 +423,7 @@ fn put_together<W: Write>(out: &mut Tally<W>, pairs: &[(Key, Value)]) -> Result<
     }
 }
 
-// The lines, where they fit into a piece.
+// The lines, if they fit into a piece.
 fn lines_of(pairs: &[(Key, Value)]) -> Option<ArrayVec<u8, PIECE>>
     ensures { IfSome result (λ lines. lines.items ≡ flat_map pair_text pairs.now) }
 {

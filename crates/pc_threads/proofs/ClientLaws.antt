@@ -1,4 +1,4 @@
--- What clients have done, piece after piece and client after client.
+-- The transactions that clients have done, piece after piece and client after client.
 use Rattle.std.proofs.Common.{◌≡◌, ℕ, suc, ◌+◌, ◌<◌, ◌++◌, List, [], ◌∷◌, length, map, take, drop, get_or, All, refl, sym, ap, subst, ◌∙◌, arith, append_assoc}
 use Rattle.std.specs.List.{flat_map, remove}
 use Rattle.std.proofs.lemmas.List.{append-nil, take_more}
@@ -14,7 +14,7 @@ use Rattle.pc_jobs.specs.Jobs.{job_of}
 use Rattle.pc_threads.specs.Clients.{AreDone, AreFillsTried, HasDone, HasWorked, HaveWorked, IsTaskDone, IsFresh, clients_in, first_of, jobs_in}
 use Rattle.pc_threads.proofs.DoneLaws.{done_then, filled_closes, filled_join, works_close, works_more}
 
--- the others stay fresh where one is taken out
+-- the others stay fresh if one is taken out
 pub fresh_without : (sessions : List Sitter) (place : ℕ) → All IsFresh sessions → All IsFresh (remove sessions place)
 fresh_without sessions place fresh =
     All-append IsFresh (take place sessions) (drop (suc place) sessions) (All-take IsFresh place sessions fresh) (All-drop IsFresh (suc place) sessions fresh)
@@ -61,7 +61,7 @@ fill_next st fill number given_up next first between last before now =
     subst (λ n. HasDone (AreFillsTried st (first_of fill n)) (first_of fill n) (given_up + next) first last) more
     (done_then (AreFillsTried st jobs) (AreFillsTried st one) (AreFillsTried st (jobs ++ one)) (filled_closes st jobs) (filled_join st jobs one) jobs one given_up next first between last before now)
 
--- one more of some things that have clients goes to those that were gone over
+-- one more of some items that have clients goes to those that were iterated over
 pub over_one : {X : Type 0} (f : X → Client) (clients : List Client) (x : X) (rest all : List X) (whole : List Client) → all ≡ x ∷ rest → clients ++ map f all ≡ whole → (clients ++ f x ∷ []) ++ map f rest ≡ whole
 over_one f clients x rest all whole is was = append_assoc clients (f x ∷ []) (map f rest) ∙ ap (λ xs. clients ++ map f xs) (sym is) ∙ was
 

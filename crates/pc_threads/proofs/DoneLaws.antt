@@ -1,4 +1,4 @@
--- How what was done goes on, transaction by transaction and work by work.
+-- How the done work goes on, transaction by transaction and work by work.
 use Rattle.std.proofs.Common.{◌≡◌, ℕ, ◌+◌, ◌++◌, Bool, false, List, [], ◌∷◌, Result, Ok, Err, IfOk, length, length-append, refl, sym, ap, subst, ◌∙◌, inl, inr, arith}
 use Rattle.std.proofs.lemmas.List.{append-nil, append_assoc}
 use Rattle.pc_model.specs.History.{History, is_open}
@@ -15,7 +15,7 @@ use Rattle.pc_workers.proofs.RunLaws.{job_is_left, left_mark, marks_chain, no_jo
 use Rattle.pc_threads.specs.Clients.{AreDone, AreFillsTried, HasDone, IsTaskDone, first_of}
 
 module _ (st : Setting) where
-  -- no transaction is open behind those of a fill
+  -- no transaction is open after those of a fill
   pub filled_closes : (jobs : List Job) (s : ℕ) (marks : List Bool) (a b : History) → AreFillsTried st jobs s marks a b → is_open s a ≡ false → is_open s b ≡ false
   filled_closes [] s [] a b none idle = ap (is_open s) none ∙ idle
   filled_closes [] s (m ∷ marks) a b filled idle = absurd filled
@@ -23,12 +23,12 @@ module _ (st : Setting) where
   filled_closes (j ∷ jobs) s (m ∷ marks) a b (between, inl tried, filled) idle = filled_closes jobs s marks between b filled tried.closed
   filled_closes (j ∷ jobs) s (m ∷ marks) a b (between, inr (unmarked, same, takes), filled) idle = filled_closes jobs s marks between b filled (ap (is_open s) same ∙ idle)
 
-  -- nor behind a piece of work
+  -- nor after a piece of work
   work_closes : (w : ClientTask) (s : ℕ) (marks : List Bool) (a b : History) → IsTaskDone st w s marks a b → is_open s a ≡ false → is_open s b ≡ false
   work_closes (work.Once job) s marks a b done idle = tried_closes st s marks (job ∷ []) a b done idle
   work_closes (work.Fill fill) s marks a b done idle = filled_closes (first_of fill fill.count) s marks a b done idle
 
-  -- nor behind works
+  -- nor after works
   pub works_close : (works : List ClientTask) (s : ℕ) (marks : List Bool) (a b : History) → AreDone st works s marks a b → is_open s a ≡ false → is_open s b ≡ false
   works_close [] s marks a b (none, same) idle = ap (is_open s) same ∙ idle
   works_close (w ∷ works) s marks a b (own, others, between, parts, one, rest) idle = works_close works s others between b rest (work_closes w s own a between one idle)
@@ -54,7 +54,7 @@ module _ (st : Setting) where
   tried_filled (j ∷ jobs) s [] a b tried = absurd tried
   tried_filled (j ∷ jobs) s (m ∷ marks) a b (between, one, tried) = (between, inl one, tried_filled jobs s marks between b tried)
 
-  -- ---- beside what the session has gained
+  -- ---- with the session's receipts
 
   -- a transaction that the client's loop has run
   pub tried_is_done : (job : Job) (jobs : List Job) (commits given_up : ℕ) (old new : Sitter) → jobs ≡ job ∷ [] → HasTried st jobs commits old new → commits + given_up ≡ length jobs
@@ -68,7 +68,7 @@ module _ (st : Setting) where
   filled_one job given_up old new it =
       record { commits = it.commits; run = it.run; all = it.all; done = λ idle. tried_filled (job ∷ []) old.number it.run.marks old.seen new.seen (it.done idle) }
 
-  -- and of what the loop's caller answers
+  -- and of the result of the loop's caller
   pub filled_ones : {E : Type 0} (job asked : Job) (result : Result ℕ E) (old new : Sitter) → asked ≡ job → IfOk result (λ given_up. HasDone (IsTaskDone st (work.Once asked)) (asked ∷ []) given_up old new)
       → IfOk result (λ given_up. HasDone (AreFillsTried st (job ∷ [])) (job ∷ []) given_up old new)
   filled_ones job asked (Ok given_up) old new is it = subst (λ (j : Job). HasDone (AreFillsTried st (j ∷ [])) (j ∷ []) given_up old new) is (filled_one asked given_up old new it)

@@ -1,4 +1,4 @@
--- What a folder holds once one more of its files was written.
+-- The texts of a folder once one more of its files was written.
 use Rattle.std.proofs.Common.{◌≡◌, ℕ, ◌+◌, Bool, true, false, List, [], ◌∷◌, ◌++◌, length, length-append, refl, sym, ap, subst, ◌∙◌, arith, ltb, ltb-true, ltb-false}
 use Rattle.std.specs.Prelude.{Option, Some, None, slice_index_or}
 use Rattle.std.proofs.lemmas.List.{get_or_push, get_or_append_left}
@@ -14,11 +14,11 @@ pub keep_both : (a b c : FileName → List ℕ → Type 0) (name : FileName) →
 keep_both a b c name first second other text differs had = second other text differs (first other text differs had)
 
 module _ (old new : FileName → List ℕ → Type 0) (point : ℕ) (keeps : KeepsOtherFiles old new (Part point)) where
-  -- the base stays where a part is written
+  -- the base stays if a part is written
   pub base_stays : (text : List ℕ) → old Base text → new Base text
   base_stays text had = keeps Base text (λ is. cc (is)) had
 
-  -- behind the parts of the points before stands that of the next one
+  -- after the parts of the points before there is that of the next one
   pub one_more_part : (files : List File) (file : File) → HasParts old files → point ≡ length files + 1 → file.points ≡ set.insert set.empty point → new (Part point) (part_text file) → HasParts new (files ++ file ∷ [])
   one_more_part files file had number is held place default below = by (ltb place (length files)) refl
     where

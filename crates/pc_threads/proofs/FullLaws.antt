@@ -1,4 +1,4 @@
--- What keeps the store from going on with the points of a run.
+-- Why the store refuses further points of a run.
 use Rattle.std.proofs.Common.{◌≡◌, ℕ, ◌+◌, ◌<◌, ◌≤◌, Bool, [], ap, refl, length, length-append, ◌∙◌, arith}
 use Rattle.pc_types.specs.declared.limits.TheConstants.{MOST_FILES, MOST_POINTS}
 use Rattle.pc_types.specs.declared.refusal.Refusal.{Refusal}
@@ -28,7 +28,7 @@ few_files st before point old new earlier later given next few cycled broken =
     let points : MOST_POINTS ≡ 65535 = refl in
     omega (arith, was, all, both, old_files, new_files, next, few, places, points)
 
--- where the shelf has a place left
+-- if the shelf has a place left
 pub full_stops : (st : Setting) (seen shown : History) (writes : Bool) (transactions points last : ℕ) (given : Refusal) → last ≤ points → 0 < points → length (shelf st.run seen) < MOST_FILES → IsFull st seen shown last given
     → IsStop writes transactions points given
 full_stops st seen shown writes transactions points last why.OutOfMemory low some room full = tt

@@ -33,7 +33,7 @@ other_stop st writes first points given stop is end other = record {
   shown = λ full. absurd (other (subst (λ (f : ThreadsFault). f ≡ fault.Refused why.LogFull) is full));
 }
 
--- where no points are due the log isn't too full for them
+-- if no points are due the log isn't too full for them
 pub not_for_log : (given : ThreadsFault) → IsThreadsEnd true 0 0 given → given ≡ fault.Refused why.LogFull → ⊥
 not_for_log given end is = let none = subst (IsThreadsEnd true 0 0) is end in omega (arith, none)
 
@@ -41,7 +41,7 @@ shown_earlier : (st : Setting) (first later : History) (shown : Option History) 
 shown_earlier st first later None begins shows = absurd shows
 shown_earlier st first later (Some shown) begins shows = (shows.0, beginning_trans first later shown begins shows.1, shows.2)
 
--- what stops some of the points stops all of them
+-- a cause that stops some of the points stops all of them
 pub more_points : {N : Type 0} (st : Setting) (a b : Bool) (first later : History) (some all : ℕ) (stop : PointsFault N) → (IsTrue a → IsTrue b) → IsBeginning first later → some ≤ all → PointsHaveStopped st a later some stop → PointsHaveStopped st b first all stop
 more_points st a b first later some all stop on begins low stopped = record {
   ends = more_end a b 0 0 some all stop.why on (omega arith) low stopped.ends;

@@ -1,4 +1,4 @@
--- Whose sessions are there, while clients are given theirs.
+-- The sessions that are in the list, while clients are given theirs.
 use Rattle.std.proofs.Common.{◌≡◌, ◌==◌, ◌||◌, ℕ, zero, suc, Bool, true, false, List, [], ◌∷◌, ◌++◌, drop, map, get_or, All, refl, ap, sym, subst, ◌∙◌, arith, append_assoc}
 use Rattle.std.specs.List.{remove}
 use Rattle.std.proofs.lemmas.List.{append-nil, map-append}
@@ -47,21 +47,21 @@ beside false is = is
 other_way : (m n : ℕ) → (m == n) ≡ false → (n == m) ≡ false
 other_way m n is = grind (arith, nat_tests)
 
--- a session that isn't the next stands behind it
+-- a session that isn't the next is after it
 pub stands_behind : (sessions : List Sitter) (place n : ℕ) (d : Sitter) → ((get_or sessions place d).number == n) ≡ false → is_there (drop place sessions) n ≡ true → is_there (drop (suc place) sessions) n ≡ true
 stands_behind [] zero n d off there = absurd (cc (there))
 stands_behind [] (suc place) n d off there = absurd (cc (there))
 stands_behind (s ∷ sessions) zero n d off there = left_alone (is_there sessions n) (s.number == n) off (turned (s.number == n) (is_there sessions n) there)
 stands_behind (s ∷ sessions) (suc place) n d off there = stands_behind sessions place n d off there
 
--- where the session of a number is taken out, the others are there still
+-- if the session of a number is taken out, the others are still there
 pub others_stay : (sessions : List Sitter) (place n m : ℕ) (d : Sitter) → (get_or sessions place d).number ≡ n → is_there sessions m ≡ true → (is_there (remove sessions place) m || (n == m)) ≡ true
 others_stay [] place n m d at there = absurd (cc (there))
 others_stay (s ∷ sessions) zero n m d at there = subst (λ k. (is_there sessions m || (k == m)) ≡ true) at (turned (s.number == m) (is_there sessions m) there)
 others_stay (s ∷ sessions) (suc place) n m d at there =
     below (s.number == m) (is_there sessions m) (is_there (remove sessions place) m) (n == m) there (others_stay sessions place n m d at)
 
--- sessions that aren't used are there still
+-- sessions that aren't used are still there
 pub kept : (used : ℕ → Bool) (old new : List Sitter) (clients : List Client) → ((m : ℕ) → is_there old m ≡ true → (is_there new m || used m) ≡ true) → All (λ (c : Client). used c.session ≡ false) clients
     → HaveSeats old clients → HaveSeats new clients
 kept used old new [] left free seats = tt
@@ -78,7 +78,7 @@ none_has n (c ∷ clients) free =
     let off = neither (c.session == n) (is_taken clients n) free in
     All-cons (λ (k : Client). (n == k.session) ≡ false) c clients (other_way c.session n off.0) (none_has n clients off.1)
 
--- of some clients and others behind them: each part by itself, and none of those behind has a session of those in front
+-- of some clients and others after them: each part by itself, and none of the later ones has a session of the earlier ones
 pub front_seats : (sessions : List Sitter) (xs ys : List Client) → HaveSeats sessions (xs ++ ys) → HaveSeats sessions xs
 front_seats sessions [] ys seats = tt
 front_seats sessions (x ∷ xs) ys (there, apart, rest) =
@@ -104,7 +104,7 @@ back_free sessions (x ∷ xs) ys (there, apart, rest) =
         (both_off (x.session == c.session) (is_taken xs c.session) (All-head (λ (k : Client). (x.session == k.session) ≡ false) c clients a) (All-head (λ (k : Client). is_taken xs k.session ≡ false) c clients b))
         (joined clients (All-tail (λ (k : Client). (x.session == k.session) ≡ false) c clients a) (All-tail (λ (k : Client). is_taken xs k.session ≡ false) c clients b))
 
--- where those in front have theirs, those behind have seats still
+-- if the earlier ones have theirs, the later ones still have seats
 pub seats_behind : (old new : List Sitter) (xs ys : List Client) → HaveSeats old (xs ++ ys) → AreSeated xs old new → HaveSeats new ys
 seats_behind old new xs ys seats seated = kept (is_taken xs) old new ys seated (back_free old xs ys seats) (back_seats old xs ys seats)
 
@@ -134,11 +134,11 @@ worker_seated old between new workers clients first then = subst (λ (cs : List 
     in_all [] = append-nil clients
     in_all (w ∷ ws) = ap (λ cs. w ++ cs) (in_all ws) ∙ sym (append_assoc w (clients_in ws) clients)
 
--- one more of some things goes to those that were gone over
+-- one more of some items goes to those that were iterated over
 pub one_over : {X : Type 0} (before now : List X) (x y : X) (rest all whole : List X) → now ≡ before ++ x ∷ [] → x ≡ y → all ≡ y ∷ rest → before ++ all ≡ whole → now ++ rest ≡ whole
 one_over before now x y rest all whole is same steps was =
     ap (λ xs. xs ++ rest) is ∙ append_assoc before (x ∷ []) rest ∙ ap (λ z. before ++ z ∷ rest) same ∙ ap (λ xs. before ++ xs) (sym steps) ∙ was
 
--- the same where each has a client
+-- the same if each has a client
 pub client_more : {X : Type 0} (f : X → Client) (before now : List X) (x : X) → now ≡ before ++ x ∷ [] → map f now ≡ map f before ++ f x ∷ []
 client_more f before now x is = ap (map f) is ∙ map-append f before (x ∷ [])

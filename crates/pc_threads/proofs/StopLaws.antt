@@ -1,4 +1,4 @@
--- What stops some of a client's transactions stops them all, and as many are given up at most as there are.
+-- A cause that stops some of a client's transactions stops them all, and at most as many are given up as there are.
 use Rattle.std.proofs.Common.{◌≡◌, ◌⊎◌, ℕ, zero, suc, ◌+◌, ◌<◌, ◌≤◌, ◌^◌, ◌++◌, Bool, true, false, List, [], ◌∷◌, length, length-append, map, take, drop, get_or, refl, sym, ap, subst, ◌∙◌, inl, inr, arith}
 use Rattle.std.specs.List.{flat_map}
 use Rattle.std.specs.Prelude.{IsTrue, ◌||◌, All, Option, Some, None, is_some}
@@ -24,7 +24,7 @@ use Rattle.pc_threads.specs.declared.files.FileFault.TheVariants as lost
 use Rattle.pc_threads.specs.declared.threads.LogFault.{LogFault}
 use Rattle.pc_threads.specs.Faults.{IsThreadsEnd, IsStop, LogHasStopped, fault_of}
 
--- as many are given up at most as there are
+-- at most as many are given up as there are
 pub at_most : (way : ℕ → List Bool → History → History → Type 0) (jobs : List Job) (given_up : ℕ) (old new : Sitter) → HasDone way jobs given_up old new → given_up ≤ length jobs
 at_most way jobs given_up old new it = omega (arith, it.all)
 
@@ -36,7 +36,7 @@ clients_at_most st (c ∷ clients) given_up (s ∷ sessions) (own, others, sum, 
 clients_at_most st [] given_up (s ∷ sessions) have = absurd have
 clients_at_most st (c ∷ clients) given_up [] have = absurd have
 
--- so many transactions are the first of a fill
+-- the first of a fill are this many
 first_count : (fill : Fill) (count : ℕ) → length (first_of fill count) ≡ count
 first_count fill zero = refl
 first_count fill (suc count) = omega (arith, length-append (first_of fill count) (job_of fill count ∷ []), first_count fill count)
@@ -59,7 +59,7 @@ of_clients clients client rest whole is =
     omega (arith, all, length-append (flat_map jobs_of clients) (jobs_of client ++ flat_map jobs_of rest), length-append (jobs_of client) (flat_map jobs_of rest))
 
 module _ (has_log : Bool) where
-  -- what stops some of them
+  -- the cause that stops some of them
   more_stop : (some all : List Job) (why : Refusal) → length some ≤ length all → ClientHasStopped has_log some why → ClientHasStopped has_log all why
   more_stop some all why low (inl device) = inl device
   more_stop some all why low (inr (full, many)) = inr (full, omega (arith, low, many))
@@ -103,7 +103,7 @@ module _ (has_log : Bool) where
 
 -- ---- of a run
 
--- what one thread stops for is a cause for more transactions and more points
+-- the cause that stops one thread is one for more transactions and more points
 pub wider_stop : (a b : Bool) (m n p q : ℕ) (given : Refusal) → (IsTrue a → IsTrue b) → m ≤ n → p ≤ q → IsStop a m p given → IsStop b n q given
 wider_stop a b m n p q why.OutOfMemory on low few stop = tt
 wider_stop a b m n p q why.Device on low few stop = on stop
@@ -129,13 +129,13 @@ pub lost_ends : {T : Type 0} (given : FileFault T) → IsThreadsEnd true 0 0 (fa
 lost_ends (lost.Unmade file why) = refl
 lost_ends (lost.Failed file) = refl
 
--- what clients stop for
+-- why clients stop
 pub stopped_ends : (has_log : Bool) (clients : List Client) (given : Refusal) → HaveStopped has_log clients given → IsStop has_log (transactions_in clients) 0 given
 stopped_ends has_log clients given (inl memory) = memory_stops has_log (transactions_in clients) 0 given memory
 stopped_ends has_log clients given (inr (inl (device, there))) = device_stops has_log (transactions_in clients) 0 given there device
 stopped_ends has_log clients given (inr (inr (full, many))) = subst (IsStop has_log (transactions_in clients) 0) (sym full) many
 
--- the transactions of one worker's clients beside those of the workers before it
+-- the transactions of one worker's clients with those of the workers before it
 pub of_worker : {X : Type 0} (f : X → List Client) (clients : List Client) (x : X) (rest all : List X) (whole : List Client) → all ≡ x ∷ rest → clients ++ clients_in (map f all) ≡ whole
     → transactions_in clients + transactions_in (f x) ≤ transactions_in whole
 of_worker f clients x rest all whole is was =
@@ -160,17 +160,17 @@ pub right_true : (a b : Bool) → IsTrue b → IsTrue (a || b)
 right_true true b is = refl
 right_true false b is = is
 
--- ---- what the other threads stop for
+-- ---- why the other threads stop
 
--- what the checkpointer stops for, who takes some of the points
+-- why the checkpointer stops, which takes some of the points
 pub point_ends : (has_log there : Bool) (n some points : ℕ) (given : ThreadsFault) → some ≤ points → IsThreadsEnd there 0 some given → IsThreadsEnd (has_log || there) n points given
 point_ends has_log there n some points given low end = more_end there (has_log || there) 0 n some points given (right_true has_log there) (omega arith) low end
 
--- what keeps the hands of a run from their end is a cause for the whole run
+-- a cause that stops the hands of a run stops the whole run
 pub hands_end : (hands out : Bool) (n points : ℕ) (given : ThreadsFault) → IsThreadsEnd hands n points given → IsThreadsEnd (hands || out) n points given
 hands_end hands out n points given end = more_end hands (hands || out) n n points points given (left_true hands out) (omega arith) (omega arith) end
 
--- and so is what the logger stops for
+-- and so does a cause that stops the logger
 pub logger_ends : {T : Type 0} (hands : Bool) (log : Option (Tally T)) (n points : ℕ) (stop : LogFault T) → LogHasStopped log stop → IsStop (hands || is_some log) n points stop.why
 logger_ends hands None n points stop stopped = absurd stopped
 logger_ends hands (Some log) n points stop (inl memory) = memory_stops (hands || true) n points stop.why memory

@@ -1,4 +1,4 @@
--- What ends a run before its end.
+-- The faults that end a run before its end.
 use Rattle.std.specs.Prelude.{◌≡◌, ◌⊎◌, ◌≤◌, ◌<◌, ◌^◌, ⊤, ℕ, Bool, IsTrue, Option, Some, None}
 use Rattle.pc_types.specs.Counted.{HasRisen}
 use Rattle.pc_types.specs.declared.limits.TheConstants.{MOST_POINTS}
@@ -16,7 +16,7 @@ use Rattle.pc_threads.specs.declared.files.FileFault.TheVariants as lost
 use Rattle.pc_threads.specs.declared.points.PointsFault.{PointsFault}
 use Rattle.pc_threads.specs.declared.threads.LogFault.{LogFault}
 
--- The file of this name can't be made; or the device failed in a call of the file, which is handed back: of its calls more have failed
+-- The file of this name can't be made; or the device failed in a call of the file, which is returned: more of its calls have failed
 -- than these.
 abbrev pub IsFileLost : {T : Type 0} → FileName → ℕ → FileFault T → Type 0
 IsFileLost name failures (lost.Unmade file why) = file ≡ name
@@ -27,8 +27,8 @@ abbrev pub fault_of : {T : Type 0} → FileFault T → ThreadsFault
 fault_of (lost.Unmade file why) = fault.Unmade file why
 fault_of (lost.Failed file) = fault.Refused refusal.Device
 
--- The logger of this file, if there is one, has stopped before the end, and hands the file back: memory ran out, or the device failed in a
--- call of the file, which was counted.
+-- The logger of this file, if there is one, has stopped before the end, and returns the file: an allocation failed, or the device
+-- failed in a call of the file, which was counted.
 abbrev pub LogHasStopped : {T : Type 0} → Option (Tally T) → LogFault T → Type 0
 LogHasStopped None stop = ⊥
 LogHasStopped (Some log) stop = (stop.why ≡ refusal.OutOfMemory) ⊎ ((stop.why ≡ refusal.Device) × HasRisen log.failures stop.out.failures)
@@ -38,9 +38,9 @@ abbrev pub ShowsLogFull : Setting → History → Option History → Type 0
 ShowsLogFull st first None = ⊥
 ShowsLogFull st first (Some shown) = IsLegalHistory st shown × IsBeginning first shown × IsTrue (log_is_full shown)
 
--- Why one of the threads of a run has stopped, where files are written or not, there are so many transactions, and so many points
--- are due: memory ran out; a file that is written was lost; more transactions were given up than 64 bits can count; more points are
--- due than there can be; or, where points are due, the log has no place left.
+-- Why one of the threads of a run has stopped, if files are written or not, there are this many transactions, and this many points
+-- are due: an allocation failed; a file that is written was lost; more transactions were given up than 64 bits can count; more
+-- points are due than there can be; or, if points are due, the log has no place left.
 abbrev pub IsStop : Bool → ℕ → ℕ → Refusal → Type 0
 IsStop writes transactions points refusal.OutOfMemory = ⊤
 IsStop writes transactions points refusal.Device = IsTrue writes
@@ -49,14 +49,14 @@ IsStop writes transactions points refusal.PointsFull = MOST_POINTS < points
 IsStop writes transactions points refusal.LogFull = 0 < points
 IsStop writes transactions points other = ⊥
 
--- the fault that this is of the run: besides, a file that is to be written can't be made, or a thread can't be started
+-- the fault of the run: besides those, a file can't be made, if files are written, or a thread can't be started
 abbrev pub IsThreadsEnd : Bool → ℕ → ℕ → ThreadsFault → Type 0
 IsThreadsEnd writes transactions points (fault.Refused why) = IsStop writes transactions points why
 IsThreadsEnd writes transactions points (fault.Unmade file why) = IsTrue writes
 IsThreadsEnd writes transactions points fault.NoThread = ⊤
 
--- The points up to this one are not all taken, where files are written or not, by a checkpointer that had seen this history: for one of
--- these; and where the log has no place left, with a witness that shows it.
+-- Why the points up to this one are not all taken, if files are written or not, by a checkpointer that had seen this history: one
+-- of these; and if the log has no place left, with a witness that proves it.
 pub record PointsHaveStopped {N : Type 0} (st : Setting) (writes : Bool) (first : History) (points : ℕ) (stop : PointsFault N) : Type 0 where
   pub ends : IsThreadsEnd writes 0 points stop.why
   pub shown : stop.why ≡ fault.Refused refusal.LogFull → ShowsLogFull st first stop.seen

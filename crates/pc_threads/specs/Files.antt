@@ -1,4 +1,4 @@
--- What the files of a folder hold.
+-- The texts of the files of a folder.
 use Rattle.std.specs.Prelude.{◌≡◌, ◌≢◌, ◌<◌, ◌+◌, ℕ, List, [], Option, Some, None, length, slice_index_or}
 use Rattle.pc_model.specs.Files.{File}
 use Rattle.pc_model.specs.Sets as set
@@ -6,7 +6,7 @@ use Rattle.pc_part.specs.Texts.{part_text}
 use Rattle.pc_texts.specs.declared.file_names.FileName.{FileName}
 use Rattle.pc_texts.specs.declared.file_names.FileName.TheVariants.{Base, Part}
 
--- what a folder had under other names than this one, it has still
+-- the folder still has its texts under other names than this one
 abbrev pub KeepsOtherFiles : (FileName → List ℕ → Type 0) → (FileName → List ℕ → Type 0) → FileName → Type 0
 KeepsOtherFiles old new name = (other : FileName) (text : List ℕ) → other ≢ name → old other text → new other text
 
@@ -15,7 +15,7 @@ abbrev pub HasParts : (FileName → List ℕ → Type 0) → List File → Type 
 HasParts holds files = (place : ℕ) (file : File) → place < length files
     → ((slice_index_or files place file).points ≡ set.insert set.empty (place + 1)) × holds (Part (place + 1)) (part_text (slice_index_or files place file))
 
--- The files of so many points were written to a folder, which has its base still; where there is no folder, none was.
+-- The files of this many points were written to a folder, which still has its base; if there is no folder, none was.
 abbrev pub HasWritten : {D : Type 0} → (D → FileName → List ℕ → Type 0) → ℕ → Option D → Option D → List File → Type 0
 HasWritten holds points None None files = files ≡ []
 HasWritten holds points (Some old) (Some new) files = ((text : List ℕ) → holds old Base text → holds new Base text) × (length files ≡ points) × HasParts (holds new) files

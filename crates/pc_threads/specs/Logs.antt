@@ -1,4 +1,4 @@
--- What a logger has written.
+-- The text that a logger has written.
 use Rattle.std.specs.Prelude.{⊤, ℕ, List, Option, Some, None, Ok}
 use Rattle.pc_types.specs.Tallies.{Puts}
 use Rattle.pc_types.specs.declared.Entry.{Entry}

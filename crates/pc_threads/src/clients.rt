@@ -1,4 +1,4 @@
-//! The clients of a workload: each has a session, and each worker runs its own clients, one after the other.
+//! The clients of a workload: each has a session, and each worker runs its own clients, in order.
 ghost use Rattle.std.specs.Prelude.{◌≡◌, ◌⊎◌, ◌≤◌, ◌+◌, ◌^◌, ◌==◌, ◌||◌, ◌++◌, [], ◌∷◌, ℕ, true, All, IfOk, IfErr, List, is_some, length, map};
 ghost use Rattle.std.specs.List.{flat_map};
 ghost use Rattle.pc_types.specs.declared.refusal.Refusal.TheVariants.{Full, OutOfMemory};
@@ -18,7 +18,7 @@ use std::marker::Model;
 use std::slice;
 use std::sync::Wait;
 
-/// A client with the session that it is to work as, of which nothing was asked yet.
+/// A client with the session that it is to work as, through which no call was made yet.
 #[derive(Drop)]
 pub struct Seated<N: StoreName> {
     pub session: Session<N>,
@@ -26,7 +26,7 @@ pub struct Seated<N: StoreName> {
     ghost fresh: { session ≡ sitter client.session [] [] },
 }
 
-/// What clients leave that have run: their sessions, in the clients' order, and how many of their transactions were given up.
+/// The result of clients that have run: their sessions, in the clients' order, and the number of their transactions that were given up.
 #[derive(Drop)]
 pub struct Ran<N: StoreName> {
     pub sessions: Vec<Session<N>>,
@@ -56,7 +56,7 @@ pub struct Seating<N: StoreName> {
     pub idle: Vec<Session<N>>,
 }
 
-// The session of the number, which is there, is taken out.
+// Takes out the session of the number, which is in the list.
 fn take_session<N: StoreName>(sessions: &mut Vec<Session<N>>, number: SessionNo) -> Session<N>
     requires fresh { All IsFresh sessions.old.items }
     requires there { is_there sessions.old.items number ≡ true }
@@ -72,7 +72,7 @@ fn take_session<N: StoreName>(sessions: &mut Vec<Session<N>>, number: SessionNo)
     unreachable!()
 }
 
-// A worker with these clients, for each of which the session of its number is taken out.
+// A worker with these clients; for each of them the session of its number is taken out.
 fn seat_worker<N: StoreName>(
     alloc: Global,
     clients: Items<Client>,
@@ -93,8 +93,8 @@ fn seat_worker<N: StoreName>(
     Ok(Worker { seats })
 }
 
-/// Gives each client the session of its number, which is there; of none of the sessions anything was asked yet. Refuses with
-/// `OutOfMemory` alone.
+/// Gives each client the session of its number, which is in the list; no call was made yet through any of the sessions. Its only
+/// error is `OutOfMemory`.
 pub fn seat_workers<N: StoreName>(
     alloc: Global,
     dealt: Vec<Items<Client>>,
@@ -115,7 +115,7 @@ pub fn seat_workers<N: StoreName>(
     Ok(Seating { workers, idle })
 }
 
-// The sum of both. Refuses with `Full` where it is more than can be counted.
+// The sum of both. Returns `Full` if it is more than can be counted.
 fn sum(a: u64, b: u64) -> Result<u64, Refusal>
     ensures sum { IfOk result (λ sum. sum ≡ a + b) }
     ensures full { IfErr result (λ why. (why ≡ Full) × (2 ^ 64 ≤ a + b)) }
@@ -126,7 +126,7 @@ fn sum(a: u64, b: u64) -> Result<u64, Refusal>
     }
 }
 
-// The transaction is tried; how many were given up. Refuses with `Device` where the log's file was lost before.
+// Tries the transaction; the number that was given up. Returns `Device` if the log's file was lost before.
 fn run_job<N: StoreName, R: Wait, G: ClientGate>(
     rt: &R,
     room: &Room<'_, N, G>,
@@ -151,8 +151,8 @@ fn run_job<N: StoreName, R: Wait, G: ClientGate>(
     Ok(ended.count.given_up)
 }
 
-// The transaction of a fill of this number, made now, is tried; where memory ran out for its key or its value, which is of more
-// than 16 bytes, it is given up, and nothing is asked for it.
+// Tries the transaction of a fill of this number, made now; if an allocation failed for its key or its value, of more than 16
+// bytes, it is given up without a call.
 fn run_made<N: StoreName, R: Wait, G: ClientGate>(
     rt: &R,
     room: &Room<'_, N, G>,
@@ -175,7 +175,7 @@ fn run_made<N: StoreName, R: Wait, G: ClientGate>(
     }
 }
 
-// The transactions of a fill, each made when it is its turn.
+// Tries the transactions of a fill, each made when it is its turn.
 fn run_fill<N: StoreName, R: Wait, G: ClientGate>(
     rt: &R,
     room: &Room<'_, N, G>,
@@ -194,7 +194,7 @@ fn run_fill<N: StoreName, R: Wait, G: ClientGate>(
     Ok(given_up)
 }
 
-// A piece of work.
+// Does a piece of work.
 fn run_work<N: StoreName, R: Wait, G: ClientGate>(
     rt: &R,
     room: &Room<'_, N, G>,
@@ -211,7 +211,7 @@ fn run_work<N: StoreName, R: Wait, G: ClientGate>(
     }
 }
 
-// The works, in order.
+// Does the works, in order.
 fn run_works<N: StoreName, R: Wait, G: ClientGate>(
     rt: &R,
     room: &Room<'_, N, G>,
@@ -231,7 +231,8 @@ fn run_works<N: StoreName, R: Wait, G: ClientGate>(
 }
 
 impl<N: StoreName> Seated<N> {
-    // The transactions of the client, in order, those of its fills made in one place. Its session, and how many were given up.
+    // Tries the transactions of the client, in order, those of its fills made in one place. Gives its session, and the number that
+    // was given up.
     fn run<R: Wait, G: ClientGate>(
         self,
         rt: &R,
@@ -250,7 +251,7 @@ impl<N: StoreName> Seated<N> {
     }
 }
 
-// The clients, one after the other.
+// Runs the clients, in order.
 fn run_clients<N: StoreName, R: Wait, G: ClientGate>(
     rt: &R,
     room: &Room<'_, N, G>,
@@ -271,9 +272,8 @@ fn run_clients<N: StoreName, R: Wait, G: ClientGate>(
 }
 
 impl<N: StoreName> Worker<N> {
-    /// Runs its clients, one after the other, and leaves the room. Refuses with `Device` where the log's file was lost before one
-    /// of their transactions, with `OutOfMemory` before the first of them, and with `Full` where more of them were given up than
-    /// can be counted.
+    /// Runs its clients, in order, and leaves the room. Returns `Device` if the log's file was lost before one of their
+    /// transactions, `OutOfMemory` only before the first of them, and `Full` if more of them were given up than can be counted.
     pub fn run<R: Wait, G: ClientGate>(
         self,
         rt: &R,
@@ -290,8 +290,7 @@ impl<N: StoreName> Worker<N> {
 }
 
 impl<N: StoreName> Ran<N> {
-    // The clients of another worker have run too. Refuses with `OutOfMemory`, or with `Full` where more of them were given up than
-    // can be counted.
+    // The clients of another worker have run too. Returns `OutOfMemory`, or `Full` if more of them were given up than can be counted.
     pub(crate) fn and(self, other: Ran<N>) -> Result<Ran<N>, Refusal>
         ensures worked { (clients others : List Client) → HaveWorked N.name.setting clients self.given_up self.sessions.items → HaveWorked N.name.setting others other.given_up other.sessions.items → IfOk result (λ all. HaveWorked N.name.setting (clients ++ others) all.given_up all.sessions.items) }
         ensures stopped { IfErr result (λ why. (why ≡ OutOfMemory) ⊎ ((why ≡ Full) × (2 ^ 64 ≤ self.given_up + other.given_up))) }

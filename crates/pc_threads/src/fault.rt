@@ -9,7 +9,7 @@ use std::alloc::{AllocError, AllocFailed};
 /// Why a run failed.
 #[derive(Clone, Copy, Debug, PartialEq, Eq)]
 pub enum ThreadsFault {
-    /// The workload can't be had, a file can't be written, memory ran out, or another call was refused.
+    /// The workload can't be read, a file can't be written, an allocation failed, or another call was refused.
     Refused(Refusal),
     /// The file can't be made.
     Unmade(FileName, Refusal),

@@ -17,8 +17,8 @@ use pc_texts::FileName;
 use pc_types::{Point, Refusal, Tally};
 use std::io::Write;
 
-/// What makes the files of a folder. Contracts see the texts that the folder has under its names; of a folder of which that isn't
-/// known each text counts as had.
+/// Makes the files of a folder. Contracts see the texts that the folder has under its names; of a folder whose texts aren't known
+/// each text counts as there.
 pub trait NewFiles<F: Write> {
     ghost use Rattle.std.specs.Prelude.{◌≡◌, ℕ, List, Option, IfOk, OnOk};
     ghost use Rattle.std.specs.Io.KnownBytes.{Appends};
@@ -28,17 +28,17 @@ pub trait NewFiles<F: Write> {
     // The folder has this text under this name.
     ghost holds: { Self → FileName → List ℕ → Type 0 };
 
-    // What a file that was just made is known to hold.
+    // The known bytes of a file that was just made.
     ghost blank: { Option (List ℕ) };
 
-    /// Makes the file, without bytes; what a file of this name had is lost, and the others stay. Refuses for whatever keeps it from
-    /// being made.
+    /// Makes the file, without bytes; the earlier bytes of a file of this name are lost, and the other files stay. Its error is the
+    /// cause that prevents this.
     fn make(&mut self, name: &FileName) -> Result<F, Refusal>
         ensures blank { IfOk result (λ file. F.contents file ≡ blank) }
         ensures others { KeepsOtherFiles (holds self.old) (holds self.new) name.now };
 
-    /// All bytes of the file were written, and have gone out of whatever keeps them: from now on it is whole, where it wasn't
-    /// before. The other files stay. Refuses for whatever keeps it from being so.
+    /// All bytes of the file were written and flushed: from now on it is whole, if it wasn't before. The other files stay. Its
+    /// error is the cause that prevents this.
     fn finish(&mut self, name: &FileName, file: F) -> Result<(), Refusal>
         ensures whole { OnOk result ((text : List ℕ) → Appends blank (F.contents file) text → holds self.new name.now text) }
         ensures others { KeepsOtherFiles (holds self.old) (holds self.new) name.now };
@@ -49,7 +49,7 @@ pub trait NewFiles<F: Write> {
 pub enum FileFault<F> {
     /// The file can't be made, or it can't be made whole.
     Unmade(FileName, Refusal),
-    /// The device failed in a call of this file, which has counted that.
+    /// The device failed in a call of this file, which has counted the failure.
     Failed(Tally<F>),
 }
 
@@ -67,7 +67,7 @@ impl<F: Drop> From<FileFault<F>> for ThreadsFault {
     }
 }
 
-/// Makes the file. It fails only where the file can't be made.
+/// Makes the file. Its only error is that the file can't be made.
 pub fn make_file<F: Write, D: NewFiles<F>>(
     folder: &mut D,
     name: FileName,
@@ -83,7 +83,7 @@ pub fn make_file<F: Write, D: NewFiles<F>>(
     }
 }
 
-// What was written goes out of whatever keeps it. False exactly where the device failed in this call.
+// Flushes the bytes that were written. False if and only if the device failed in this call.
 fn flush_file<F: Write>(file: &mut Tally<F>) -> bool
     ensures stays { Keeps (F.contents (inner_of file.old)) (F.contents (inner_of file.new)) }
     ensures failed { result ≡ false → HasRisen (failures_of file.old) (failures_of file.new) }
@@ -92,8 +92,8 @@ fn flush_file<F: Write>(file: &mut Tally<F>) -> bool
     file.flush().is_ok()
 }
 
-/// What was written goes out, and the file is whole. It fails only where the device failed in this call or the file can't be made
-/// whole; a file of which a call failed is handed back.
+/// Flushes the bytes that were written, and makes the file whole. It fails only if the device failed in this call or the file can't
+/// be made whole; a file of which a call failed is returned.
 pub fn finish_file<F: Write + Drop, D: NewFiles<F>>(
     folder: &mut D,
     name: FileName,
@@ -113,8 +113,8 @@ pub fn finish_file<F: Write + Drop, D: NewFiles<F>>(
     }
 }
 
-/// Writes the file of the point, which is of it alone. It fails only where the device failed in a call of the file, which is then
-/// handed back, or the file can't be made.
+/// Writes the file of the point, which has that point alone. It fails only if the device failed in a call of the file, which is
+/// then returned, or the file can't be made.
 pub fn write_part<F: Write + Drop, D: NewFiles<F>>(
     folder: &mut D,
     point: Point,

@@ -1,4 +1,4 @@
-//! Who runs a workload on a store: a checkpointer and collapsers, each with a pass of one board, and workers.
+//! The threads that run a workload on a store: a checkpointer and collapsers, each with a pass of one board, and workers.
 ghost use Rattle.std.specs.Prelude.{◌≡◌, ◌+◌, ◌<◌, ◌≤◌, [], All, length, map, IfOk};
 ghost use Rattle.pc_board.specs.declared.limits.TheConstants.{MOST_PASSES};
 ghost use Rattle.pc_board.specs.Passes.{IsOfBoard};
@@ -27,7 +27,7 @@ pub struct Collapser<'a> {
     pub seat: Seat<'a>,
 }
 
-/// Who runs a workload: the checkpointer, workers with their clients, and collapsers.
+/// The threads that run a workload: the checkpointer, workers with their clients, and collapsers.
 #[derive(Drop)]
 pub struct Hands<'a, N: StoreName, D> {
     pub checkpointer: Checkpointer<'a, N, D>,
@@ -56,9 +56,9 @@ fn seat_collapsers<'a>(
     Ok(collapsers)
 }
 
-/// The workers; a collapser for each pass but the last one, numbered from 0; and that pass for the checkpointer, which takes a point
-/// once so many transactions have committed since the last one, and writes the points' files to the folder, if there is one; it has
-/// taken none yet. It fails only where memory ran out.
+/// The workers; a collapser for each pass but the last one, numbered from 0; and that pass for the checkpointer, which takes a
+/// point once the given number of transactions have committed since the last one, and writes the points' files to the folder, if
+/// there is one; it has taken none yet. Its only error is a failed allocation.
 pub fn hands_of<'a, N: StoreName, D: Drop>(
     alloc: Global,
     board: &'a Board,

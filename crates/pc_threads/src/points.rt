@@ -1,4 +1,4 @@
-//! The points of a run: each is taken once enough was committed since the last one, and its file is written when it is there.
+//! The points of a run: each is taken once enough was committed since the last one, and then its file is written.
 ghost use Rattle.std.specs.Prelude.{◌≡◌, ◌+◌, ◌≤◌, ℕ, true, [], List, Option, IfErr, IfOk, OnOk, is_some, length};
 ghost use Rattle.pc_types.specs.declared.Phase.TheVariants.{Rest};
 ghost use Rattle.pc_types.specs.declared.limits.TheConstants.{MOST_POINTS};
@@ -19,7 +19,7 @@ use pc_workers::{CheckpointFault, checkpoint_loop};
 use std::io::Write;
 use std::sync::Wait;
 
-/// The checkpointer of a run: its seats at the store and at the board, how many transactions are to commit from the begin of one
+/// The checkpointer of a run: its seats at the store and at the board, the number of transactions that commit from the begin of one
 /// point to that of the next, the log's entry from which they are counted, and the folder for the files of points, if there is one,
 /// with a ticket of each point whose file was written.
 #[derive(Drop)]
@@ -32,7 +32,7 @@ pub struct Checkpointer<'a, N: StoreName, D> {
     pub written: Vec<PartTicket<N>>,
 }
 
-/// Why the points of a run are not all taken, and where the store has refused one the witness that came with that.
+/// Why the points of a run are not all taken; if the store has refused one, with the witness that came with the refusal.
 #[derive(Drop)]
 pub(crate) struct PointsFault<N: StoreName> {
     pub(crate) why: ThreadsFault,
@@ -74,7 +74,7 @@ impl<N: StoreName> From<PointsFault<N>> for ThreadsFault {
     }
 }
 
-// How many entries of the log a point's cycle makes: one for each change of the phase.
+// The number of log entries that a point's cycle makes: one for each change of the phase.
 const TOKENS: u32 = 5;
 
 // Writes the file of the point, which is the next one, to the folder.
@@ -101,7 +101,7 @@ fn write_point<N: StoreName, F: Write + Drop, D: NewFiles<F>, G: Gate, R: Wait>(
 }
 
 impl<'a, N: StoreName, D: Drop> Checkpointer<'a, N, D> {
-    // Waits until so many transactions have committed, or no further one commits, and counts from there.
+    // Waits until the given number of transactions have committed, or no further one commits, and counts from there.
     fn await_commits<G: Gate, R: Wait>(&mut self, rt: &R, room: &Room<'_, N, G>)
         ensures folder { self.new.folder ≡ self.old.folder }
         ensures written { self.new.written ≡ self.old.written }
@@ -165,8 +165,8 @@ impl<'a, N: StoreName, D: Drop> Checkpointer<'a, N, D> {
     }
 }
 
-// Takes the points behind the first so many, to the last one of this number: each once enough has committed since the one before,
-// or no further transaction commits.
+// Takes the points after the first ones, to the last one of this number: each once enough has committed since the one before, or no
+// further transaction commits.
 pub(crate) fn take_points<
     'a,
     N: StoreName,

@@ -1,4 +1,4 @@
-//! What the threads of a run share.
+//! The state that the threads of a run share.
 use pc_shared::Shared;
 use pc_tie::StoreName;
 use pc_types::Gate;
@@ -6,8 +6,9 @@ use std::alloc::Global;
 use std::sync::Wait;
 use std::sync::atomic::{AtomicU64, Ordering};
 
-/// What the threads of a run share: the store, the gate, how many points are taken, how many entries of the log a client may
-/// leave unwritten behind its commit, which is nothing where nobody writes the log, and how many workers are at work.
+/// The state that the threads of a run share: the store, the gate, the number of points that are taken, the number of log entries
+/// that a client may leave unwritten after its commit, which is None if no thread writes the log, and the number of workers that
+/// still run.
 #[derive(Drop)]
 pub struct Room<'a, N: StoreName, G: Gate> {
     pub alloc: Global,
@@ -19,7 +20,7 @@ pub struct Room<'a, N: StoreName, G: Gate> {
 }
 
 impl<'a, N: StoreName, G: Gate> Room<'a, N, G> {
-    // A worker has ended; where it was the last one, no client commits any more.
+    // A worker has ended; if it was the last one, no client commits any more.
     pub(crate) fn leave<R: Wait>(&self, rt: &R) {
         if self.working.fetch_sub(1, Ordering::SeqCst) == 1 {
             self.shared.mark_last_commit(rt);

@@ -1,4 +1,4 @@
-//! The threads of a run: workers beside the checkpointer, and beside all of them collapsers and the logger.
+//! The threads of a run: workers and the checkpointer, and concurrently with all of them collapsers and the logger.
 ghost use Rattle.std.specs.Prelude.{◌≡◌, ◌||◌, ℕ, Bool, false, [], All, IfErr, IfOk, is_some, map};
 ghost use Rattle.pc_board.specs.Passes.{IsOfBoard};
 ghost use Rattle.pc_types.specs.declared.Phase.TheVariants.{Rest};
@@ -27,8 +27,8 @@ use std::snapshot::Snapshot;
 use std::sync::Wait;
 use std::thread::{self, Promise, PromisedHandle, Threads};
 
-/// What workers and checkpointer leave: all clients have run; the checkpointer's seat at the store; the folder, if there is one, and a
-/// ticket of each point whose file was written to it.
+/// The result of workers and checkpointer: all clients have run; the checkpointer's seat at the store; the folder, if there is one,
+/// and a ticket of each point whose file was written to it.
 #[derive(Drop)]
 pub struct Worked<N: StoreName, D> {
     pub ran: Ran<N>,
@@ -37,14 +37,14 @@ pub struct Worked<N: StoreName, D> {
     pub written: Vec<PartTicket<N>>,
 }
 
-/// What they leave beside the collapsers, and the tickets that those hold.
+/// Their result, and the tickets that the collapsers hold.
 #[derive(Drop)]
 pub struct Rested<N: StoreName, D> {
     pub worked: Worked<N, D>,
     pub held: Vec<PartTicket<N>>,
 }
 
-/// A logger that has written nothing; without a file it isn't to write.
+/// A logger that has written nothing; without a file it writes nothing.
 #[derive(Drop)]
 pub struct Logger<N: StoreName, F: Write> {
     pub pass: LogPass<N>,
@@ -52,14 +52,14 @@ pub struct Logger<N: StoreName, F: Write> {
     ghost fresh: { pass ≡ [] },
 }
 
-/// What a logger has written.
+/// The result of a logger.
 #[derive(Drop)]
 pub struct Written<N: StoreName, F: Write> {
     pub pass: LogPass<N>,
     pub out: Option<Tally<F>>,
 }
 
-/// Why a logger has stopped before the end, and its file.
+/// Why a logger stopped before the end, and its file.
 #[derive(Drop)]
 pub(crate) struct LogFault<F: Write> {
     pub(crate) why: Refusal,
@@ -78,7 +78,7 @@ impl<F: Write + Drop> From<LogFault<F>> for ThreadsFault {
 }
 
 impl<N: StoreName, F: Write + Drop> Logger<N, F> {
-    // Writes the log until the end is marked, or its file is lost, and tells the others that no more is written.
+    // Writes the log until the end is marked, or its file is lost, and then marks that no more is written.
     fn run<R: Wait, G: Gate>(
         self,
         rt: &R,
@@ -104,8 +104,8 @@ impl<N: StoreName, F: Write + Drop> Logger<N, F> {
     }
 }
 
-// The promise of a logger: what its pass has handed out was written to its file, or memory ran out, or the device failed in a call of
-// the file, which is handed back.
+// The promise of a logger: the entries that its pass has handed out were written to its file, or an allocation failed, or the
+// device failed in a call of the file, which is returned.
 #[derive(Drop)]
 struct LogOf<N: StoreName, F: Write>(Snapshot<Logger<N, F>>);
 
@@ -117,9 +117,9 @@ impl<N: StoreName, F: Write> Promise<Result<Written<N, F>, LogFault<F>>> for Log
     ghost kept_by = { λ given written. IfOk written (λ w. HasLogged F.contents N.name.setting.run given.0.value.out w.out w.pass) × IfErr written (LogHasStopped given.0.value.out) };
 }
 
-// Joins the files of points as they are published. The tickets that the collapser holds in the end; none where a file isn't there by
-// what its witness has seen: the checkpointer then takes those of all points that no collapser holds. All that it is given stands
-// by itself, and not in a room: else nothing is known of the thread that runs it.
+// Joins the files of points as they are published. Gives the tickets that the collapser holds in the end; none if its witness has
+// seen a history without a file: the checkpointer then takes those of all points that no collapser holds. All its arguments are
+// passed one by one, and not in a room: otherwise nothing is known of the thread that runs it.
 fn collapse<N: StoreName, R: Wait, G: Gate>(
     rt: &R,
     alloc: Global,
@@ -144,7 +144,7 @@ fn collapse<N: StoreName, R: Wait, G: Gate>(
     }
 }
 
-// The promise of tickets whose files have no points but those from 1 to this, or that memory ran out.
+// The promise of tickets whose files have no points but those from 1 to this, or of a failed allocation.
 #[derive(Clone, Copy)]
 struct UpTo(u32);
 
@@ -204,13 +204,13 @@ fn join_workers<N: StoreName, R: Threads>(
     Ok(all)
 }
 
-// Marks the end, for whoever waits for that; where it is marked already, it stays so.
+// Marks the end, for threads that wait for it; if it is marked already, it stays so.
 fn mark_end<N: StoreName, R: Wait>(rt: &R, shared: &Shared<N>) {
     let mut witness = shared.witness(rt);
     let _marked = shared.mark_end(rt, &mut witness);
 }
 
-// The workers, with all points but the last one beside them, and the last one once they have ended.
+// Runs the workers, concurrently with all points but the last one, and the last one once they have ended.
 fn run_workers<
     'x,
     N: StoreName + Send + Sync,
@@ -270,7 +270,7 @@ fn run_workers<
     )
 }
 
-// The workers and the points, beside the collapsers, for whom the end is marked then.
+// Runs the workers and the points, concurrently with the collapsers, for which the end is marked then.
 fn run_hands<
     'x,
     N: StoreName + Send + Sync,
@@ -331,9 +331,9 @@ fn run_hands<
     )
 }
 
-/// Runs them all, and marks the end once the workers have ended and the points are taken, or whatever else keeps them from it: a
-/// thread can't be started, a point can't be taken, or memory ran out. It returns once all threads have ended. Where the log's file
-/// is lost it refuses for that, whatever else went wrong. What goes out to such a file has to count as gone out by the store's name.
+/// Runs them all, and marks the end once the workers have ended and the points are taken, or once they fail: a thread can't be
+/// started, a point can't be taken, or an allocation failed. It returns once all threads have ended. If the log's file is lost it
+/// returns that error, whatever else failed. Text that goes out to such a file must count as gone out by the store's name.
 pub fn run_threads<
     'x,
     N: StoreName + Send + Sync,

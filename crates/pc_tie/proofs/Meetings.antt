@@ -90,11 +90,11 @@ module _ {S : Type 0} (st : Setting) (id n : ℕ) (seen w : History) where
 pub looks_at : (st : Setting) (id n : ℕ) (seen w : History) (me : Me Step Sight) (slots : ℕ) → me ≡ (Beside n seen w, []) → Allows (HasOneHistory {S = Step} st) slots id me 0 (λ k. k) (Met (step slots 0 0 0 none) me)
 looks_at st id n seen w me slots is = subst (λ (m : Me Step Sight). Allows (HasOneHistory {S = Step} st) slots id m 0 (λ k. k) (Met (step slots 0 0 0 none) m)) (sym is) (looks st id n seen w slots)
 
--- the seat of a badge stands at the word, and knows what the badge tells
+-- the seat of a badge is at the word, and knows what the badge tells
 pub stands : (b own : Badge Sight) (table id : TableId) (v : Sight) → b ≡ own → IsSeatAt table own → id ≡ b.table_id → b.views ≡ v ∷ [] → (id ≡ table) × (v ≡ Front (seat_of own).number (seat_of own).seen)
 stands b own table id v same at is views = (is ∙ (ap (λ (x : Badge Sight). x.table_id) same ∙ at.0), front_in own.views _ v at.1 (sym (ap (λ (x : Badge Sight). x.views) same) ∙ views))
 
--- what the seat knows that has the witness beside it
+-- the knowledge of the seat that is compared with the witness
 pub together : (v u : Sight) (slots : List (ℕ × Step)) (me : Me Step Sight) (n : ℕ) (seen w : History) → v ≡ Front n seen → u ≡ Front a_witness w → slots ≡ [] → me ≡ (beside v u, slots) → me ≡ (Beside n seen w, [])
 together v u slots me n seen w is there free e = e ∙ (λ k. (beside (is k) (there k), free k))
 

@@ -23,7 +23,7 @@ module _ (views : List Sight) (sight : Sight) (one : views ≡ sight ∷ []) whe
   pub is_that_of : (rests : Sight) → views ≡ Front (sitting_in views).number (sitting_in views).seen ∷ [] → (sitting_in views).number ≡ a_witness → rests ≡ Front a_witness (hist_of rests) → (sitting_in views).seen ≡ hist_of rests → sight ≡ rests
   is_that_of rests front number stands same = is_front front number ∙ (ap (Front a_witness) (has_seen ∙ same) ∙ sym stands)
 
--- what a badge knows whose seat has stood there
+-- what a badge knows whose seat has been there
 pub lifted : (views : List Sight) (sight rests : Sight) → views ≡ sight ∷ [] → sight ≡ rests → rests ≡ Front a_witness (hist_of rests)
     → (views ≡ Front (sitting_in views).number (sitting_in views).seen ∷ []) × ((sitting_in views).number ≡ a_witness) × ((sitting_in views).seen ≡ hist_of rests)
 lifted views sight rests one same stands =

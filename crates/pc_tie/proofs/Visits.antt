@@ -57,7 +57,7 @@ pub deals_at : {S : Type 0} (st : Setting) (id : ℕ) (hist : History) (dealt : 
 deals_at {S} st id hist dealt guests v is speaks empty alone =
     subst (λ (u : Sight). Splits (HasOneHistory {S = S} st) id u (after_dealing u) (new_front u)) (sym (is ∙ (λ k. Whole (empty k) dealt (alone k)))) (deals st id dealt speaks)
 
--- what is told of the first seat is told of the one that it is
+-- facts about the first seat are facts about the one that it is
 pub knew_as : (hist : History) (s mine : Sitting) (others : List Sitting) → s ≡ mine → Speaks mine.number → KnewFirst hist (s ∷ others) → HasCallsOf hist mine.number mine.seen
 knew_as hist s mine others is speaks knew =
     let k = subst (λ (x : Sitting). IsBeginning x.seen hist × (Speaks x.number → calls_of x.number hist ≡ calls_of x.number x.seen)) is knew in

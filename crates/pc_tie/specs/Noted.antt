@@ -6,7 +6,7 @@ use Rattle.pc_answers.specs.Replies.{begin_reply, get_reply, write_reply, add_re
 use Rattle.pc_tie.specs.declared.noted.NotedCall.{NotedCall}
 use Rattle.pc_tie.specs.declared.noted.NotedCall.TheVariants as noted
 
--- the event that was asked, with the reply that tells of its answer
+-- the event that was asked, with the reply that represents its answer
 abbrev pub step_in : NotedCall → Step
 step_in (noted.Begin s answer) = step_of (asked.Begin s.value) (begin_reply answer.value)
 step_in (noted.Get s key answer) = step_of (asked.Get s.value key.value) (get_reply answer.value)

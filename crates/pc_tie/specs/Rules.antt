@@ -1,6 +1,6 @@
--- The rule of a store's word, and what the steps on it tell. Its seats are the keeper's, which knows the whole history; that of
--- the checkpointer with the number 0, those of sessions with theirs, and those of witnesses, which know a beginning; and such
--- as are gone.
+-- The rule of a store's word, and the facts that the steps on it give. Its seats are the keeper's, which knows the whole
+-- history; that of the checkpointer with the number 0, those of sessions with theirs, and those of witnesses, which know a
+-- prefix; and such as are gone.
 use Rattle.std.specs.Prelude.{◌≡◌, ◌≢◌, ℕ, ◌+◌, ◌<◌, ◌≤◌, cond, List, [], ◌∷◌, length}
 use mathlib.Core.Option.{Option, none, some}
 use lib.ListN.{get_elem?}
@@ -63,8 +63,8 @@ abbrev pub dealt_in : List Sight → ℕ
 dealt_in [] = 0
 dealt_in (v ∷ vs) = dealt_of v
 
--- what is seen is a beginning of the history; and where n is no witness's number, it was dealt, the seat owns it, and has seen
--- all of its calls
+-- what is seen is a prefix of the history; and if n is no witness's number, it was dealt, the seat owns it, and has seen all of
+-- its calls
 abbrev pub Knows : History → ℕ → (ℕ → ℕ) → ℕ → ℕ → History → Type 0
 Knows history dealt owner id n seen = IsBeginning seen history × (Speaks n → (n < dealt) × (owner n ≡ id) × (calls_of n history ≡ calls_of n seen))
 
@@ -109,7 +109,7 @@ abbrev pub told : Option Step → (Step → Type 0) → Type 0
 told none P = Unit {0}
 told (some s) P = P (said_step s)
 
--- the first seat that was taken in knew a beginning of the history, and all calls of its number where it is no witness's
+-- the first seat that was taken in knew a prefix of the history, and all calls of its number if it is no witness's
 abbrev pub KnewFirst : History → List Sitting → Type 0
 KnewFirst hist [] = Unit {0}
 KnewFirst hist (x ∷ xs) = IsBeginning x.seen hist × (Speaks x.number → calls_of x.number hist ≡ calls_of x.number x.seen)
@@ -158,12 +158,12 @@ after_dealing v = Whole (hist_of v) (dealt_of v + 1) (guests_of v)
 abbrev pub new_front : Sight → Sight
 new_front v = Front (dealt_of v) []
 
--- each seat that was taken in had seen a beginning of the history, with all calls of its number where it is no witness's; and
--- none but a witness's is there twice
+-- each seat that was taken in had seen a prefix of the history, with all calls of its number if it is no witness's; and none
+-- but a witness's is there twice
 abbrev pub AreTold : History → List Sitting → Type 0
 AreTold hist guests = ((k : ℕ) (x : Sitting) → get_elem? guests k ≡ some x → IsBeginning x.seen hist × (Speaks x.number → calls_of x.number hist ≡ calls_of x.number x.seen)) × AreGuestsApart guests
 
--- what a look tells of the seats that were taken in; it changes nothing
+-- the result of comparing the seats that were taken in; it changes nothing
 abbrev pub Compared : Exchange Step → Me Step Sight → ℕ → Me Step Sight → Type 0
 Compared st v found w = (w ≡ v) × AreTold (hist_of v.0) (guests_of v.0)
 
@@ -171,14 +171,14 @@ Compared st v found w = (w ≡ v) × AreTold (hist_of v.0) (guests_of v.0)
 abbrev pub shown_out : Sight → Sight
 shown_out v = Front a_witness (hist_of v)
 
--- what the witness has seen that the seat has beside it
+-- the view of the witness that is compared with the seat
 abbrev pub other_of : Sight → History
 other_of (Whole hist dealt guests) = []
 other_of (Front n seen) = []
 other_of (Beside n seen other) = other
 other_of Gone = []
 
--- a seat with a witness beside it
+-- a seat that is compared with a witness
 abbrev pub beside : Sight → Sight → Sight
 beside v w = Beside (number_of v) (hist_of v) (hist_of w)
 
@@ -190,10 +190,10 @@ alone v = Front (number_of v) (hist_of v)
 abbrev pub witness_out : Sight → Sight
 witness_out v = Front a_witness (other_of v)
 
--- both are beginnings of one history
+-- both are prefixes of one history
 abbrev pub AreOfOne : History → History → Type 0
 AreOfOne seen other = (history : History) × IsBeginning seen history × IsBeginning other history
 
--- what a look tells of a seat and the witness beside it; it changes nothing
+-- the result of comparing a seat with a witness; it changes nothing
 abbrev pub Met : Exchange Step → Me Step Sight → ℕ → Me Step Sight → Type 0
 Met st v found w = (w ≡ v) × AreOfOne (hist_of v.0) (other_of v.0)

@@ -1,4 +1,4 @@
--- What contracts see of the seats at a store's word.
+-- The view of the seats at a store's word in contracts.
 use Rattle.std.specs.Prelude.{◌≡◌, ◌<◌, ◌≤◌, ℕ, List, [], ◌∷◌, MatchBool, length, get_or}
 use Rattle.atomic_table.specs.Seated.{TableId}
 use Rattle.atomic_table.specs.declared.badge.Badge.{Badge}
@@ -44,7 +44,7 @@ pub record IsSession (st : Setting) (s : Sitting) : Type 0 where
   pub within : s.number ≤ st.sessions
   pub legal : IsLegalHistory st s.seen
 
--- A step moves a seat on: where its reply counts, what it has seen is extended by the step; else it stays.
+-- A step moves a seat on: if its reply counts, what it has seen is extended by the step; otherwise it stays.
 abbrev pub MovesOn : Setting → History → Step → History → Type 0
 MovesOn st old step new = MatchBool (counts step.reply) (Extends st old step new) (new ≡ old)
 
@@ -57,7 +57,7 @@ pub record KeeperView : Type 0 where
 abbrev pub meeting : History → ℕ → List Sitting → KeeperView
 meeting history dealt guests = record { history = history; dealt = dealt; guests = guests }
 
--- the number of the first, or a witness's where there is none
+-- the number of the first, or a witness's if there is none
 abbrev pub first_number : List Sitting → ℕ
 first_number [] = a_witness
 first_number (s ∷ ss) = s.number
@@ -70,6 +70,6 @@ NoTwoAlike ss = (i j : ℕ) (d : Sitting) → i < length ss → j < length ss �
 abbrev pub HasOwnCalls : History → Sitting → Type 0
 HasOwnCalls history s = HasCallsOf history s.number s.seen
 
--- the seat has seen a beginning of the history; and where it is no witness's, all calls of its number
+-- the seat has seen a prefix of the history; and if it is no witness's, all calls of its number
 abbrev pub IsFrontOf : History → Sitting → Type 0
 IsFrontOf history s = IsBeginning s.seen history × (Speaks s.number → HasOwnCalls history s)

@@ -1,4 +1,4 @@
-//! Who deals the seats of a store, and who keeps its history.
+//! The dealer of a store's seats, and the keeper of its history.
 ghost use Rattle.std.specs.Prelude.{◌≡◌, ◌<◌, ◌≤◌, ◌+◌, ◌∷◌, [], true, All, List, length};
 ghost use Rattle.pc_types.specs.declared.limits.TheConstants.{MOST_SESSIONS};
 ghost use Rattle.pc_model.specs.History.{log_of};
@@ -259,7 +259,7 @@ impl<N: StoreName> Keeper<N> {
         self.note_at(tie, &mut checkpointer.badge, before, after, step);
     }
 
-    /// Compares the history with what the checkpointer has seen: a beginning of it, with all calls of the checkpointer.
+    /// Compares the history with what the checkpointer has seen: a prefix of it, with all calls of the checkpointer.
     pub fn compare_own(&mut self, tie: &Tie<N>, checkpointer: &mut CheckpointerSeat<N>)
         requires alone { self.old.guests ≡ [] }
         ensures same { (self.new ≡ self.old) × (checkpointer.new ≡ checkpointer.old) }
@@ -283,7 +283,7 @@ impl<N: StoreName> Keeper<N> {
         }
     }
 
-    /// The witness sees the history as it is, of which it had seen a beginning.
+    /// The witness sees the history as it is, of which it had seen a prefix.
     pub fn renew(&mut self, tie: &Tie<N>, witness: &mut Witness<N>)
         requires alone { self.old.guests ≡ [] }
         ensures same { self.new ≡ self.old }
@@ -296,7 +296,7 @@ impl<N: StoreName> Keeper<N> {
         witness.badge = self.show(tie);
     }
 
-    // Compares the history with what the witness has seen: a beginning of it.
+    // Compares the history with what the witness has seen: a prefix of it.
     fn compare_witness(&mut self, tie: &Tie<N>, witness: &mut Witness<N>)
         requires alone { self.old.guests ≡ [] }
         ensures same { (self.new ≡ self.old) × (witness.new ≡ witness.old) }
@@ -308,8 +308,8 @@ impl<N: StoreName> Keeper<N> {
         witness.badge = self.leave(tie);
     }
 
-    /// Compares the history with what the milestone has seen: a beginning of it. False where its witness isn't there, since
-    /// somebody else just compares it; then nothing is told.
+    /// Compares the history with what the milestone has seen: a prefix of it. False if its witness isn't there, since another
+    /// thread is comparing it; then nothing is learnt.
     pub fn compare_milestone(&mut self, tie: &Tie<N>, milestone: &Milestone<N>) -> bool
         requires alone { self.old.guests ≡ [] }
         ensures same { self.new ≡ self.old }
@@ -335,7 +335,7 @@ impl<N: StoreName> Keeper<N> {
         self.enter(tie, badge);
     }
 
-    /// Gives back the seat that was taken in last, which is the one of the session of this number.
+    /// Returns the seat that was taken in last, which is the one of the session of this number.
     pub fn give_back(&mut self, tie: &Tie<N>, number: SessionNo) -> SessionSeat<N>
         requires first { first_number self.old.guests ≡ number }
         requires session { All (IsSession N.name.setting) self.old.guests }
@@ -351,7 +351,7 @@ impl<N: StoreName> Keeper<N> {
         }
     }
 
-    /// Compares the history with what the seats that were taken in had seen: each a beginning of it, with all of its session's
+    /// Compares the history with what the seats that were taken in had seen: each a prefix of it, with all of its session's
     /// calls; and no two are of one session.
     pub fn compare(&mut self, tie: &Tie<N>)
         ensures same { self.new ≡ self.old }

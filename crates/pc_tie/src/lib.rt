@@ -1,5 +1,5 @@
-//! What ties the sessions and the checkpointer of a store to its one history: seats at one word that threads share, each of which knows the history
-//! or a beginning of it.
+//! The tie of the sessions and the checkpointer of a store to its one history: seats at one word that threads share,
+//! each of which knows the history or a prefix of it.
 #![tactic(auto)]
 
 mod keeper;

@@ -8,12 +8,12 @@ use crate::sight::Sight;
 use atomic_table::{Perch, Seat};
 use std::marker::{Model, PhantomData};
 
-// What the word of a milestone says: its witness is out, or it stands there.
+// The state of a milestone's word: its witness is out, or it is there.
 const OUT: u64 = 0;
 
 const THERE: u64 = 2;
 
-/// A moment of a store's history: a witness that stands where all who have the milestone can have it compared with the history.
+/// A moment of a store's history: a witness kept where all owners of the milestone can have it compared with the history.
 /// Contracts see what it has seen, which stays the same.
 #[derive(Drop)]
 pub struct Milestone<N: StoreName> {
@@ -49,7 +49,7 @@ impl<N: StoreName> Milestone<N> {
         }
     }
 
-    // Its witness, if that stands there.
+    // Its witness, if that is there.
     pub(crate) fn take(&self) -> Option<Witness<N>>
         ensures { IfSome result (λ witness. witness ≡ self.now) }
     {
@@ -63,7 +63,7 @@ impl<N: StoreName> Milestone<N> {
         }
     }
 
-    // Its witness stands there again.
+    // Its witness is put back.
     pub(crate) fn put_back(&self, witness: Witness<N>)
         requires { witness ≡ self.now }
     {

@@ -1,7 +1,7 @@
 //! The name of a store.
 
 /// Names one store: its word, and what its run starts from; and of which texts it counts that they have gone out to the writer of
-/// its log. All that has to agree on a store is generic in its name, since of a value behind a lock nothing is known but its type's
+/// its log. All that has to agree on a store is generic in its name, since of a value after a lock nothing is known but its type's
 /// invariant.
 pub trait StoreName {
     ghost use Rattle.std.specs.Prelude.{ℕ, List};

@@ -1,4 +1,4 @@
-//! A step as the keeper is told of it, for the proof alone.
+//! A step as reported to the keeper, for the proof alone.
 ghost use Rattle.std.specs.Prelude.{◌≡◌};
 ghost use Rattle.pc_types.specs.declared.Event.TheVariants.{Begin, Get, Put, Del, Add, Commit, Abort, Take};
 ghost use Rattle.pc_model.specs.Calls.{step_of};
@@ -25,7 +25,7 @@ enum NotedCall {
     Any(Snapshot<Event>, Snapshot<Reply>),
 }
 
-/// A step as the keeper is told of it: it has no bytes, and holds nothing of the event and the reply. Contracts see the step.
+/// A step as reported to the keeper: it has no bytes, and holds nothing of the event and the reply. Contracts see the step.
 #[derive(Drop)]
 pub struct NotedStep {
     marker: PhantomData<NotedCall>,
@@ -43,7 +43,7 @@ impl Model for NotedStep {
     ghost also_owns = { λ _. ftrue };
 }
 
-// That it may cross threads is told here, once: the search for it would go through all that a call is made of.
+// Declared here, once, that it may cross threads: the search for it would go through all that a call is made of.
 unsafe impl Send for NotedStep {}
 
 // The step of the call.

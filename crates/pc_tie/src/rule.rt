@@ -1,11 +1,11 @@
-//! The rule that every atomic step on a store's word keeps, and what each step tells.
+//! The rule that every atomic step on a store's word keeps, and the facts that each step gives.
 use crate::noted::NotedStep;
 use crate::sight::Sight;
 use crate::start::Start;
 use atomic_table::{Join, Play, Split, TableRule};
 
-/// The word is read off one legal history, of which each seat knows a beginning. The rule's key is what the store
-/// starts from.
+/// The word is read off one legal history, of which each seat knows a prefix. The rule's key is what the store starts
+/// from.
 pub struct OneHistory;
 
 impl<S> TableRule<S, Sight, Start> for OneHistory {

@@ -42,7 +42,7 @@ impl<N: StoreName> SessionSeat<N> {
         self.number
     }
 
-    /// Compares what the session has seen with what the witness has: both are beginnings of the store's one history. It needs no
+    /// Compares what the session has seen with what the witness has: both are prefixes of the store's one history. It needs no
     /// keeper.
     pub fn meet(&mut self, tie: &Tie<N>, witness: &mut Witness<N>)
         ensures same { (self.new ≡ self.old) × (witness.new ≡ witness.old) }
@@ -90,7 +90,7 @@ impl<N: StoreName> Model for CheckpointerSeat<N> {
     ghost invariant = { λ c. IsSeatAt N.name.table c.badge × ((sitting_in c.badge.views).number ≡ 0) × IsLegalHistory N.name.setting (sitting_in c.badge.views).seen };
 }
 
-/// A seat of nobody who calls, which has seen a beginning of the history. Contracts see that.
+/// A seat of nobody who calls, which has seen a prefix of the history. Contracts see that.
 #[derive(Drop)]
 pub struct Witness<N: StoreName> {
     pub(crate) badge: Badge<Sight>,

@@ -1,11 +1,11 @@
-//! What a store starts from.
+//! The start of a store.
 ghost use Rattle.std.specs.Prelude.{◌≡◌};
 
 use pc_part::Base;
 use std::marker::Model;
 use std::snapshot::Snapshot;
 
-/// What a store starts from: its base, how many sessions it has, and its capacity. Contracts see the setting of its run.
+/// The start of a store: its base, the number of its sessions, and its capacity. Contracts see the setting of its run.
 #[derive(Drop)]
 pub struct Start {
     base: Snapshot<Base>,
@@ -26,7 +26,7 @@ impl Model for Start {
 }
 
 impl Start {
-    /// The start from this base, with so many sessions and this capacity. Of the base nothing is copied.
+    /// The start from this base, with this number of sessions and this capacity. Of the base nothing is copied.
     pub fn new(base: &Base, sessions: u8, capacity: u32) -> Start
         ensures { result ≡ record { run = base.now.run; base = base.now.pairs; sessions = sessions; capacity = capacity } }
     {

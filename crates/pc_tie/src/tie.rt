@@ -62,7 +62,7 @@ impl Untied {
     }
 }
 
-/// The word of a store, by which each seat at it knows the one history of the store, or a beginning of it.
+/// The word of a store, by which each seat at it knows the one history of the store, or a prefix of it.
 #[derive(Drop)]
 pub struct Tie<N: StoreName> {
     pub(crate) table: Table<NotedStep, Sight, Start, OneHistory, Global>,

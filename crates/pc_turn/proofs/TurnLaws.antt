@@ -13,13 +13,13 @@ use Rattle.pc_log.specs.Texts.{entry_text}
 use Rattle.pc_turn.specs.Devices.{Grows}
 use Rattle.pc_turn.specs.Turns.{IsAppended, IsKept, rest_text}
 
--- a beginning of a text is one of a longer text
+-- a prefix of a text is one of a longer text
 begins_longer : (a b : Option (List ℕ)) (x y : List ℕ) → AppendsBeginning a b x → AppendsBeginning a b (x ++ y)
 begins_longer None b x y p = tt
 begins_longer (Some a) None x y p = absurd p
 begins_longer (Some a) (Some b) x y p = (p.0, omega (arith, p.1, length-append x y), p.2 ∙ ap (λ (t : List ℕ). a ++ t) (sym (take-append-le p.0 x y p.1)))
 
--- all of a text is a beginning of it
+-- all of a text is a prefix of it
 all_begins : (a b : Option (List ℕ)) (x : List ℕ) → Appends a b x → AppendsBeginning a b x
 all_begins None b x p = tt
 all_begins (Some a) None x p = absurd p
@@ -53,7 +53,7 @@ to_end xs a b order =
     sym (take-append-drop (b - a) (drop a xs)) ∙ ap (λ (ys : List _). slice_range xs a b ++ ys) (drop-drop (b - a) a xs ∙ ap (λ (n : ℕ). drop n xs) place)
 
 module _ {T : Type 0} (written kept : T → Option (List ℕ)) where
-  -- some of the entries behind the first ones were appended, and then more of them
+  -- some of the entries after the first ones were appended, and then more of them
   pub rest_goes_on : (a b c : T) (log : List Entry) (from done count : ℕ) (text : List ℕ) → text ≡ flat_map entry_text (slice_range log done (done + count)) → from ≤ done
       → IsAppended written kept (flat_map entry_text (slice_range log from done)) a b true → Appends (written b) (written c) text → Grows (kept b) (kept c)
       → IsAppended written kept (flat_map entry_text (slice_range log from (done + count))) a c true

@@ -1,4 +1,4 @@
--- How a device that a log is appended to grows.
+-- The growth of a device to which a log is appended.
 use Rattle.std.specs.Prelude.{ℕ, List, Option}
 use Rattle.std.specs.Io.KnownBytes.{Appends}
 

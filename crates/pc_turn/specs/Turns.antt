@@ -1,5 +1,5 @@
--- What has gone out at the end of a turn, be it whole or cut off by a device that fails: the log first, which is then kept, and no answer
--- as long as more of it isn't kept than may be.
+-- The output at the end of a turn, be it whole or interrupted by a device that fails: the log first, which is then kept, and no
+-- answer as long as more of it isn't kept than may be.
 use Rattle.std.specs.Prelude.{◌≡◌, ◌-◌, ℕ, Bool, true, false, List, Option, Result, Ok, Err, MatchBool, IsTrue, drop, length, nat_lt}
 use Rattle.std.specs.List.{flat_map}
 use Rattle.std.specs.Io.KnownBytes.{Appends}
@@ -13,16 +13,16 @@ use Rattle.pc_turn.specs.Devices.{Grows}
 use Rattle.pc_turn.specs.declared.turn.TurnEnd.{TurnEnd}
 use Rattle.pc_turn.specs.declared.turn.TurnEnd.TheVariants as end
 
--- the text of the entries behind the first so many
+-- the text of the entries after that many first ones
 abbrev pub rest_text : ℕ → List Entry → List ℕ
 rest_text count log = flat_map entry_text (drop count log)
 
--- The text was appended; or, where it was not, the device failed, and a beginning of it was. What was kept stays.
+-- The text was appended; or, if it was not, the device failed, and a prefix of it was. What was kept stays.
 abbrev pub IsAppended : {T : Type 0} → (T → Option (List ℕ)) → (T → Option (List ℕ)) → List ℕ → T → T → Bool → Type 0
 IsAppended written kept text old new true = Appends (written old) (written new) text × Grows (kept old) (kept new)
 IsAppended written kept text old new false = AppendsBeginning (written old) (written new) text × Grows (kept old) (kept new)
 
--- The text was appended, and all that was written is kept; or, where that is not so, the device failed, and a beginning of the text was
+-- The text was appended, and all that was written is kept; or, if that is not so, the device failed, and a prefix of the text was
 -- appended, which may be all of it. What was kept stays.
 abbrev pub IsKept : {T : Type 0} → (T → Option (List ℕ)) → (T → Option (List ℕ)) → List ℕ → T → T → Bool → Type 0
 IsKept written kept text old new true = Appends (written old) (written new) text × (kept new ≡ written new) × Grows (kept old) (kept new)
@@ -32,19 +32,19 @@ IsKept written kept text old new false = AppendsBeginning (written old) (written
 abbrev pub is_due : ℕ → ℕ → List Entry → Bool
 is_due lag before log = nat_lt lag (length log - before)
 
--- The entries that weren't written are kept, where they are more than the lag; or, where that is not so, the device failed, and no more
+-- The entries that weren't written are kept, if they are more than the lag; or, if that is not so, the device failed, and no more
 -- count as written than before.
 abbrev pub IsLogOut : {T : Type 0} → (T → Option (List ℕ)) → (T → Option (List ℕ)) → List Entry → ℕ → ℕ → ℕ → T → T → Bool → Type 0
 IsLogOut written kept log lag before after old new true =
     MatchBool (is_due lag before log) (IsKept written kept (rest_text before log) old new true × (after ≡ length log)) ((new ≡ old) × (after ≡ before))
 IsLogOut written kept log lag before after old new false = IsTrue (is_due lag before log) × IsKept written kept (rest_text before log) old new false × (after ≡ before)
 
--- All of the text went out; or the device failed, which was counted, and a beginning of it went out, which may be all of it.
+-- All of the text went out; or the device failed, which was counted, and a prefix of it went out, which may be all of it.
 abbrev pub IsSent : {T : Type 0} → (T → Option (List ℕ)) → List ℕ → Tally T → Tally T → Result (Unit {0}) Refusal → Type 0
 IsSent contents text old new (Ok u) = Appends (contents old.inner) (contents new.inner) text × (new.failures ≡ old.failures)
 IsSent contents text old new (Err e) = (e ≡ Device) × HasRisen old.failures new.failures × AppendsBeginning (contents old.inner) (contents new.inner) text
 
--- How a turn ends: the log is kept, as far as it must be, before any answer goes out.
+-- The end of a turn: the log is kept, as far as it must be, before any answer goes out.
 abbrev pub TurnEnds : {T U : Type 0} → (T → Option (List ℕ)) → (T → Option (List ℕ)) → (U → Option (List ℕ)) → List Entry → ℕ → List ℕ → ℕ → ℕ → T → T → Tally U → Tally U → TurnEnd → Type 0
 TurnEnds written kept contents log lag answers before after log_old log_new out_old out_new end.Whole =
     IsLogOut written kept log lag before after log_old log_new true × IsSent contents answers out_old out_new (Ok tt)

@@ -1,8 +1,8 @@
-//! Where the log of a store that is served goes.
+//! The destination of a served store's log.
 use std::io;
 
-/// A device that a log is appended to. Contracts see what was written to it, and of that what comes back whatever is killed, or, where
-/// `sync` reaches the disk, whatever fails; of a device of which that isn't known nothing is said.
+/// A device that a log is appended to. Contracts see what was written to it, and of that what comes back whatever is killed, or, if
+/// `sync` reaches the disk, whatever fails; nothing is said of a device of which that isn't known.
 pub trait LogDevice {
     ghost use Rattle.std.specs.Prelude.{◌≡◌, ℕ, List, Option, IfOk, OnOk, OnErr};
     ghost use Rattle.std.specs.Io.KnownBytes.{Appends};
@@ -12,10 +12,10 @@ pub trait LogDevice {
     // All that was written.
     ghost written: { Self → Option (List ℕ) };
 
-    // What comes back at the least.
+    // The bytes that come back at the least.
     ghost kept: { Self → Option (List ℕ) };
 
-    /// Writes the bytes behind what was written. On an error a beginning of them was.
+    /// Writes the bytes after what was written. On an error a prefix of them was.
     fn append(&mut self, bytes: &[u8]) -> io::Result<()>
         ensures whole { OnOk result (Appends (written self.old) (written self.new) bytes.now) }
         ensures part { OnErr result (AppendsBeginning (written self.old) (written self.new) bytes.now) }

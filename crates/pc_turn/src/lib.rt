@@ -1,4 +1,4 @@
-//! A turn of a store that is served: what the log has more goes out first, and is kept, and then the answers go out.
+//! A turn of a store that is served: the new log entries are written and kept first, and then the answers go out.
 #![tactic(auto)]
 
 mod device;

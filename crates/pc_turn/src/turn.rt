@@ -1,4 +1,4 @@
-//! What goes out at the end of a turn, in which order, and what it leaves where a device fails.
+//! The output at the end of a turn, its order, and the state if a device fails.
 ghost use Rattle.std.specs.Prelude.{◌≡◌, ◌≤◌, length, is_ok};
 ghost use Rattle.pc_kept_log.specs.Logs.{entries_of};
 ghost use Rattle.pc_turn.specs.Turns.{IsAppended, IsKept, IsLogOut, IsSent, TurnEnds, rest_text};
@@ -9,7 +9,7 @@ use pc_types::{Refusal, Tally};
 use std::io;
 use std::io::Write;
 
-/// How a turn ends.
+/// The outcome of a turn.
 #[derive(Clone, Copy, Debug, PartialEq, Eq)]
 pub enum TurnEnd {
     /// All of it went out.
@@ -20,8 +20,8 @@ pub enum TurnEnd {
     AnswersCut,
 }
 
-/// The turn in which the log has become what it is ends: first the texts of the entries behind the first `written` are appended to the
-/// device, where they are more than the lag, and all that was written to it is kept; then the answers go out, which were made in the
+/// Ends the turn in which the log has become what it is: first the texts of the entries after the first `written` are appended to the
+/// device, if they are more than the lag, and all that was written to it is kept; then the answers go out, which were made in the
 /// turn. So no answer goes out as long as more entries than the lag, of those that the log has, aren't kept, wherever a device fails.
 /// `written` is then how many entries are kept.
 pub fn end_turn<L: LogDevice, W: Write>(
@@ -45,7 +45,7 @@ pub fn end_turn<L: LogDevice, W: Write>(
     }
 }
 
-// The entries that aren't written are, where they are more than the lag, and are kept.
+// The entries that aren't written are, if they are more than the lag, and are kept.
 fn put_log<L: LogDevice>(kept: &Log, written: &mut usize, lag: usize, log: &mut L) -> io::Result<()>
     requires { written.old ≤ length (entries_of kept.now) }
     ensures out { IsLogOut L.written L.kept (entries_of kept.now) lag written.old written.new log.old log.new (is_ok result) }
@@ -59,7 +59,7 @@ fn put_log<L: LogDevice>(kept: &Log, written: &mut usize, lag: usize, log: &mut 
     Ok(())
 }
 
-// The texts of the entries behind the first `written` are appended, and are kept.
+// The texts of the entries after the first `written` are appended, and are kept.
 fn keep_behind<L: LogDevice>(kept: &Log, written: usize, log: &mut L) -> io::Result<()>
     requires { written ≤ length (entries_of kept.now) }
     ensures { IsKept L.written L.kept (rest_text written (entries_of kept.now)) log.old log.new (is_ok result) }
@@ -68,7 +68,8 @@ fn keep_behind<L: LogDevice>(kept: &Log, written: usize, log: &mut L) -> io::Res
     log.sync()
 }
 
-/// Appends the texts of the log's entries behind the first `written`. It takes no memory. On an error a beginning of them was appended.
+/// Appends the texts of the log's entries after the first `written`. It allocates no memory. On an error a prefix of them was
+/// appended.
 pub fn put_behind<L: LogDevice>(kept: &Log, written: usize, log: &mut L) -> io::Result<()>
     requires { written ≤ length (entries_of kept.now) }
     ensures { IsAppended L.written L.kept (rest_text written (entries_of kept.now)) log.old log.new (is_ok result) }

@@ -7,29 +7,29 @@ use Rattle.pc_model.specs.Receipts.{Read}
 use Rattle.pc_txn.specs.declared.commits.Head.{Head}
 use Rattle.pc_txn.specs.Commits.{commit_note, notes_from, EndAt, begin_at}
 
--- a part that ends within the list is the same with more behind it
+-- a part that ends within the list is the same with more after it
 same_part : {X : Type 0} (a b : ℕ) (xs more : List X) → a ≤ b → b ≤ length xs → slice_range (xs ++ more) a b ≡ slice_range xs a b
 same_part a b xs more ab within =
     ap (take (b - a)) (drop-append-le a xs more (omega (arith, ab, within))) ∙ take-append-le (b - a) (drop a xs) more (omega (arith, ab, within, length-drop a xs))
 
--- what comes behind a list is the part from its end on
+-- what comes after a list is the part from its end on
 part_behind : {X : Type 0} (a b : ℕ) (xs more : List X) → a ≡ length xs → b ≡ length xs + length more → slice_range (xs ++ more) a b ≡ more
 part_behind a b xs more from to =
     ap (λ (n : ℕ). take (b - n) (drop n (xs ++ more))) from ∙ (ap (take (b - length xs)) (drop-append_seam xs more) ∙ take_all (b - length xs) more (omega (arith, to)))
 
--- the last one ends behind the beginning of the first
+-- the last one ends after the beginning of the first
 pub ends_rise : (r : ℕ) (hs : List Head) (rs : ℕ) → EndAt r hs rs → r ≤ rs
 ends_rise r [] rs e = omega (arith, e)
 ends_rise r (h ∷ hs) rs e =
     let later = ends_rise h.reads_end hs rs e.1 in
     omega (arith, e.0, later)
 
--- one more that ends behind all of them
+-- one more that ends after all of them
 pub ends_with : (r : ℕ) (hs : List Head) (h : Head) (rs : ℕ) → EndAt r hs rs → rs ≤ h.reads_end → EndAt r (hs ++ h ∷ []) h.reads_end
 ends_with r [] h rs e le = (omega (arith, e, le), refl)
 ends_with r (g ∷ hs) h rs e le = (e.0, ends_with g.reads_end hs h rs e.1 le)
 
--- with one more commit, whose reads came behind the others, those before it stay
+-- with one more commit, whose reads came after the others, those before it stay
 pub filed_with : (r : ℕ) (hs : List Head) (h : Head) (rs more : List Read) → EndAt r hs (length rs) → h.reads_end ≡ length rs + length more → notes_from r (hs ++ h ∷ []) (rs ++ more) ≡ notes_from r hs rs ++ commit_note h.number more ∷ []
 filed_with r [] h rs more e to = (λ i. commit_note h.number (part_behind r h.reads_end rs more e to i) ∷ [])
 filed_with r (g ∷ hs) h rs more e to =
@@ -49,7 +49,7 @@ filed_at r (g ∷ hs) rs zero h is = (λ i. Some (commit_note (same i).number (s
   same = cc (is)
 filed_at r (g ∷ hs) rs (suc place) h is = filed_at g.reads_end hs rs place h is
 
--- and where there is no head there is none
+-- and if there is no head there is none
 pub none_at : (r : ℕ) (hs : List Head) (rs : List Read) (place : ℕ) → slice_get hs place ≡ None → slice_get (notes_from r hs rs) place ≡ None
 none_at r [] rs place is = refl
 none_at r (g ∷ hs) rs zero is = absurd (cc (is))
@@ -88,6 +88,6 @@ lies r (g ∷ hs) rs zero h e is = subst (λ (x : Head). (r ≤ x.reads_end) × 
   same = cc (is)
 lies r (g ∷ hs) rs (suc place) h e is = lies g.reads_end hs rs place h e.1 is
 
--- what is told of a list that is lent is so of the list
+-- what holds of a borrowed list holds of the list
 pub found_at : (heads lent : List Head) (place : ℕ) (told found : Option Head) → lent ≡ heads → told ≡ slice_get lent place → told ≡ found → slice_get heads place ≡ found
 found_at heads lent place told found same is so = ap (λ (hs : List Head). slice_get hs place) (sym same) ∙ (sym is ∙ so)

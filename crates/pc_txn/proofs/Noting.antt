@@ -68,7 +68,7 @@ module _ (own : Bool) (rs : List Read) (order : List ℕ) (key : List ℕ) (cont
       by_own true = refl
       by_own false = sym (ap (λ b. cond b rs (rs ++ (key, content) ∷ [])) was)
 
--- what is added stands at the end
+-- what is added is at the end
 pub added_last : {X : Type 0} (xs : List X) (x : X) → slice_get (xs ++ x ∷ []) (length xs) ≡ Some x
 added_last [] x = refl
 added_last (y ∷ ys) x = added_last ys x

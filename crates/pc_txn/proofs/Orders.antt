@@ -1,4 +1,4 @@
--- Places in the rising order of their keys.
+-- Places in the ascending order of their keys.
 use Rattle.std.proofs.Common.{◌≡◌, ℕ, suc, ◌+◌, ◌<◌, ◌≤◌, List, [], ◌∷◌, ◌++◌, length, map, take, drop, get_or, Option, Some, None, option_map, Result, Ok, Err, IfOk, IfErr, refl, sym, ap, subst, ◌∙◌, arith, cond, Bool, true, false, ◌-◌, ltb, ltb-true, ltb-false}
 use Rattle.std.specs.Prelude.{insert, All}
 use Rattle.std.proofs.lemmas.List.Edits.{get_or-insert_at, get_or-insert_below, get_or-insert_above}
@@ -118,7 +118,7 @@ module _ (keys : List (List ℕ)) (order : List ℕ) (key : List ℕ) (at : ℕ)
           let is : k ≡ at = omega (arith, ltb-false k at e, ltb-false at k f) in
           rw is (omega (arith, grown, get_or-insert_at order at (length keys) d in_range))
 
-  -- a new key behind the others, its place put in where it goes
+  -- a new key after the others, its place put in where it goes
   pub order_added : IsOrder (keys ++ key ∷ []) (insert order at (length keys))
   order_added = record {
     within = all_within;
@@ -131,7 +131,7 @@ pub found_place : (keys : List (List ℕ)) (order : List ℕ) (key : List ℕ) (
 found_place keys order key at sorted is =
     sym (sorted.finds key) ∙ is.finds ([], 0) ∙ ap (λ (e : List ℕ × ℕ). Some e.1) (get_or-map (λ p. (key_at keys p, p)) order at 0 ([], 0) (rw length-map at is.in_range))
 
--- what is inserted at the end stands behind all
+-- what is inserted at the end is after all
 pub insert_last : (xs : List ℕ) (n y : ℕ) → n ≡ length xs → insert xs n y ≡ xs ++ y ∷ []
 insert_last xs n y is = rw is (at_end xs)
   where

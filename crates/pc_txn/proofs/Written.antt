@@ -36,7 +36,7 @@ same_keys [] i later = refl
 same_keys (v ∷ vs) zero later = refl
 same_keys (v ∷ vs) (suc i) later = ap (λ ks. v.key ∷ ks) (same_keys vs i later)
 
--- what is written of a key that has a place stands there
+-- what is written of a key that has a place is there
 pub written_at : (ws : List Write) (key : List ℕ) (i : ℕ) → place_of (written_keys ws) key ≡ Some i → written ws key ≡ change_at ws i
 written_at [] key i h = absurd cc
 written_at (v ∷ vs) key i h = by_test (same_bytes v.key key) (place_of (written_keys vs) key) i (written_at vs key) h

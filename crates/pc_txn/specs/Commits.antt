@@ -1,4 +1,4 @@
--- What a session keeps of its commits: a number and the reads of each. The reads of all of them stand in one list.
+-- A session's notes of its commits: a number and the reads of each. The reads of all of them are in one list.
 use Rattle.std.specs.Prelude.{◌≡◌, ◌<◌, ◌≤◌, ℕ, zero, suc, List, [], ◌∷◌, map, Option, Some, None, slice_get, slice_range}
 use Rattle.pc_types.specs.declared.Receipt.{Receipt}
 use Rattle.pc_model.specs.Receipts.{Read}
@@ -16,7 +16,7 @@ commit_note number reads = record { number = number; reads = reads }
 abbrev pub notes_of : List Receipt → List CommitNote
 notes_of receipts = map (λ r. commit_note r.number r.reads) receipts
 
--- the reads of a note, and none where there is no note
+-- the reads of a note, and none if there is no note
 abbrev pub reads_in : Option CommitNote → List Read
 reads_in None = []
 reads_in (Some note) = note.reads
@@ -31,7 +31,7 @@ pub record Noted : Type 0 where
   pub room : ℕ
   pub reads_room : ℕ
 
--- one more commit with so many reads takes no memory
+-- one more commit with that many reads takes no memory
 pub record HasRoomFor (noted : Noted) (reads : ℕ) : Type 0 where
   pub one : 0 < noted.room
   pub for_reads : reads ≤ noted.reads_room

@@ -1,4 +1,4 @@
--- What a session notes of its reads.
+-- A session's notes of its reads.
 use Rattle.std.specs.Prelude.{◌||◌, ℕ, Bool, List, [], ◌∷◌, ◌++◌, Option, Some, None, if◌then◌else◌, slice_get}
 use Rattle.pc_model.specs.Receipts.{Read, is_read}
 use Rattle.pc_txn.specs.declared.got.Got.{Got}
@@ -6,7 +6,7 @@ use Rattle.pc_txn.specs.declared.got.Got.TheVariants as got
 use Rattle.pc_txn.specs.declared.session_notes.Latest.{Latest}
 use Rattle.pc_txn.specs.declared.session_notes.Latest.TheVariants as latest
 
--- the reads with one more, where it is not of an own write, and the key was not read before
+-- the reads with one more, if it is not of an own write, and the key was not read before
 abbrev pub noting : Bool → List Read → List ℕ → Option (List ℕ) → List Read
 noting own reads key content = if own || is_read reads key then reads else reads ++ (key, content) ∷ []
 

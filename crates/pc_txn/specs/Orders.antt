@@ -1,9 +1,9 @@
--- Lists of keys, and the places of their keys in rising order.
+-- Lists of keys, and the places of their keys in ascending order.
 use Rattle.std.specs.Prelude.{◌≡◌, ℕ, suc, ◌<◌, List, [], ◌∷◌, length, map, slice_index_or, Option, Some, None, option_map, if◌then◌else◌, All}
 use Rattle.std.specs.FinMap.{find}
 use Rattle.pc_model.specs.Database.{key_cmp, same_bytes, KeysRise}
 
--- where the key is, counted from 0
+-- the place of the key, counted from 0
 abbrev pub place_of : List (List ℕ) → List ℕ → Option ℕ
 place_of [] key = None
 place_of (k ∷ ks) key = if same_bytes k key then Some 0 else option_map suc (place_of ks key)
@@ -16,7 +16,7 @@ key_at keys place = slice_index_or keys place []
 abbrev pub entries : List (List ℕ) → List ℕ → List (List ℕ × ℕ)
 entries keys order = map (λ place. (key_at keys place, place)) order
 
--- the places are in the rising order of their keys, and the key's place is found there for every key
+-- the places are in the ascending order of their keys, and the key's place is found there for every key
 pub record IsOrder (keys : List (List ℕ)) (order : List ℕ) : Type 0 where
   pub within : All (λ place. place < length keys) order
   pub rise : KeysRise (entries keys order)

@@ -1,4 +1,4 @@
--- What one transaction has written and read.
+-- The writes and reads of one transaction.
 use Rattle.std.specs.Prelude.{ℕ, zero, suc, ◌==◌, ◌&&◌, Bool, List, [], ◌∷◌, length, map, Option, option_map, is_none, slice_get}
 use Rattle.pc_types.specs.declared.limits.TheConstants.{MOST_WRITES}
 use Rattle.pc_types.specs.declared.Change.{Change}

@@ -1,4 +1,4 @@
-//! What a session keeps of its commits, in few bytes.
+//! A session's notes of its commits, in few bytes.
 ghost use Rattle.std.specs.Prelude.{◌≡◌, ◌<◌, ◌≤◌, ◌∷◌, ◌++◌, [], length, option_map, OnOk, slice_get, slice_range, IsOk};
 ghost use Rattle.pc_txn.specs.Commits.{HasRoomFor, begin_at, commit_note, reads_at};
 
@@ -8,8 +8,8 @@ use std::alloc::{AllocError, Global};
 use std::marker::Model;
 
 /// The commits of a session, in their order: of each the number of its entry in the log, and what its transaction has read. What
-/// it has written stands in the log. The reads of all of them stand in one list, each commit's behind those of the one before: a
-/// commit takes no list of its own, and 16 bytes beside its reads. Contracts see the notes, and how much more there is room for.
+/// it has written is in the log. The reads of all of them are in one list, each commit's after those of the one before: a commit
+/// takes no list of its own, and 16 bytes besides its reads. Contracts see the notes, and how much more there is room for.
 #[derive(Drop)]
 pub struct Commits {
     heads: Vec<Head>,
@@ -39,7 +39,7 @@ impl Model for Commits {
 }
 
 impl Commits {
-    /// No commits. It takes no memory.
+    /// No commits. It allocates no memory.
     pub fn new(alloc: Global) -> Commits
         ensures { result.items ≡ [] }
     {
@@ -49,14 +49,14 @@ impl Commits {
         }
     }
 
-    /// How many commits there are.
+    /// The number of commits.
     pub fn len(&self) -> usize
         ensures { result ≡ length self.now.items }
     {
         self.heads.len()
     }
 
-    /// The number of the commit at the place, which counts from 0; None where there are no more than that.
+    /// The number of the commit at the place, which counts from 0; `None` if there are no more than that.
     pub fn number(&self, place: usize) -> Option<Lsn>
         ensures { result ≡ option_map (λ note. note.number) (slice_get self.now.items place) }
     {
@@ -66,8 +66,8 @@ impl Commits {
         }
     }
 
-    /// What the transaction of the commit at the place has read: of each key that it had not written the first read, in their
-    /// order, with the value that was answered, or nothing. None where there are no more commits than that.
+    /// The reads of the commit at the place: of each key that it had not written the first read, in their order, with the value
+    /// that was answered, or nothing. `None` if there are no more commits than that.
     pub fn reads(&self, place: usize) -> &[(Key, Option<Value>)]
         ensures { result.now ≡ reads_at self.now.items place }
     {
@@ -78,8 +78,8 @@ impl Commits {
         part_of(self.reads.as_slice(), begin, head.reads_end)
     }
 
-    /// Makes room for one more commit, with so many reads. It fails only where memory ran out, never where there is room, and the
-    /// commits stay.
+    /// Makes room for one more commit, with the given number of reads. It fails only if an allocation fails, never if there is
+    /// room, and the commits stay.
     pub fn reserve(&mut self, reads: usize) -> Result<(), AllocError>
         ensures room { OnOk result (HasRoomFor self.new reads) }
         ensures at_hand { HasRoomFor self.old reads → IsOk result }
@@ -90,8 +90,8 @@ impl Commits {
         Ok(())
     }
 
-    /// Adds a commit with this number, of which the reads are moved here: none are left in the set. There is room for it. It takes
-    /// no memory.
+    /// Adds a commit with this number, of which the reads are moved here: none are left in the set. There is room for it. It
+    /// allocates no memory.
     pub fn push(&mut self, number: Lsn, reads: &mut ReadSet)
         requires { HasRoomFor self.old (length reads.old.items) }
         ensures commits { self.new.items ≡ self.old.items ++ commit_note number reads.old.items ∷ [] }
@@ -112,7 +112,7 @@ fn head_at(heads: &[Head], place: usize) -> Option<Head>
     heads.get(place).copied()
 }
 
-// Where the reads of the commit at the place begin, which there is.
+// The start of the reads of the commit at the place, which exists.
 fn begin_of(heads: &[Head], place: usize) -> usize
     requires { place < length heads.now }
     ensures { result ≡ begin_at 0 heads.now place }

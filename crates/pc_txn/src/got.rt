@@ -1,7 +1,7 @@
-//! What a read was answered.
+//! The answer to a read.
 use pc_types::Value;
 
-/// What a read was answered: the key's value, that it has none, or that the request of its lock died.
+/// The answer to a read: the key's value, that it has none, or that the request of its lock died.
 #[derive(Drop)]
 pub enum Got {
     Found(Value),

@@ -1,4 +1,4 @@
-//! What transactions have written and read: of one each key, found by a binary search; and what a session keeps, the reads of
+//! The writes and reads of transactions: of one each key, found by a binary search; and what a session keeps, the reads of
 //! its open transaction, number and reads of each commit, and what its latest call found.
 #![tactic(auto)]
 

@@ -1,4 +1,4 @@
-//! The places of items in the rising order of their keys.
+//! The places of items in the ascending order of their keys.
 ghost use Rattle.std.specs.Prelude.{◌≡◌, ◌≤◌, ◌+◌, length, insert, vec_len, vec_capacity};
 
 // Adds a place, for which there is room.

@@ -13,8 +13,8 @@ use std::alloc::{AllocError, Global};
 use std::cmp::Ordering;
 use std::marker::Model;
 
-/// What one transaction has read of keys that it had not written: of each key the first read, in their order, with the
-/// value that it answered, or nothing. A key is found by a binary search.
+/// The reads of one transaction of keys that it had not written: of each key the first read, in their order, with the value that
+/// it answered, or nothing. A key is found by a binary search.
 #[derive(Drop)]
 pub struct ReadSet {
     reads: Vec<(Key, Option<Value>)>,
@@ -35,7 +35,7 @@ impl Model for ReadSet {
 }
 
 impl ReadSet {
-    /// No reads. It takes no memory.
+    /// No reads. It allocates no memory.
     pub fn new(alloc: Global) -> ReadSet
         ensures { result.items ≡ [] }
     {
@@ -52,7 +52,7 @@ impl ReadSet {
         self.reads.as_slice()
     }
 
-    /// How many reads there are.
+    /// The number of reads.
     pub fn len(&self) -> usize
         ensures { result ≡ length self.now.items }
     {
@@ -66,7 +66,7 @@ impl ReadSet {
         position(self.reads.as_slice(), self.order.as_slice(), key).is_ok()
     }
 
-    /// Makes room for a read. It fails only where memory ran out, never where there is room, and the reads stay.
+    /// Makes room for a read. It fails only if an allocation fails, never if there is room, and the reads stay.
     pub fn reserve(&mut self) -> Result<(), AllocError>
         ensures room { OnOk result (0 < self.new.room) }
         ensures at_hand { 0 < self.old.room → IsOk result }
@@ -77,8 +77,8 @@ impl ReadSet {
         Ok(())
     }
 
-    /// Notes the read of a key, for which there is room, where it is not of an own write and the key was not read before. It gives
-    /// the place of the read where it is noted, and else gives back what was read. It takes no memory.
+    /// Notes the read of a key, for which there is room, if it is not of an own write and the key was not read before. It gives
+    /// the place of the read if it is noted, and otherwise gives back what was read. It allocates no memory.
     pub fn note(
         &mut self,
         own: bool,
@@ -104,7 +104,7 @@ impl ReadSet {
         }
     }
 
-    /// Notes the read of a key, for which it makes room, where it is not of an own write and the key was not read before. Refuses
+    /// Notes the read of a key, for which it makes room, if it is not of an own write and the key was not read before. Refuses
     /// with `OutOfMemory` alone, and the reads are then as they were.
     pub fn note_read(&mut self, own: bool, key: Key, content: Option<Value>) -> Result<(), Refusal>
         ensures reads { OnOk result (self.new.items ≡ noting own self.old.items key content) }
@@ -125,8 +125,8 @@ impl ReadSet {
         self.order.clear();
     }
 
-    /// Moves all reads behind the list's items, for which the list has room. What memory the set has it keeps for later reads,
-    /// and it takes none.
+    /// Moves all reads after the list's items, for which the list has room. What memory the set has it keeps for later reads, and
+    /// it takes none.
     pub fn move_into(&mut self, list: &mut Vec<(Key, Option<Value>)>)
         requires { vec_len list.old + length self.old.items ≤ vec_capacity list.old }
         ensures list { list.new.items ≡ list.old.items ++ self.old.items }
@@ -139,7 +139,7 @@ impl ReadSet {
     }
 }
 
-// How the key at the place is ordered against this one; past the last place stand no bytes.
+// The order of the key at the place and this one; past the last place there are no bytes.
 fn compare_at(reads: &[(Key, Option<Value>)], place: usize, key: &Key) -> Ordering
     ensures { result ≡ key_cmp (key_at (read_keys reads.now) place) key.now }
 {
@@ -149,7 +149,7 @@ fn compare_at(reads: &[(Key, Option<Value>)], place: usize, key: &Key) -> Orderi
     }
 }
 
-// Where the key stands in the order, or else where it would go: a binary search.
+// The place of the key in the order, or else the place where it would go: a binary search.
 fn position(reads: &[(Key, Option<Value>)], order: &[usize], key: &Key) -> Result<usize, usize>
     requires { IsOrder (read_keys reads.now) order.now }
     ensures at { IfOk result (IsAt (entries (read_keys reads.now) order.now) key.now) }

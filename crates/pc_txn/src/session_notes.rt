@@ -1,4 +1,4 @@
-//! What a session keeps of its own calls, and what it found.
+//! A session's notes of its own calls, and the content that it found.
 ghost use Rattle.std.specs.Prelude.{◌≡◌, ◌<◌, ◌∷◌, ◌++◌, [], true, false, Bool, Some, length, option_copied, slice_get};
 ghost use Rattle.pc_txn.specs.Commits.{HasRoomFor, commit_note};
 ghost use Rattle.pc_txn.specs.Notes.{noting, reads_after, content_of, kept_in, value_of};
@@ -21,22 +21,22 @@ pub enum Latest {
     Loose(Value),
 }
 
-/// What a session keeps: whether its transaction is open, what that has read, a note of each commit, and what the latest call
-/// found. What its transactions have written the store keeps.
+/// A session's notes: whether its transaction is open, its reads, a note of each commit, and the content that the latest call
+/// found. The store keeps the writes of its transactions.
 #[derive(Drop)]
 pub struct SessionNotes {
     /// Whether its transaction is open.
     pub busy: bool,
-    /// What the open transaction has read: the first read of each key that it had not written.
+    /// The reads of the open transaction: the first read of each key that it had not written.
     pub reads: ReadSet,
     /// A note of each commit, in their order.
     pub commits: Commits,
-    /// What the latest call found.
+    /// The content that the latest call found.
     pub latest: Latest,
 }
 
 impl SessionNotes {
-    /// Nothing yet.
+    /// Notes of no calls.
     pub fn new(alloc: Global) -> SessionNotes
         ensures { (result.busy ≡ false) × (result.reads.items ≡ []) × (result.commits.items ≡ []) × (result.latest ≡ Nothing) }
     {
@@ -104,7 +104,7 @@ impl SessionNotes {
     }
 }
 
-/// Makes room for one more commit, with so many reads, or answers false where memory ran out.
+/// Makes room for one more commit, with the given number of reads, or returns false if an allocation failed.
 pub fn has_room_for_commit(commits: &mut Commits, reads: usize) -> bool
     ensures same { commits.new.items ≡ commits.old.items }
     ensures room { result ≡ true → HasRoomFor commits.new reads }
@@ -112,7 +112,7 @@ pub fn has_room_for_commit(commits: &mut Commits, reads: usize) -> bool
     commits.reserve(reads).is_ok()
 }
 
-/// Makes room for one more read, or answers false where memory ran out.
+/// Makes room for one more read, or answers false if an allocation failed.
 pub fn has_room_to_read(reads: &mut ReadSet) -> bool
     ensures same { reads.new.items ≡ reads.old.items }
     ensures room { result ≡ true → 0 < reads.new.room }
@@ -120,7 +120,7 @@ pub fn has_room_to_read(reads: &mut ReadSet) -> bool
     reads.reserve().is_ok()
 }
 
-// What was read at this place.
+// The content read at this place.
 fn content_at(reads: &[(Key, Option<Value>)], place: usize) -> Option<&Value>
     ensures { option_copied result ≡ content_of (slice_get reads.now place) }
 {
@@ -130,7 +130,7 @@ fn content_at(reads: &[(Key, Option<Value>)], place: usize) -> Option<&Value>
     }
 }
 
-// Notes the read of the value, where it is the first of its key and is not of an own write.
+// Notes the read of the value, if it is the first of its key and is not of an own write.
 fn note_value(own: bool, reads: &mut ReadSet, key: Key, value: Value) -> Latest
     requires { 0 < reads.old.room }
     ensures reads { reads.new.items ≡ noting own reads.old.items key (Some value) }

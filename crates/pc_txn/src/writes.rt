@@ -13,8 +13,8 @@ use std::alloc::{AllocError, Global};
 use std::cmp::Ordering;
 use std::marker::Model;
 
-/// What one transaction has written: of each key all its changes as one, in the order of first writes. A key is found by a
-/// binary search.
+/// The writes of one transaction: of each key all its changes as one, in the order of first writes. A key is found by a binary
+/// search.
 #[derive(Drop)]
 pub struct WriteSet {
     writes: Vec<Write>,
@@ -36,7 +36,7 @@ impl Model for WriteSet {
 }
 
 impl WriteSet {
-    /// No writes. It takes no memory.
+    /// No writes. It allocates no memory.
     pub fn new(alloc: Global) -> WriteSet
         ensures { result.items ≡ [] }
     {
@@ -54,7 +54,7 @@ impl WriteSet {
         self.writes.as_slice()
     }
 
-    /// How many keys are written.
+    /// The number of keys written.
     pub fn len(&self) -> usize
         ensures { result ≡ length self.now.items }
     {
@@ -75,7 +75,7 @@ impl WriteSet {
         self.writes.len() == MOST_WRITES && !self.has(key)
     }
 
-    /// Makes room for a write. It fails only where memory ran out, never where there is room, and the writes stay.
+    /// Makes room for a write. It fails only if an allocation fails, never if there is room, and the writes stay.
     pub fn reserve(&mut self) -> Result<(), AllocError>
         ensures room { OnOk result (0 < self.new.room) }
         ensures at_hand { 0 < self.old.room → IsOk result }
@@ -97,7 +97,8 @@ impl WriteSet {
         }
     }
 
-    /// Notes a write, for which there is room: merged with the earlier write of its key, or else at the end. It takes no memory.
+    /// Notes a write, for which there is room: merged with the earlier write of its key, or else at the end. It allocates no
+    /// memory.
     pub fn note(&mut self, alloc: Global, write: Write)
         requires room { 0 < self.old.room }
         requires merges { CanMerge (written self.old.items write.key) write.change }
@@ -140,7 +141,7 @@ impl WriteSet {
     }
 }
 
-// Makes room for a write: for the first one alone, since most transactions write one key, and then for ever more at once.
+// Makes room for a write: for the first one alone, since most transactions write one key, and then for more and more at a time.
 fn make_room(writes: &mut Vec<Write>) -> Result<(), AllocError>
     ensures room { OnOk result (vec_len writes.new + 1 ≤ vec_capacity writes.new) }
     ensures at_hand { vec_len writes.old + 1 ≤ vec_capacity writes.old → IsOk result }
@@ -155,7 +156,7 @@ fn make_room(writes: &mut Vec<Write>) -> Result<(), AllocError>
     }
 }
 
-// How the key at the place is ordered against this one; past the last place stand no bytes.
+// The order of the key at the place and this one; past the last place there are no bytes.
 fn compare_at(writes: &[Write], place: usize, key: &Key) -> Ordering
     ensures { result ≡ key_cmp (key_at (written_keys writes.now) place) key.now }
 {
@@ -165,7 +166,7 @@ fn compare_at(writes: &[Write], place: usize, key: &Key) -> Ordering
     }
 }
 
-// Where the key stands in the order, or else where it would go: a binary search.
+// The place of the key in the order, or else the place where it would go: a binary search.
 fn position(writes: &[Write], order: &[usize], key: &Key) -> Result<usize, usize>
     requires { IsOrder (written_keys writes.now) order.now }
     ensures at { IfOk result (IsAt (entries (written_keys writes.now) order.now) key.now) }

@@ -1,4 +1,4 @@
--- Fields of a text that is cut off: each is read as it is of the whole text, or the text is found to be short.
+-- Fields of a text that is truncated: each is read as it is of the whole text, or the text is found to be short.
 use Rattle.std.proofs.Common.{◌≡◌, ℕ, zero, suc, ◌<◌, Bool, true, false, ltb, eqb, List, [], ◌∷◌, ◌++◌, length, get_or, take, drop, Result, Ok, Err, refl, sym, ap, subst, ◌∙◌, drop-cons, arith, inl, inr}
 use Rattle.std.specs.Prelude.{◌+◌, nat_le, ◌&&◌, if◌then◌else◌, ⊤}
 use Rattle.std.specs.Int.{Width, w32, byte_len, from_be_bytes}
@@ -9,14 +9,14 @@ use Rattle.pc_types.specs.declared.refusal.Refusal.TheVariants.{Short, BadLength
 use Rattle.pc_types.specs.declared.formats.Format.{Format}
 use Rattle.pc_types.specs.Fields.{◌>>=◌, where_true, bytes_at, number_at, format_told, magic_at, sized_key_at, space_bytes, value_at, content_at}
 
--- What is read of a whole text, and then of a beginning of it: the two are alike in this way, or the beginning is short.
--- Of a whole text with a fault nothing is said.
+-- What is read of a whole text, and then of a prefix of it: the two are alike in this way, or the prefix is short. Of a
+-- whole text with a fault nothing is said.
 abbrev pub IsCut : {X : Type 0} → (X → X → Type 0) → Result X Refusal → Result X Refusal → Type 0
 IsCut Alike (Err e) cut = ⊤
 IsCut Alike (Ok x) (Ok y) = Alike x y
 IsCut Alike (Ok x) (Err e) = e ≡ Short
 
--- the bytes left of a whole text are those left of a beginning of it, and these behind them
+-- the bytes left of a whole text are those left of a prefix of it, and these after them
 abbrev pub LeavesMore : List ℕ → List ℕ → List ℕ → Type 0
 LeavesMore more x y = x ≡ y ++ more
 
@@ -35,17 +35,17 @@ cut_steps P Q (Err e) q f g h k = tt
 cut_steps P Q (Ok x) (Ok y) f g h k = k x y h
 cut_steps P Q (Ok x) (Err e) f g h k = rw h (short_is_cut Q (f x))
 
--- the same behind a field
+-- the same after a field
 pub cut_then : {X Y : Type 0} (more : List ℕ) (Q : Y → Y → Type 0) (p q : Result (X × List ℕ) Refusal) (f g : X × List ℕ → Result Y Refusal) → IsCut (ReadsAlike more) p q
     → ((x : X) (rest : List ℕ) → IsCut Q (f (x, rest ++ more)) (g (x, rest))) → IsCut Q (p >>= f) (q >>= g)
 cut_then {X} more Q p q f g h k = cut_steps (ReadsAlike more) Q p q f g h (λ (x y : X × List ℕ) (alike : ReadsAlike more x y). subst (λ (z : X × List ℕ). IsCut Q (f z) (g y)) (λ i. (sym alike.0 i, sym alike.1 i)) (k y.0 y.1))
 
--- behind bytes of which nothing is made
+-- after bytes of which nothing is made
 pub cut_behind : {Y : Type 0} (more : List ℕ) (Q : Y → Y → Type 0) (p q : Result (List ℕ) Refusal) (f g : List ℕ → Result Y Refusal) → IsCut (LeavesMore more) p q
     → ((rest : List ℕ) → IsCut Q (f (rest ++ more)) (g rest)) → IsCut Q (p >>= f) (q >>= g)
 cut_behind more Q p q f g h k = cut_steps (LeavesMore more) Q p q f g h (λ (x y : List ℕ) (alike : LeavesMore more x y). subst (λ (z : List ℕ). IsCut Q (f z) (g y)) (sym alike) (k y))
 
--- behind a test
+-- after a test
 pub cut_where : {X Y : Type 0} (Q : Y → Y → Type 0) (test : Bool) (fault : Refusal) (x y : X) (f g : X → Result Y Refusal) → IsCut Q (f x) (g y) → IsCut Q (where_true test fault x >>= f) (where_true test fault y >>= g)
 cut_where Q true fault x y f g h = h
 cut_where Q false fault x y f g h = tt
@@ -60,11 +60,11 @@ pub cut_either : {X : Type 0} (P : X → X → Type 0) (test : Bool) (p q r s : 
 cut_either P true p q r s h k = h
 cut_either P false p q r s h k = k
 
--- the two are not alike: of the beginning of a text that is read to its end nothing is read
+-- the two are not alike: of the prefix of a text that is read to its end nothing is read
 abbrev pub Never : {X : Type 0} → X → X → Type 0
 Never x y = ⊥
 
--- behind the end of the fields
+-- after the end of the fields
 pub cut_end : {X : Type 0} (rest : List ℕ) (byte : ℕ) (more : List ℕ) (x : X) (r : Result X Refusal) → IsCut Never (where_true (eqb (length (rest ++ byte ∷ more)) 0) Trailing x) r
 cut_end rest byte more x r = let some : eqb (length (rest ++ byte ∷ more)) 0 ≡ false = ne_eqb _ _ (λ none. omega (arith, none, length-append rest (byte ∷ more))) in rw some tt
 
@@ -73,7 +73,7 @@ never_alike (Ok y) (Ok z) x h e = absurd h
 never_alike (Ok y) (Err fault) x h e = rw h refl
 never_alike (Err fault) s x h e = absurd cc
 
--- a text that is read to its end is short where it is cut off
+-- a text that is read to its end is short if it is truncated
 pub cut_is_short : {X : Type 0} (read : List ℕ → Result X Refusal) → ((bytes : List ℕ) (byte : ℕ) (more : List ℕ) → IsCut Never (read (bytes ++ byte ∷ more)) (read bytes))
     → (text : List ℕ) (x : X) (n : ℕ) → read text ≡ Ok x → n < length text → read (take n text) ≡ Err Short
 cut_is_short read cuts text x n whole lt =
@@ -100,7 +100,7 @@ bytes_cut count bytes more = first_cut (λ text. text) count bytes more
 pub number_cut : (w : Width) (bytes more : List ℕ) → IsCut (ReadsAlike more) (number_at Short w (bytes ++ more)) (number_at Short w bytes)
 number_cut w bytes more = first_cut (from_be_bytes w) (byte_len w) bytes more
 
--- behind a step that doesn't look at the bytes
+-- after a step that doesn't look at the bytes
 cut_known : {X Y : Type 0} (Q : Y → Y → Type 0) (r : Result X Refusal) (f g : X → Result Y Refusal) → ((x : X) → IsCut Q (f x) (g x)) → IsCut Q (r >>= f) (r >>= g)
 cut_known Q (Ok x) f g h = h x
 cut_known Q (Err e) f g h = tt

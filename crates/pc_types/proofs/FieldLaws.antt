@@ -53,7 +53,7 @@ ok_is x y e = cc
 pub TakesText-then : (a x b y c : List ℕ) → TakesText a x b → TakesText b y c → TakesText a (x ++ y) c
 TakesText-then a x b y c p q = record { parts = p.parts ∙ ap (λ (t : List ℕ). x ++ t) q.parts ∙ sym (append_assoc x y c); rest_fits = q.rest_fits }
 
--- ---- so many bytes
+-- ---- that many bytes
 
 pub bytes_take : (missing : Refusal) (count : ℕ) (bytes text rest : List ℕ) → IsBytes bytes → bytes_at missing count bytes ≡ Ok (text, rest) → TakesText bytes text rest × (length text ≡ count)
 bytes_take missing count bytes text rest fits e =
@@ -152,7 +152,7 @@ magic_again first second format rest apart len =
 
 -- ---- keys, values and contents
 
--- what stands behind the length of a key that the format has, and the key behind it
+-- the bytes after the length of a key that the format has, and the key after it
 key_is_behind : (format : Format) (key : List ℕ) → IsKey key → HasKey format key → key_behind format (sized_key_text format key) ≡ key
 key_is_behind Second key is_key has = refl
 key_is_behind First [] is_key has = absurd (let long : 3 ≤ 0 = is_key.0 in omega arith)
@@ -169,7 +169,7 @@ sized_length First [] is_key = refl
 sized_length First (h ∷ []) is_key = refl
 sized_length First (h ∷ l ∷ own) is_key = omega arith
 
--- what was read behind a length: a key whose text it is
+-- what was read after a length: a key whose text it is
 made : (format : Format) (count : ℕ) (text : List ℕ) → 1 ≤ count → count ≤ 255 → length text ≡ count + space_bytes format
     → (sized_key_text format (key_behind format text) ≡ text) × (length (key_behind format text) ≡ count + 2) × IsKey (key_behind format text) × HasKey format (key_behind format text)
 made First count text few many len = (refl, omega (arith, len), (omega (arith, len, few), omega (arith, len, many)), refl)

@@ -9,11 +9,11 @@ use Rattle.pc_types.specs.Heads.{spelled, headed, head}
 use Rattle.pc_types.proofs.FieldLaws.{IsBytes-rest, IsBytes-drop}
 use Rattle.pc_types.proofs.WordOrder.{digit, then_assoc}
 
--- where x decides, it is the order o
+-- if x decides, it is the order o
 abbrev Decides : Ordering → Ordering → Type 0
 Decides x o = x ≢ Equal → o ≡ x
 
--- what the numbers so far say, where nothing else is said
+-- what the numbers so far say, if nothing else is said
 first_alone : (x p o : Ordering) → x ≡ p → Decides x (ordering_then p o)
 first_alone x Less o is apart = sym is
 first_alone x Equal o is apart = absurd (apart is)
@@ -46,7 +46,7 @@ below_digit v o Less h far = inr refl
 below_digit v o Equal h far = far
 below_digit v o Greater h far = let t : v < 0 = h in absurd (omega arith)
 
--- the numbers with one more digit each, and what comes behind
+-- the numbers with one more digit each, and what comes after
 next : (n m u v : ℕ) (o : Ordering) → u < 256 → v < 256 → ordering_then (nat_cmp (n * 256 + u) (m * 256 + v)) o ≡ ordering_then (nat_cmp n m) (ordering_then (nat_cmp u v) o)
 next n m u v o p q = ap (λ r. ordering_then r o) (digit n m u v p q) ∙ sym (then_assoc (nat_cmp n m) (nat_cmp u v) o)
 
@@ -66,7 +66,7 @@ spelled_decides (suc k) n m [] (v ∷ vs) g h =
 spelled_decides (suc k) n m (u ∷ us) (v ∷ vs) g h =
     on _ _ _ (next n m u v (slice_cmp nat_cmp us vs) (g 0) (h 0)) (spelled_decides k (n * 256 + u) (m * 256 + v) us vs (IsBytes-rest u us g) (IsBytes-rest v vs h))
 
--- what stands before eight digits counts 2 ^ 64 times
+-- the number before eight digits counts 2 ^ 64 times
 carried : (n : ℕ) (bytes : List ℕ) → spelled 8 n bytes ≡ n * 2 ^ 64 + spelled 8 0 bytes
 carried n [] = omega arith
 carried n (a ∷ []) = omega arith
@@ -102,7 +102,7 @@ heads_rise zero (suc t) x y p q lt = omega (arith, p)
 heads_rise (suc s) zero x y p q lt = absurd (omega (arith, lt, q))
 heads_rise (suc s) (suc t) x y p q lt = omega (arith, lt, p, q)
 
--- where numbers that differ are never turned round, others are ordered as they are
+-- if numbers that differ are never turned round, others are ordered as they are
 as_heads : (a b n m : ℕ) → (a < b → n < m) → (b < a → m < n) → nat_cmp a b ≢ Equal → nat_cmp n m ≡ nat_cmp a b
 as_heads a b n m up down apart = by (nat_cmp a b) refl (ranks a b)
   where

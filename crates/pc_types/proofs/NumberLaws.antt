@@ -1,4 +1,4 @@
--- Numbers, the bytes that stand for them, and their sums.
+-- Numbers, the bytes that represent them, and their sums.
 use Rattle.std.proofs.Common.{◌≡◌, ◌^◌, ◌<◌, refl, ap, ◌∙◌, Bool, true, false, Some, None, is_some, arith}
 use Rattle.std.specs.Prelude.{ℤ, pos, negsuc, ◌+ℤ◌, FitsSigned, if◌then◌else◌}
 use Rattle.std.specs.Int.{w64, cast_signed, cast_unsigned}
@@ -12,7 +12,7 @@ pub fits_is : (z : ℤ) → fits z ≡ true → FitsSigned w64 z
 fits_is (pos n) e = record { sfits = grind (arith, nat_tests) }
 fits_is (negsuc n) e = record { sfits = grind (arith, nat_tests) }
 
--- and passes it where it fits
+-- and passes it if it fits
 pub is_fit : (z : ℤ) → FitsSigned w64 z → fits z ≡ true
 is_fit (pos n) f = let small : n < 2 ^ 63 = f.sfits in grind (arith, nat_tests)
 is_fit (negsuc n) f = let small : n < 2 ^ 63 = f.sfits in grind (arith, nat_tests)
@@ -32,7 +32,7 @@ pub none_is : number_of None ≡ Some (pos 0)
 unfolding number_of
 none_is = refl
 
--- where the sum is there, it is the sum, and it fits
+-- if the sum is there, it is the sum, and it fits
 pub is_sum : (a b : ℤ) → is_some (sum_of a b) ≡ true → (sum_of a b ≡ Some (a +ℤ b)) × (fits (a +ℤ b) ≡ true)
 is_sum a b some = by_test (fits (a +ℤ b)) refl some
   where

@@ -1,4 +1,4 @@
--- What goes out one after the other.
+-- What goes out in order.
 use Rattle.std.proofs.Common.{◌≤◌, ◌<◌, ℕ, List, ◌++◌, length, get_or, take, Option, Result, Ok, Err, arith}
 use Rattle.std.specs.List.{flat_map}
 use Rattle.std.specs.Io.KnownBytes.{Appends}

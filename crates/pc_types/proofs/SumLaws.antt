@@ -6,7 +6,7 @@ use Rattle.std.proofs.lemmas.Bool.Decides.{nat_tests}
 use Rattle.pc_types.specs.Changes.{fits, number_in, number_of, sum_of, sum_if}
 use Rattle.pc_types.proofs.NumberLaws.{fits_is, is_fit, none_is, from_zero}
 
--- an answer that is the sum exactly where it fits
+-- an answer that is the sum if and only if it fits
 pub sum_is : (a b : ℤ) (result : Option ℤ) → SomeIff result (FitsSigned w64 (a +ℤ b)) (a +ℤ b) → result ≡ sum_of a b
 sum_is a b (Some x) is = ap Some is.1 ∙ sym (ap (λ t. if t then Some (a +ℤ b) else None) (is_fit (a +ℤ b) is.0))
 sum_is a b None is = by_test (fits (a +ℤ b)) refl
@@ -38,7 +38,7 @@ zero_with d f = sym (ap (λ o. sum_if o d) none_is ∙ by_sum (pos 0 +ℤ d) (fr
     by_sum : (z : ℤ) → z ≡ d → (if fits z then Some z else None) ≡ Some d
     by_sum z e = ap (λ x. if fits x then Some x else None) e ∙ ap (λ t. if t then Some d else None) (is_fit d f)
 
--- a value has a number where it has eight bytes
+-- a value has a number if it has eight bytes
 pub has_number : (value : List ℕ) → is_some (number_of (Some value)) ≡ (length value == 8)
 unfolding number_of
 has_number value = by_test (length value == 8)

@@ -45,7 +45,7 @@ numbers (suc k) n m (u ∷ us) (v ∷ vs) p q g h =
     ∙ ap (λ r. ordering_then r (slice_cmp nat_cmp (take k us) (take k vs))) (digit n m u v (g 0) (h 0))
     ∙ sym (then_assoc (nat_cmp n m) (nat_cmp u v) (slice_cmp nat_cmp (take k us) (take k vs)))
 
--- the first k bytes of each decide, or else those behind them
+-- the first k bytes of each decide, or else those after them
 split : (k : ℕ) (us vs : List ℕ) → k ≤ length us → k ≤ length vs → slice_cmp nat_cmp us vs ≡ ordering_then (slice_cmp nat_cmp (take k us) (take k vs)) (slice_cmp nat_cmp (drop k us) (drop k vs))
 split zero us vs p q = refl
 split (suc k) [] vs p q = absurd (omega arith)
@@ -55,7 +55,7 @@ split (suc k) (u ∷ us) (v ∷ vs) p q =
     ∙ then_assoc (nat_cmp u v) (slice_cmp nat_cmp (take k us) (take k vs)) (slice_cmp nat_cmp (drop k us) (drop k vs))
 
 module _ (us vs : List ℕ) (i : ℕ) where
-  -- behind bytes that are the same
+  -- after bytes that are the same
   pub past_byte : i < length us → i < length vs → get_or us i 0 ≡ get_or vs i 0 → slice_cmp nat_cmp (drop i us) (drop i vs) ≡ slice_cmp nat_cmp (drop (i + 1) us) (drop (i + 1) vs)
   past_byte p q e =
       (λ t. slice_cmp nat_cmp (drop-cons us i 0 p t) (drop-cons vs i 0 q t))
@@ -87,7 +87,7 @@ module _ (us vs : List ℕ) (i : ℕ) where
       ended (x ∷ xs) [] a b = let t : length vs < length us = omega (arith, e, a, b) in sym (nat_cmp_is (length us) (length vs) Greater t)
       ended (x ∷ xs) (y ∷ ys) a b = absurd (omega (arith, e, a, b))
 
--- so many bytes of each, read as a word
+-- that many bytes of each, read as a word
 module _ (w : ℕ) (us vs : List ℕ) (g : IsBytes us) (h : IsBytes vs) (i x y : ℕ) (p : i + w ≤ length us) (q : i + w ≤ length vs)
     (a : x ≡ big_endian 0 (take w (drop i us))) (b : y ≡ big_endian 0 (take w (drop i vs))) where
   word : nat_cmp x y ≡ slice_cmp nat_cmp (take w (drop i us)) (take w (drop i vs))
@@ -98,7 +98,7 @@ module _ (w : ℕ) (us vs : List ℕ) (g : IsBytes us) (h : IsBytes vs) (i x y :
       split w (drop i us) (drop i vs) (omega (arith, length-drop i us)) (omega (arith, length-drop i vs))
       ∙ (λ t. ordering_then (sym word t) (slice_cmp nat_cmp (drop-drop w i us t) (drop-drop w i vs t)))
 
-  -- behind words that are the same
+  -- after words that are the same
   pub past_word : x ≡ y → slice_cmp nat_cmp (drop i us) (drop i vs) ≡ slice_cmp nat_cmp (drop (i + w) us) (drop (i + w) vs)
   past_word e = here ∙ ap (λ r. ordering_then r (slice_cmp nat_cmp (drop (i + w) us) (drop (i + w) vs))) (level x y e)
 

@@ -9,7 +9,7 @@ use Rattle.pc_types.specs.declared.formats.Format.{Format}
 use Rattle.pc_types.specs.declared.formats.Format.TheVariants.{First, Second}
 use Rattle.pc_types.specs.Keys.{space_of, own_bytes}
 
--- what stands of a key behind the length of its own bytes: format 01 leaves its space out
+-- the bytes of a key after the length of its own bytes: format 01 leaves its space out
 abbrev pub sized_key_text : Format → List ℕ → List ℕ
 sized_key_text First key = own_bytes key
 sized_key_text Second key = key
@@ -36,7 +36,7 @@ abbrev pub content_text : Option (List ℕ) → List ℕ
 content_text None = 0 ∷ []
 content_text (Some value) = 1 ∷ value_text value
 
--- one after the other, as long as none has a fault
+-- in order, as long as none has a fault
 infixl 10 ◌>>=◌
 abbrev pub ◌>>=◌ : {A B : Type 0} → Result A Refusal → (A → Result B Refusal) → Result B Refusal
 (Ok x) >>= f = f x
@@ -47,18 +47,18 @@ abbrev pub Reads : {X Y : Type 0} → (X → Y) → Result X Refusal → Result 
 Reads view (Ok x) read = read ≡ Ok (view x)
 Reads view (Err e) read = read ≡ Err e
 
--- the same of a call that takes memory: it is what is read, or memory ran out
+-- the same of a call that takes memory: it is what is read, or an allocation failed
 abbrev pub Gives : {X Y : Type 0} → (X → Y) → Result X Refusal → Result Y Refusal → Type 0
 Gives view (Ok x) read = read ≡ Ok (view x)
 Gives view (Err e) read = e ≢ OutOfMemory → read ≡ Err e
 
--- the value where the test holds, else the fault
+-- the value if the test holds, else the fault
 abbrev pub where_true : {A : Type 0} → Bool → Refusal → A → Result A Refusal
 where_true test fault x = if test then Ok x else Err fault
 
--- A field is its value and the bytes after it. Where the bytes end inside it, the fault is the one given.
+-- A field is its value and the bytes after it. If the bytes end inside it, the fault is the one given.
 
--- so many bytes
+-- that many bytes
 abbrev pub bytes_at : Refusal → ℕ → List ℕ → Result (List ℕ × List ℕ) Refusal
 bytes_at missing count bytes = if nat_lt (length bytes) count then Err missing else Ok (take count bytes, drop count bytes)
 
@@ -66,28 +66,28 @@ bytes_at missing count bytes = if nat_lt (length bytes) count then Err missing e
 abbrev pub number_at : Refusal → Width → List ℕ → Result (ℕ × List ℕ) Refusal
 number_at missing w bytes = if nat_lt (length bytes) (byte_len w) then Err missing else Ok (from_be_bytes w (take (byte_len w) bytes), drop (byte_len w) bytes)
 
--- the format that these bytes tell, of which the first magic tells format 01, and the second one 02
+-- the format of these bytes: 01 if they are the first magic, and 02 if the second
 abbrev pub format_told : List ℕ → List ℕ → List ℕ → Result Format Refusal
 format_told first second magic = if pointwise nat_eq magic second then Ok Second else where_true (pointwise nat_eq magic first) BadMagic First
 
--- the format that one of two magics of 8 bytes tells, and the bytes after it
+-- the format of one of two magics of 8 bytes, and the bytes after it
 unfoldable pub magic_at : List ℕ → List ℕ → List ℕ → Result (Format × List ℕ) Refusal
 magic_at first second bytes = do
   magic ← bytes_at Short 8 bytes
   format ← format_told first second magic.0
   Ok (format, magic.1)
 
--- how many bytes stand of a key beside its own
+-- the number of bytes of a key besides its own
 abbrev pub space_bytes : Format → ℕ
 space_bytes First = 0
 space_bytes Second = SPACE_BYTES
 
--- the key of what stands behind the length
+-- the key of the bytes after the length
 abbrev pub key_behind : Format → List ℕ → List ℕ
 key_behind First text = 0 ∷ 0 ∷ text
 key_behind Second text = text
 
--- a key of so many bytes of its own
+-- a key of that many bytes of its own
 unfoldable pub sized_key_at : Format → Refusal → ℕ → List ℕ → Result (List ℕ × List ℕ) Refusal
 sized_key_at format missing count bytes = do
   lawful ← where_true (nat_le 1 count && nat_le count MOST_KEY_BYTES) BadLength count

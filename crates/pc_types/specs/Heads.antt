@@ -1,18 +1,18 @@
 -- The first bytes of a key as one number.
 use Rattle.std.specs.Prelude.{ℕ, zero, suc, ◌+◌, ◌*◌, ◌/◌, ◌^◌, List, [], ◌∷◌, drop}
 
--- the number of so many digits of base 256 after n: the bytes, and behind the last of them zeros
+-- the number of that many digits of base 256 after n: the bytes, and after the last of them zeros
 abbrev pub spelled : ℕ → ℕ → List ℕ → ℕ
 spelled zero n bytes = n
 spelled (suc k) n [] = spelled k (n * 256 + 0) []
 spelled (suc k) n (b ∷ bytes) = spelled k (n * 256 + b) bytes
 
 -- A number of 64 bits for a space and the first eight of a key's own bytes. In space 0 it is their first 63 bits; in another one
--- the highest bit is set, the space stands behind it, and their first 47 bits.
+-- the highest bit is set, the space follows it, and their first 47 bits.
 abbrev pub headed : ℕ → ℕ → ℕ
 headed zero own = own / 2
 headed (suc space) own = 2 ^ 63 + (suc space * 2 ^ 47 + own / 2 ^ 17)
 
--- the head of a key, as of one with zeros behind it
+-- the head of a key, as of one with zeros after it
 abbrev pub head : List ℕ → ℕ
 head key = headed (spelled 2 0 key) (spelled 8 0 (drop 2 key))

@@ -1,4 +1,4 @@
--- What a key feeds to a hash: its bytes, in one write.
+-- The input of a key's hash: its bytes, in one write.
 use Rattle.std.specs.Prelude.{◌≡◌, ℕ, List, [], ◌∷◌, IsTrue}
 use Rattle.std.specs.Ordering.{nat_cmp, eq_by_cmp}
 use Rattle.std.specs.Cmp.{Equal-is}

@@ -1,5 +1,5 @@
 -- Keys. A key is a space, which is a number of 16 bits, and 1 to 255 bytes of its own. It is seen as the list of its space's two
--- bytes, the higher one first, and its own bytes behind them: keys and such lists correspond one to one, and the order of the lists,
+-- bytes, the higher one first, and its own bytes after them: keys and such lists correspond one to one, and the order of the lists,
 -- byte by byte, is the order by space and then by own bytes.
 use Rattle.std.specs.Prelude.{◌≡◌, ℕ, ◌≤◌, ◌<◌, ◌^◌, List, ◌++◌, length, take, drop}
 use Rattle.std.specs.Int.{w16, to_be_bytes, from_be_bytes}

@@ -6,7 +6,7 @@ use crate::keys::Key;
 use crate::values::Value;
 use std::alloc::{AllocError, Global};
 
-/// What a write does to its key.
+/// The effect of a write on its key.
 #[derive(Drop)]
 pub enum Change {
     /// The key has this value then.
@@ -14,12 +14,13 @@ pub enum Change {
     /// The key has no value then.
     Remove,
     /// This is added to the number that the key has. A value of eight bytes is a number, in two's complement with the highest
-    /// byte first, and no value counts as 0. Where the key has another value, or the sum leaves 64 bits, nothing changes.
+    /// byte first, and no value counts as 0. If the key has another value, or the sum leaves 64 bits, nothing changes.
     Add(i64),
 }
 
 impl Change {
-    /// The same change once more. It takes memory only for a value of more than 16 bytes, and fails only where that ran out.
+    /// A copy of the change. It allocates memory only for a value of more than 16 bytes, and fails only if that allocation
+    /// fails.
     pub fn copy(&self, alloc: Global) -> Result<Change, AllocError>
         ensures { IfOk result (λ change. change ≡ self.now) }
     {
@@ -30,7 +31,7 @@ impl Change {
         }
     }
 
-    /// Whether an add behind this change can be kept as one change with it: the sum of two adds must have 64 bits.
+    /// Whether an add after this change can be kept as one change with it: the sum of two adds must have 64 bits.
     pub fn can_add(&self, delta: i64) -> bool
         ensures { result ≡ can_add (Some self.now) delta }
     {
@@ -40,7 +41,7 @@ impl Change {
         }
     }
 
-    /// A later change of the same key is merged with this one. It takes no memory.
+    /// A later change of the same key is merged with this one. It allocates no memory.
     pub fn merge(&mut self, alloc: Global, later: Change)
         requires { CanMerge (Some self.old) later }
         ensures { self.new ≡ merged self.old later }
@@ -68,14 +69,14 @@ impl Change {
     }
 }
 
-/// A number of 64 bits with a sign fits where one is asked for: its type says so, and nothing is done.
+/// A number of 64 bits with a sign fits if one is asked for: its type says so, and nothing is done.
 pub fn number_fits(number: i64)
     ensures { fits number ≡ true }
 {
     let _ = number;
 }
 
-/// The number that a key has once this is added to what it has, a value or nothing; None where the value is no number, or the
+/// The number that a key has once this is added to what it has, a value or nothing; `None` if the value is no number, or the
 /// sum leaves 64 bits.
 pub fn sum(there: Option<&Value>, delta: i64) -> Option<i64>
     ensures { result ≡ added delta (option_copied there.entry) }
@@ -116,7 +117,7 @@ pub struct Write {
 }
 
 impl Write {
-    /// The same write once more. It fails only where memory ran out.
+    /// A copy of the write. It fails only if an allocation fails.
     pub fn copy(&self, alloc: Global) -> Result<Write, AllocError>
         ensures { IfOk result (λ write. write ≡ self.now) }
     {

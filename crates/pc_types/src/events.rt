@@ -10,7 +10,7 @@ use crate::refusal::Refusal;
 use crate::values::Value;
 use std::alloc::{AllocError, Global};
 
-/// The five phases of a checkpoint's cycle, in their order; rest stands between two cycles.
+/// The five phases of a checkpoint's cycle, in their order; rest is between two cycles.
 #[derive(Clone, Copy, Debug, PartialEq, Eq)]
 pub enum Phase {
     Rest,
@@ -50,7 +50,7 @@ pub enum Entry {
 }
 
 impl Entry {
-    /// The same entry once more; a commit's writes take no more room than they are many. It fails only where memory ran out.
+    /// A copy of the entry; its list of writes has exactly the needed capacity. It fails only if an allocation fails.
     pub fn copy(&self, alloc: Global) -> Result<Entry, AllocError>
         ensures { IfOk result (λ entry. entry ≡ self.now) }
     {
@@ -64,7 +64,7 @@ impl Entry {
     }
 }
 
-// The same writes once more.
+// A copy of the writes.
 fn copy_writes(alloc: Global, writes: &[Write]) -> Result<Vec<Write>, AllocError>
     ensures { IfOk result (λ copies. copies.items ≡ writes.now) }
 {
@@ -75,7 +75,7 @@ fn copy_writes(alloc: Global, writes: &[Write]) -> Result<Vec<Write>, AllocError
     Ok(copies)
 }
 
-/// What a client or the checkpointer asks of the store.
+/// A request of a client or of the checkpointer to the store.
 #[derive(Drop)]
 pub enum Event {
     /// The session begins a transaction.
@@ -86,7 +86,7 @@ pub enum Event {
     Put(SessionNo, Key, Value),
     /// The session's transaction removes the key.
     Del(SessionNo, Key),
-    /// The session's transaction adds this to the number that the key has, or to 0 where it has no value.
+    /// The session's transaction adds this to the number that the key has, or to 0 if it has no value.
     Add(SessionNo, Key, i64),
     /// The session's transaction commits.
     Commit(SessionNo),
@@ -108,7 +108,7 @@ pub enum Event {
     Join(FileNo, FileNo),
 }
 
-/// What the store answers.
+/// A reply of the store.
 #[derive(Drop)]
 pub enum Reply {
     /// Begin: the transaction's number.
@@ -131,7 +131,7 @@ pub enum Reply {
     Aborted,
     /// The phase is now this one, in the cycle of this point.
     Phase(Phase, Point),
-    /// The phase can't change yet: so many transactions are active, or, at Done, so many keys left to take.
+    /// The phase can't change yet: the number of active transactions, or, at Done, of keys left to take.
     NotYet(u32),
     /// Take: the key and what it had at the point, a value or nothing.
     Took(Key, Option<Value>),
@@ -139,7 +139,7 @@ pub enum Reply {
     NoneLeft,
     /// Done: the point, its file's number on the shelf, and how many entries it has.
     PartDone(Point, FileNo, u32),
-    /// Join: the file's number on the shelf, its points in rising order, and how many entries it has.
+    /// Join: the file's number on the shelf, its points in ascending order, and how many entries it has.
     File(FileNo, Items<Point>, u32),
     /// The event was refused and changed nothing.
     Refused(Refusal),

@@ -1,5 +1,5 @@
-//! The fields of a text, read from left to right. A field is its value and the bytes after it; where the bytes end
-//! inside it, the fault is the one that the caller gives.
+//! The fields of a text, read from left to right. A field is its value and the bytes after it; if the bytes end inside it, the
+//! fault is the one that the caller gives.
 ghost use Rattle.std.specs.Prelude.{◌≡◌, ◌≤◌, length, IfOk};
 ghost use Rattle.std.specs.Int.{w16, w32, w64};
 ghost use Rattle.pc_types.specs.Limits.{IsKey};
@@ -12,7 +12,7 @@ use crate::refusal::Refusal;
 use crate::values::Value;
 use std::alloc::Global;
 
-/// So many bytes. Refuses with `missing` exactly where there are fewer.
+/// The given number of bytes. Returns `missing` if and only if there are fewer.
 pub fn read_bytes(bytes: &[u8], count: usize, missing: Refusal) -> Result<(&[u8], &[u8]), Refusal>
     ensures read { Reads (λ x. (x.0.now, x.1.now)) result (bytes_at missing count bytes.now) }
     ensures length { IfOk result (λ x. length x.0.now ≡ count) }
@@ -23,7 +23,7 @@ pub fn read_bytes(bytes: &[u8], count: usize, missing: Refusal) -> Result<(&[u8]
     Ok(bytes.split_at(count))
 }
 
-/// A number of 2 bytes, the higher one first. Refuses with `missing` exactly where there are fewer.
+/// A number of 2 bytes, the higher one first. Returns `missing` if and only if there are fewer.
 pub fn read_u16(bytes: &[u8], missing: Refusal) -> Result<(u16, &[u8]), Refusal>
     ensures { Reads (λ x. (x.0, x.1.now)) result (number_at missing w16 bytes.now) }
 {
@@ -34,7 +34,7 @@ pub fn read_u16(bytes: &[u8], missing: Refusal) -> Result<(u16, &[u8]), Refusal>
     Ok((u16::from_be_bytes([front[0], front[1]]), rest))
 }
 
-/// A number of 4 bytes, the highest one first. Refuses with `missing` exactly where there are fewer.
+/// A number of 4 bytes, the highest one first. Returns `missing` if and only if there are fewer.
 pub fn read_u32(bytes: &[u8], missing: Refusal) -> Result<(u32, &[u8]), Refusal>
     ensures { Reads (λ x. (x.0, x.1.now)) result (number_at missing w32 bytes.now) }
 {
@@ -46,7 +46,7 @@ pub fn read_u32(bytes: &[u8], missing: Refusal) -> Result<(u32, &[u8]), Refusal>
     Ok((number, rest))
 }
 
-/// A number of 8 bytes, the highest one first. Refuses with `missing` exactly where there are fewer.
+/// A number of 8 bytes, the highest one first. Returns `missing` if and only if there are fewer.
 pub fn read_u64(bytes: &[u8], missing: Refusal) -> Result<(u64, &[u8]), Refusal>
     ensures { Reads (λ x. (x.0, x.1.now)) result (number_at missing w64 bytes.now) }
 {
@@ -60,9 +60,8 @@ pub fn read_u64(bytes: &[u8], missing: Refusal) -> Result<(u64, &[u8]), Refusal>
     Ok((number, rest))
 }
 
-/// The format that the magic of 8 bytes tells, of which the first one given tells format 01, and the second one 02; and the
-/// bytes after it. Refuses with `Short` exactly where there are fewer than 8, else with `BadMagic` exactly where the first 8 are
-/// neither.
+/// The format of the magic of 8 bytes: 01 for the first of the given ones, 02 for the second; and the bytes after it. Returns
+/// `Short` if and only if there are fewer than 8, else `BadMagic` if and only if the first 8 are neither.
 #[tactic(auto, unfolding(crate::specs::Fields::magic_at))]
 pub fn read_magic<'a>(
     bytes: &'a [u8],
@@ -81,8 +80,8 @@ pub fn read_magic<'a>(
     Ok((Format::First, rest))
 }
 
-/// What stands of a key behind its length in this format, and the bytes after it. The length is that of its own bytes. Refuses
-/// with `BadLength` exactly where it isn't 1 to 255, else with `missing` exactly where there are fewer bytes.
+/// The bytes of a key after its length in this format, and the bytes after it. The length is that of its own bytes. Returns
+/// `BadLength` if and only if it isn't 1 to 255, else `missing` if and only if there are fewer bytes.
 #[tactic(auto, unfolding(crate::specs::Fields::sized_key_at))]
 pub fn read_key_text(
     format: Format,
@@ -103,8 +102,8 @@ pub fn read_key_text(
     }
 }
 
-/// A key whose length was read. Refuses with `BadLength` where that isn't 1 to 255, with `missing` where the bytes end inside
-/// the key, and with `OutOfMemory` only where a growth was refused.
+/// A key whose length was read. Refuses with `BadLength` if that isn't 1 to 255, with `missing` if the bytes end inside the key,
+/// and with `OutOfMemory` only if a growth was refused.
 pub fn read_sized_key(
     alloc: Global,
     format: Format,
@@ -118,8 +117,8 @@ pub fn read_sized_key(
     Ok((Key::of_text(alloc, format, text)?, rest))
 }
 
-/// A key, its length before it. Refuses with `BadLength` where the length isn't 1 to 255, with `missing` where the bytes
-/// end inside it, and with `OutOfMemory` only where a growth was refused.
+/// A key, its length before it. Refuses with `BadLength` if the length isn't 1 to 255, with `missing` if the bytes end inside
+/// it, and with `OutOfMemory` only if a growth was refused.
 #[tactic(auto, unfolding(crate::specs::Fields::key_at))]
 pub fn read_key(
     alloc: Global,
@@ -134,8 +133,8 @@ pub fn read_key(
     Ok((Key::of_text(alloc, format, text)?, rest))
 }
 
-/// A value, its length before it. Refuses with `BadLength` where it is longer than a value may be, with `missing` where
-/// the bytes end inside it, and with `OutOfMemory` only where a growth was refused.
+/// A value, its length before it. Refuses with `BadLength` if it is longer than a value may be, with `missing` if the bytes end
+/// inside it, and with `OutOfMemory` only if a growth was refused.
 #[tactic(auto, unfolding(crate::specs::Fields::value_at))]
 pub fn read_value(alloc: Global, bytes: &[u8], missing: Refusal) -> Result<(Value, &[u8]), Refusal>
     ensures { Gives (λ x. (x.0, x.1.now)) result (value_at missing bytes.now) }
@@ -148,9 +147,9 @@ pub fn read_value(alloc: Global, bytes: &[u8], missing: Refusal) -> Result<(Valu
     Ok((Value::new(alloc, value)?, rest))
 }
 
-/// What a key has: a kind of 0 and nothing, or a kind of 1 and a value. Refuses with `BadKind` at another kind, with
-/// `BadLength` where the value is longer than a value may be, with `missing` where the bytes end inside a field, and with
-/// `OutOfMemory` only where a growth was refused.
+/// The content of a key: a kind of 0 and nothing, or a kind of 1 and a value. Refuses with `BadKind` at another kind, with
+/// `BadLength` if the value is longer than a value may be, with `missing` if the bytes end inside a field, and with
+/// `OutOfMemory` only if a growth was refused.
 #[tactic(auto, unfolding(crate::specs::Fields::content_at))]
 pub fn read_content(
     alloc: Global,

@@ -1,10 +1,10 @@
 //! The two formats of files.
 
-/// How a file is written. The magic at its front tells which.
+/// The format of a file. The magic at its front determines it.
 #[derive(Clone, Copy, Debug, PartialEq, Eq)]
 pub enum Format {
-    /// Format 01, whose keys are all of space 0: a key's space doesn't stand in it. It is read, and no longer written.
+    /// Format 01, whose keys are all of space 0: it has no space of a key. It is read, and no longer written.
     First,
-    /// Format 02, which is written: a key's space stands between the length and the bytes of its own.
+    /// Format 02, which is written: a key's space is between the length and the bytes of its own.
     Second,
 }

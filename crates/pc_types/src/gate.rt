@@ -1,7 +1,7 @@
 //! Gates: what a loop of threads passes on its way, so that a test can have one wait for another.
 use crate::{Phase, SessionNo};
 
-/// Where a loop stands.
+/// The place of a loop.
 #[derive(Clone, Copy, Debug)]
 pub enum GatePlace {
     /// Before a transaction of this session begins.
@@ -16,9 +16,9 @@ pub enum GatePlace {
     GaveUp(SessionNo),
     /// Before the session's client waits until more of the log is written.
     Behind(SessionNo),
-    /// Before entries of the log are written, so many of which were before.
+    /// Before entries of the log are written; the number of entries written earlier.
     Writing(u32),
-    /// So many entries of the log are written.
+    /// The number of entries of the log that are written.
     Written(u32),
     /// Before the change into this phase is asked for.
     Due(Phase),
@@ -30,7 +30,8 @@ pub enum GatePlace {
     Pair(u8),
 }
 
-/// What a loop passes at each of its places. It may take its time, and changes nothing that a contract speaks of.
+/// The hook that a loop calls at each of its places. It may take its time, and changes nothing that a contract speaks
+/// of.
 pub trait Gate {
     fn pass(&self, place: GatePlace);
 }

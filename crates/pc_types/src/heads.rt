@@ -5,7 +5,7 @@ ghost use Rattle.pc_types.specs.Heads.{head, spelled};
 
 use crate::limits::SPACE_BYTES;
 
-/// The head of a key, which is given by its space's two bytes and its own behind them.
+/// The head of a key, which is given by its space's two bytes and its own after them.
 pub(crate) fn head_of(key: &[u8]) -> u64
     requires { SPACE_BYTES ≤ length key.now }
     ensures head { result ≡ head key.now }
@@ -20,7 +20,7 @@ pub(crate) fn head_of(key: &[u8]) -> u64
     }
 }
 
-// The first eight bytes as one number, the highest first, with zeros behind fewer.
+// The first eight bytes as one number, the highest first, with zeros after fewer.
 fn first_eight(bytes: &[u8]) -> u64
     ensures number { result ≡ spelled 8 0 bytes.now }
     ensures bytes { IsBytes bytes.now }

@@ -19,14 +19,14 @@ use std::cmp::Ordering;
 use std::hash::{Hash, Hasher};
 use std::marker::Model;
 
-// A key has at most so many bytes with its space's.
+// The most bytes of a key with its space's.
 const MOST_BYTES: usize = SPACE_BYTES + MOST_KEY_BYTES;
 
 /// A key: a space, which is a number from 0 to 65,535, and 1 to 255 bytes of its own, of which up to 16 lie inline. Keys are
-/// ordered by space, and in one space byte by byte, a proper beginning before what it begins.
+/// ordered by space, and in one space byte by byte, a proper prefix first.
 #[derive(Drop)]
 pub struct Key {
-    // The space's two bytes, the higher one first, and the key's own behind them.
+    // The space's two bytes, the higher one first, and the key's own after them.
     bytes: SmallVec<u8, 18>,
 }
 
@@ -45,8 +45,8 @@ impl Model for Key {
 }
 
 impl Key {
-    /// The key of these bytes in space 0. Refuses with `KeyLength` exactly where there are none or more than 255, and else
-    /// only with `OutOfMemory`, never for 1 to 16 bytes.
+    /// The key of these bytes in space 0. Returns `KeyLength` if and only if there are none or more than 255; otherwise the only
+    /// error is `OutOfMemory`, never for 1 to 16 bytes.
     pub fn new(alloc: Global, own: &[u8]) -> Result<Key, Refusal>
         ensures key { IfOk result (λ key. key ≡ key_of 0 own.now) }
         ensures in_limits { OnOk result (AreOwnBytes own.now) }
@@ -57,8 +57,8 @@ impl Key {
         Key::in_space(alloc, 0, own)
     }
 
-    /// The key of these bytes in a space. Refuses with `KeyLength` exactly where there are none or more than 255, and else only
-    /// with `OutOfMemory`, never for 1 to 16 bytes.
+    /// The key of these bytes in a space. Returns `KeyLength` if and only if there are none or more than 255; otherwise the only
+    /// error is `OutOfMemory`, never for 1 to 16 bytes.
     pub fn in_space(alloc: Global, space: u16, own: &[u8]) -> Result<Key, Refusal>
         ensures key { IfOk result (λ key. key ≡ key_of space own.now) }
         ensures in_limits { OnOk result (AreOwnBytes own.now) }
@@ -75,8 +75,8 @@ impl Key {
         }
     }
 
-    /// The key that a file has behind its length in this format. It takes memory only for more than 16 bytes of its own, and
-    /// fails only where that ran out.
+    /// The key that a file has after its length in this format. It allocates memory only for more than 16 bytes of its own, and
+    /// fails only if that allocation fails.
     pub(crate) fn of_text(alloc: Global, format: Format, text: &[u8]) -> Result<Key, AllocError>
         requires { IsKey (key_behind format text.now) }
         ensures { IfOk result (λ key. key ≡ key_behind format text.now) }
@@ -88,8 +88,8 @@ impl Key {
         Ok(Key { bytes })
     }
 
-    /// The key that is ordered by these bytes, which are given as `as_bytes` gives them. It takes memory only for more than 16
-    /// bytes of its own, and fails only where that ran out.
+    /// The key that is ordered by these bytes, which are given as `as_bytes` gives them. It allocates memory only for more than 16
+    /// bytes of its own, and fails only if that allocation fails.
     pub fn of_bytes(alloc: Global, bytes: &[u8]) -> Result<Key, AllocError>
         requires { IsKey bytes.now }
         ensures key { IfOk result (λ key. key ≡ bytes.now) }
@@ -115,7 +115,7 @@ impl Key {
         &self.as_bytes()[SPACE_BYTES..]
     }
 
-    /// The bytes by which it is ordered, 3 to 257: its space's two, the higher one first, and its own behind them.
+    /// The bytes by which it is ordered, 3 to 257: its space's two, the higher one first, and its own after them.
     pub fn as_bytes(&self) -> &[u8]
         ensures bytes { result.now ≡ self.now }
         ensures in_limits { IsKey self.now }
@@ -123,16 +123,16 @@ impl Key {
         self.bytes.as_slice()
     }
 
-    /// How the keys are ordered.
+    /// The order of the keys.
     pub fn compare(&self, other: &Key) -> Ordering
         ensures { result ≡ slice_cmp nat_cmp self.now other.now }
     {
         order(self.as_bytes(), other.as_bytes())
     }
 
-    /// Its space and the first of its own bytes as one number: in space 0 their first 63 bits, with zeros behind a shorter key;
-    /// in another one the highest bit, the space, and their first 47 bits. Keys whose heads differ are ordered as their heads are;
-    /// of keys that have one head nothing is said.
+    /// Its space and the first of its own bytes as one number: in space 0 their first 63 bits, with zeros after a shorter key; in
+    /// another one the highest bit, the space, and their first 47 bits. Keys whose heads differ are ordered as their heads are; of
+    /// keys that have one head nothing is said.
     pub fn head(&self) -> u64
         ensures head { result ≡ head self.now }
         ensures bytes { IsBytes self.now }
@@ -147,7 +147,7 @@ impl Key {
         self.as_bytes() == other.as_bytes()
     }
 
-    /// The same key once more. It takes memory only for more than 16 bytes.
+    /// A copy of the key. It allocates memory only for more than 16 bytes.
     pub fn copy(&self, alloc: Global) -> Result<Key, AllocError>
         ensures copy { IfOk result (λ key. key ≡ self.now) }
         ensures inline { length self.now ≤ 18 → IsOk result }
@@ -157,7 +157,7 @@ impl Key {
     }
 }
 
-// The space's two bytes, the higher one first, and these behind them. It takes memory only for more than 16 of these.
+// The space's two bytes, the higher one first, and these after them. It allocates memory only for more than 16 of these.
 fn joined(alloc: Global, space: u16, own: &[u8]) -> Result<SmallVec<u8, 18>, AllocError>
     requires { length own.now ≤ MOST_KEY_BYTES }
     ensures joined { IfOk result (λ bytes. bytes.items ≡ key_of space own.now) }

@@ -1,34 +1,34 @@
 //! The limits of the store, each once.
 
-/// A key's space has so many bytes, which stand before its own.
+/// The bytes of a key's space, which come before its own.
 pub const SPACE_BYTES: usize = 2;
 
-/// A key has at least one byte of its own, and at most so many.
+/// The most bytes of a key's own; it has at least one.
 pub const MOST_KEY_BYTES: usize = 255;
 
-/// A value has at most so many bytes.
+/// The most bytes of a value.
 pub const MOST_VALUE_BYTES: usize = 65_535;
 
-/// A store has at least one session, and at most so many.
+/// The most sessions of a store; it has at least one.
 pub const MOST_SESSIONS: u8 = 64;
 
-/// A store has room for at least one key, and for at most so many.
+/// The most keys that a store has room for; it has room for at least one.
 pub const MOST_KEYS: u32 = 1_048_576;
 
-/// A transaction writes at most so many keys.
+/// The most keys that a transaction writes.
 pub const MOST_WRITES: usize = 256;
 
-/// A store begins at most so many transactions.
+/// The most transactions that a store begins.
 pub const MOST_TRANSACTIONS: u64 = 1_099_511_627_776;
 
-/// A log has at most so many entries.
+/// The most entries of a log.
 pub const MOST_LOG_ENTRIES: usize = 16_777_216;
 
-/// A run has at most so many points, which are numbered from 1.
+/// The most points of a run, which are numbered from 1.
 pub const MOST_POINTS: u16 = 65_535;
 
-/// A shelf has at most so many files.
+/// The most files on a shelf, the list of a store's checkpoint files.
 pub const MOST_FILES: usize = 65_536;
 
-/// A file has at most so many entries.
+/// The most entries of a file.
 pub const MOST_FILE_ENTRIES: usize = 4_294_967_295;

@@ -1,16 +1,16 @@
 //! Requests of locks: what they ask for, and how they are answered.
 use crate::numbers::TxnNo;
 
-/// What a request asks for.
+/// The lock mode of a request.
 #[derive(Clone, Copy, Debug, PartialEq, Eq)]
 pub enum Mode {
-    /// To read: any number of transactions may at once.
+    /// To read: any number of transactions may at the same time.
     Shared,
     /// To write: no other transaction may read or write.
     Exclusive,
 }
 
-/// How a request is answered.
+/// The outcome of a request.
 #[derive(Clone, Copy, Debug, PartialEq, Eq)]
 pub enum Outcome {
     /// The lock is held, until the transaction releases it.
@@ -26,6 +26,6 @@ pub enum Outcome {
 pub struct Request {
     pub transaction: TxnNo,
     pub mode: Mode,
-    /// The lock is held; else the request waits.
+    /// The lock is held; otherwise the request waits.
     pub granted: bool,
 }

@@ -53,7 +53,7 @@ impl Model for Lsn {
     ghost inverse = { λ d. record { 0 = d } };
 }
 
-/// A point of consistency, from 1 to 65,535; 0 where none was taken.
+/// A point of consistency, from 1 to 65,535; 0 if none was taken.
 #[derive(Clone, Copy, Debug, PartialEq, Eq)]
 pub struct Point(pub u16);
 

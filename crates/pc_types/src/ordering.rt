@@ -6,8 +6,8 @@ ghost use Rattle.std.specs.Slice.Scan.{big_endian};
 
 use std::cmp::Ordering;
 
-/// How the bytes are ordered: by the first place at which they differ, and a proper beginning before what it begins. Eight bytes
-/// are compared as one number, the highest byte first.
+/// The order of the bytes: by the first place at which they differ, and a proper prefix first. Eight bytes are compared as one
+/// number, the highest byte first.
 pub(crate) fn order(a: &[u8], b: &[u8]) -> Ordering
     ensures { result ≡ slice_cmp nat_cmp a.now b.now }
 {
@@ -21,7 +21,7 @@ pub(crate) fn order(a: &[u8], b: &[u8]) -> Ordering
     order_half(a, b, words * 8)
 }
 
-// How the bytes from there on are ordered; the first four are compared as one number, where both have as many.
+// The order of the bytes from there on; the first four are compared as one number, if both have as many.
 fn order_half(a: &[u8], b: &[u8], start: usize) -> Ordering
     requires { (start ≤ length a.now) × (start ≤ length b.now) }
     ensures { result ≡ slice_cmp nat_cmp (drop start a.now) (drop start b.now) }
@@ -36,7 +36,7 @@ fn order_half(a: &[u8], b: &[u8], start: usize) -> Ordering
     order_behind(a, b, start + 4)
 }
 
-// How the bytes from there on are ordered.
+// The order of the bytes from there on.
 fn order_behind(a: &[u8], b: &[u8], start: usize) -> Ordering
     requires { (start ≤ length a.now) × (start ≤ length b.now) }
     ensures { result ≡ slice_cmp nat_cmp (drop start a.now) (drop start b.now) }

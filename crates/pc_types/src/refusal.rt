@@ -13,7 +13,7 @@ use thiserror::Error;
 pub enum Refusal {
     /// Memory that this call needed was refused.
     OutOfMemory,
-    /// There is no free slot, no room for so many pairs of a base, or a file would have too many entries.
+    /// There is no free slot, no room for the pairs of a base, or a file would have too many entries.
     Full,
     /// A key of no or more than 255 bytes.
     KeyLength,
@@ -57,7 +57,7 @@ pub enum Refusal {
     BadMagic,
     /// A range count of 0, a range against its rule, or a base point that isn't allowed.
     BadRanges,
-    /// A key that doesn't rise, or one that stands twice in a commit.
+    /// A key that isn't greater than the one before, or that occurs twice in a commit.
     KeyOrder,
     /// An unknown kind or phase.
     BadKind,
@@ -112,7 +112,7 @@ impl Refusal {
         }
     }
 
-    // What is said of it in words; that of a gap without its point.
+    // Its message in words; that of a gap without its point.
     fn message(&self) -> &'static str {
         match *self {
             Refusal::OutOfMemory => "memory ran out",

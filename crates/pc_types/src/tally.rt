@@ -12,7 +12,7 @@ use std::io;
 use std::io::{Read, Write};
 
 /// A reader or writer, and how many of its calls failed: those that answered an error, and writes that were given bytes and
-/// took none. The count stays at the greatest `u64`, and then counts as risen.
+/// took none. The count stays at the greatest `u64`, and then counts as increased.
 #[derive(Drop)]
 pub struct Tally<T> {
     inner: T,
@@ -28,7 +28,7 @@ impl<T> Tally<T> {
         Tally { inner, failures: 0 }
     }
 
-    /// How many calls failed.
+    /// The number of calls that failed.
     pub fn failures(&self) -> u64
         ensures { result ≡ failures_of self.now }
     {
@@ -36,7 +36,7 @@ impl<T> Tally<T> {
         *failures
     }
 
-    /// What was counted.
+    /// The reader or writer whose failures were counted.
     pub fn into_inner(self) -> T
         ensures { result ≡ inner_of self }
     {
@@ -93,8 +93,8 @@ impl<W: Write> Write for Tally<W> {
 }
 
 impl<W: Write> Tally<W> {
-    /// Writes all of the bytes. `Device` is answered exactly where the count rose in this call; then a beginning of
-    /// them went out, and not all of them.
+    /// Writes all of the bytes. Returns `Device` if and only if the count increased in this call; then a prefix of them
+    /// went out, and not all of them.
     #[tactic(auto, using(crate::proofs::KnownBytesLaws::appends_nothing))]
     pub fn put(&mut self, bytes: &[u8]) -> Result<(), Refusal>
         ensures { Puts W.contents self.old self.new result bytes.now }
@@ -110,8 +110,8 @@ impl<W: Write> Tally<W> {
         Ok(())
     }
 
-    /// Writes the pieces in order. `Device` is answered exactly where the count rose in this call; then a beginning of
-    /// them went out, and not all of them.
+    /// Writes the pieces in order. Returns `Device` if and only if the count increased in this call; then a prefix of them
+    /// went out, and not all of them.
     pub fn put_all(&mut self, pieces: &[&[u8]]) -> Result<(), Refusal>
         ensures { Puts W.contents self.old self.new result (flat_map (λ piece. piece.now) pieces.now) }
     {
@@ -122,8 +122,8 @@ impl<W: Write> Tally<W> {
     }
 }
 
-/// Reads all that is left, to the reader's end. Refuses with `OutOfMemory`, and with `Device` exactly where the count
-/// rose in this call.
+/// Reads all that is left, to the reader's end. Refuses with `OutOfMemory`, and with `Device` if and only if the count
+/// increased in this call.
 #[tactic(auto, using(crate::proofs::KnownBytesLaws::consumes_nothing))]
 pub fn read_all<R: Read>(alloc: Global, reader: &mut Tally<R>) -> Result<Vec<u8>, Refusal>
     ensures bytes { IfOk result (λ bytes. IfSome (R.remaining (inner_of reader.old)) (λ remained. bytes.items ≡ remained)) }

@@ -15,7 +15,7 @@ pub struct Triple {
 }
 
 impl Triple {
-    /// The same triple once more. It fails only where memory ran out.
+    /// A copy of the triple. It fails only if an allocation fails.
     pub fn copy(&self, alloc: Global) -> Result<Triple, AllocError>
         ensures { IfOk result (λ copy. copy ≡ self.now) }
     {

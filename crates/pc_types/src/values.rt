@@ -29,8 +29,8 @@ impl Model for Value {
 }
 
 impl Value {
-    /// The value of these bytes. Refuses with `ValueLength` exactly where there are more than 65,535, and else only
-    /// with `OutOfMemory`, never for up to 16 bytes.
+    /// The value of these bytes. Returns `ValueLength` if and only if there are more than 65,535; otherwise the only error
+    /// is `OutOfMemory`, never for up to 16 bytes.
     pub fn new(alloc: Global, bytes: &[u8]) -> Result<Value, Refusal>
         ensures value { IfOk result (λ value. value ≡ bytes.now) }
         ensures in_limits { OnOk result (IsValue bytes.now) }
@@ -47,7 +47,7 @@ impl Value {
         }
     }
 
-    /// The value that stands for a number: its eight bytes in two's complement, the highest first. It takes no memory.
+    /// The value that represents a number: its eight bytes in two's complement, the highest first. It allocates no memory.
     pub fn of_number(alloc: Global, number: i64) -> Value
         ensures { result ≡ number_text number }
     {
@@ -72,7 +72,7 @@ impl Value {
         self.as_bytes() == other.as_bytes()
     }
 
-    /// The same value once more. It takes memory only for more than 16 bytes.
+    /// A copy of the value. It allocates memory only for more than 16 bytes.
     pub fn copy(&self, alloc: Global) -> Result<Value, AllocError>
         ensures copy { IfOk result (λ value. value ≡ self.now) }
         ensures inline { length self.now ≤ 16 → IsOk result }
@@ -82,8 +82,8 @@ impl Value {
     }
 }
 
-/// A copy of what a key has, a value or nothing. It takes memory only for a value of more than 16 bytes, and fails only where
-/// that ran out.
+/// A copy of what a key has, a value or nothing. It allocates memory only for a value of more than 16 bytes, and fails
+/// only if that allocation fails.
 pub fn copy_content(alloc: Global, content: &Option<Value>) -> Result<Option<Value>, AllocError>
     ensures { IfOk result (λ copy. copy ≡ content.now) }
 {

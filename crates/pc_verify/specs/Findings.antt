@@ -1,4 +1,4 @@
--- What is found of a text that is to be a base, a part or a log.
+-- The finding about a text that is expected to be a base, a part or a log.
 use Rattle.std.specs.Prelude.{◌≡◌, ℕ, ◌-◌, ◌==◌, Bool, true, false, List, length, Option, Some, None, Ok, if◌then◌else◌, slice_get}
 use Rattle.pc_types.specs.declared.Format.{Format}
 use Rattle.pc_types.specs.declared.Format.TheVariants.{First, Second}
@@ -29,8 +29,8 @@ format_of bytes = format_by (slice_get bytes 7)
 abbrev pub head_of : List ℕ → ℕ → Head
 head_of bytes run = record { format = format_of bytes; run = run }
 
--- What is found of bytes: of a text of their kind its format, its run and what it has; else the fault, with the byte with which it is
--- seen, or of a log with which begins what has it.
+-- The finding about bytes: of a text of their kind its format, its run and its counts; otherwise the fault, with the byte with which
+-- it is seen, or of a log with which begins what has it.
 abbrev pub IsFinding : FileKind → List ℕ → Finding → Type 0
 IsFinding kind.Base bytes (found.Base head point pairs) = (base : BaseFile) × (base_at bytes ≡ Ok base) × (head ≡ head_of bytes base.run) × (point ≡ base.point) × (pairs ≡ map_of.len base.pairs)
 IsFinding kind.Base bytes (found.Fault why byte) = IsFaultOf text.Base bytes byte why

@@ -1,4 +1,4 @@
--- What `pcalc verify` prints of a file.
+-- The output of `pcalc verify` for a file.
 use Rattle.std.specs.Prelude.{ℕ, List, ◌++◌, codes, decimal}
 use Rattle.pc_types.specs.Names.{name_of}
 use Rattle.pc_types.specs.declared.Format.{Format}

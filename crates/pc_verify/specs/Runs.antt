@@ -1,4 +1,4 @@
--- What goes out of a file's line.
+-- The output of a file's line.
 use Rattle.std.specs.Prelude.{◌≡◌, ◌⊎◌, ℕ, Bool, List, Option, Ok, Err, IfErr, IsOk}
 use Rattle.std.specs.declared.result.Result.{Result}
 use Rattle.pc_types.specs.Tallies.{Puts}
@@ -13,7 +13,8 @@ use Rattle.pc_verify.specs.declared.findings.Finding.TheVariants as found
 use Rattle.pc_verify.specs.Findings.{IsFinding, is_sound}
 use Rattle.pc_verify.specs.Lines.{finding_line}
 
--- What is found of a file: why it can't be opened, or that a read of it failed; or what its bytes are, said where they are known.
+-- The finding about a file: why it can't be opened, or that a read of it failed; or what its bytes are, said if they are
+-- known.
 abbrev pub IsFound : {R : Type 0} → (R → Option (List ℕ)) → FileKind → Result R Refusal → Finding → Type 0
 IsFound remaining kind (Err why) finding = finding ≡ found.Unread why
 IsFound remaining kind (Ok reader) (found.Unread why) = why ≡ Device
@@ -23,7 +24,7 @@ IsFound remaining kind (Ok reader) finding = (bytes : List ℕ) → HoldsBytes r
 abbrev pub IsTold : {R T : Type 0} → (R → Option (List ℕ)) → (T → Option (List ℕ)) → FileKind → NamedFile R → Tally T → Tally T → Bool → Type 0
 IsTold remaining contents kind file old new sound = (finding : Finding) × IsFound remaining kind file.opened finding × (sound ≡ is_sound finding) × Puts contents old new (Ok tt) (finding_line file.name.items finding)
 
--- memory ran out, and nothing went out; or the output failed, and the line went out in part
+-- an allocation failed, and nothing went out; or the output failed, and the line went out in part
 abbrev pub IsUntold : {R T : Type 0} → (R → Option (List ℕ)) → (T → Option (List ℕ)) → FileKind → NamedFile R → Tally T → Tally T → Refusal → Type 0
 IsUntold remaining contents kind file old new why = ((why ≡ OutOfMemory) × (new ≡ old))
     ⊎ ((finding : Finding) × IsFound remaining kind file.opened finding × Puts contents old new (Err why) (finding_line file.name.items finding))

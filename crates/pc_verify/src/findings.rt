@@ -1,4 +1,4 @@
-//! What is found of a text.
+//! The finding about a text.
 ghost use Rattle.std.specs.Prelude.{◌≡◌, ◌-◌, ℕ, Ok, IfOk};
 ghost use Rattle.pc_types.specs.declared.refusal.Refusal.{Refusal};
 ghost use Rattle.pc_faults.specs.Faults.{IsFaultOf};
@@ -12,7 +12,7 @@ use pc_part::{Base, Part};
 use pc_types::{Format, Items, Point, Refusal};
 use std::alloc::{AllocError, Global};
 
-/// Which file of a store's folder a text is to be.
+/// The kind of a store's file that a text is expected to be.
 #[derive(Clone, Copy, Debug, PartialEq, Eq)]
 pub enum FileKind {
     Base,
@@ -27,7 +27,7 @@ pub(crate) struct Head {
     pub(crate) run: u64,
 }
 
-// What is found of a file.
+// The finding about a file.
 #[derive(Drop)]
 pub(crate) enum Finding {
     // A base, of this point and with this many pairs.
@@ -55,7 +55,7 @@ impl Finding {
     }
 }
 
-/// What is found of the bytes, read as a text of this kind. It is an error only where memory ran out.
+/// The finding about the bytes, read as a text of this kind. It is an error only if an allocation failed.
 pub(crate) fn finding_of(alloc: Global, kind: FileKind, bytes: &[u8]) -> Result<Finding, AllocError>
     ensures { IfOk result (IsFinding kind bytes.now) }
 {
@@ -95,7 +95,7 @@ fn part_finding(alloc: Global, bytes: &[u8]) -> Result<Finding, AllocError>
     }
 }
 
-// The fault of bytes that are no text of this kind, unless memory ran out.
+// The fault of bytes that are no text of this kind, unless an allocation failed.
 fn fault_in(alloc: Global, kind: TextKind, bytes: &[u8]) -> Result<Finding, AllocError>
     ensures { IfOk result (λ finding. (why : Refusal) × (byte : ℕ) × (finding ≡ found.Fault why byte) × IsFaultOf kind bytes.now byte why) }
 {
@@ -141,7 +141,7 @@ fn head_of(bytes: &[u8], run: u64) -> Head
     }
 }
 
-// The format that the last byte of a magic tells.
+// The format of the last byte of a magic.
 fn format_of(bytes: &[u8]) -> Format
     ensures { result ≡ format_of bytes.now }
 {

@@ -1,4 +1,4 @@
-//! A file of a store, read by its own reader: what `pcalc verify` tells of it, over any reader and writer.
+//! A file of a store, read by its own reader: the output of `pcalc verify` for it, over any reader and writer.
 #![tactic(auto)]
 
 mod findings;

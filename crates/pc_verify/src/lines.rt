@@ -1,4 +1,4 @@
-//! The line that tells what is found of a file.
+//! The line with the finding about a file.
 ghost use Rattle.std.specs.Prelude.{◌≡◌, ◌++◌, codes, decimal};
 ghost use Rattle.pc_types.specs.Tallies.{Puts};
 ghost use Rattle.pc_texts.specs.Texts.{joined_line};
@@ -10,7 +10,7 @@ use pc_texts::{put_joined, put_name};
 use pc_types::{Format, Point, Refusal, Tally};
 use std::io::Write;
 
-/// Writes the line that tells what is found of the file of this name.
+/// Writes the line with the finding about the file of this name.
 pub(crate) fn put_finding<W: Write>(
     out: &mut Tally<W>,
     name: &[u8],

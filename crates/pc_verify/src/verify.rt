@@ -1,4 +1,4 @@
-//! A file, from its reader to the line that tells of it.
+//! A file, from its reader to its line.
 ghost use Rattle.std.specs.Prelude.{◌≡◌, ◌≢◌, IfOk, IfErr};
 ghost use Rattle.pc_types.specs.declared.refusal.Refusal.{Refusal};
 ghost use Rattle.pc_verify.specs.declared.findings.Finding.{Finding};
@@ -12,10 +12,9 @@ use pc_types::{Refusal, Tally};
 use std::alloc::Global;
 use std::io::{Read, Write};
 
-/// Reads a file as a text of this kind, and writes the line that tells of it: its format, its run and what it has, or its fault and with
-/// which of its bytes, from 1, that is seen, or why it can't be opened or read. It gives whether the file is a whole text of its kind.
-/// It is refused with `OutOfMemory`, and then nothing went out, and with `Device` exactly where the output failed, and then a part of the
-/// line did.
+/// Reads a file as a text of this kind, and writes its line: its format, its run and its counts, or its fault and the byte, from 1, with
+/// which that is seen, or why it can't be opened or read. Returns whether the file is a whole text of its kind. It is refused with
+/// `OutOfMemory`, and then nothing went out, and with `Device` if and only if the output failed, and then a part of the line did.
 pub fn verify_file<R: Read + Drop, W: Write>(
     alloc: Global,
     kind: FileKind,
@@ -31,7 +30,7 @@ pub fn verify_file<R: Read + Drop, W: Write>(
     Ok(finding.is_sound())
 }
 
-// What is found of a file. It is refused only where memory ran out.
+// The finding about a file. It is refused only if an allocation failed.
 fn find<R: Read + Drop>(
     alloc: Global,
     kind: FileKind,
@@ -57,7 +56,7 @@ fn found_in(alloc: Global, kind: FileKind, bytes: &[u8]) -> Result<Finding, Refu
     }
 }
 
-// What is found of a file that can't be opened or read for this, unless memory ran out.
+// The finding about a file that can't be opened or read for this, unless an allocation failed.
 fn unread(why: Refusal) -> Result<Finding, Refusal>
     ensures found { IfOk result (λ finding. (finding ≡ Finding.Unread why) × (why ≢ Refusal.OutOfMemory)) }
     ensures memory { IfErr result (λ why. why ≡ Refusal.OutOfMemory) }

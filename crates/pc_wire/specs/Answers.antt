@@ -1,4 +1,4 @@
--- What is answered, as numbers and bytes.
+-- The answer, as numbers and bytes.
 use Rattle.std.specs.Prelude.{ℕ, pos, List, [], length, Option, None, Some}
 use Rattle.pc_types.specs.Keys.{space_of, own_bytes}
 use Rattle.pc_types.specs.declared.Phase.{Phase}
@@ -62,7 +62,7 @@ gap_point other = 0
 abbrev pub refusal_told : Refusal → Answer
 refusal_told why = record (plain REFUSED) { refusal = refusal_number why; number = gap_point why }
 
--- the answer that shows a text of so many bytes, which is that of so many entries
+-- the answer that shows a text of that many bytes and that many entries
 abbrev pub text_told : ℕ → ℕ → Answer
 text_told bytes entries = record (plain TEXT) { entries = entries; value_bytes = bytes }
 
@@ -75,7 +75,7 @@ abbrev pub taken_told : List ℕ → Option (List ℕ) → Answer
 taken_told key None = record (plain TOOK_ABSENT) { space = space_of key; key_bytes = length (own_bytes key) }
 taken_told key (Some value) = record (plain TOOK) { space = space_of key; key_bytes = length (own_bytes key); value_bytes = length value }
 
--- what is told of a reply
+-- the numbers of a reply
 abbrev pub told_of : Reply → Answer
 told_of (told.Begun txn) = record (plain BEGUN) { number = txn }
 told_of (told.Found value) = record (plain FOUND) { value_bytes = length value }

@@ -1,4 +1,4 @@
--- What a call asks: the event that its numbers and bytes are, or why they are none.
+-- The request of a call: the event that its numbers and bytes are, or why they are none.
 use Rattle.std.specs.Prelude.{◌==◌, ◌&&◌, ℕ, Bool, nat_lt, nat_le, List, length, Option, Some, None, Result, Ok, Err, if◌then◌else◌}
 use Rattle.pc_types.specs.declared.Event.{Event}
 use Rattle.pc_types.specs.declared.Event.TheVariants as asked

@@ -1,4 +1,4 @@
-//! What is answered, as numbers.
+//! The answer, as numbers.
 ghost use Rattle.std.specs.Prelude.{◌≡◌, length};
 ghost use Rattle.pc_types.specs.declared.Reply.TheVariants as told;
 ghost use Rattle.pc_wire.specs.Answers.{plain, phase_number, refusal_number, gap_point, refusal_told, text_told, told_of, key_of_reply, content_bytes, value_of_reply};
@@ -9,17 +9,17 @@ use crate::codes::{
 };
 use pc_types::{Key, Phase, Refusal, Reply, Value};
 
-/// What is answered, without the bytes of a key and of a value. What its kind has no use for is 0.
+/// The answer, without the bytes of a key and of a value. A field that its kind doesn't use is 0.
 #[repr(C)]
 #[derive(Clone, Copy)]
 pub struct Answer {
-    /// What is answered, as `codes` numbers it.
+    /// The kind of the answer, by `codes`.
     pub kind: u32,
-    /// Why a call was refused; 0 where it wasn't.
+    /// Why a call was refused; 0 if it wasn't.
     pub refusal: u32,
     /// The number of a transaction, of an entry of the log or of a point, or how many are waited for.
     pub number: u64,
-    /// How many entries a file has, or a shown text is of.
+    /// The number of entries that a file has, or a shown text is of.
     pub entries: u64,
     /// The number of a file on the shelf, from 1.
     pub file: u32,
@@ -29,9 +29,9 @@ pub struct Answer {
     pub sum: i64,
     /// The space of a taken key.
     pub space: u32,
-    /// How many bytes a taken key has of its own.
+    /// The number of bytes that a taken key has of its own.
     pub key_bytes: u32,
-    /// How many bytes the value, or the text, has.
+    /// The number of bytes that the value, or the text, has.
     pub value_bytes: u64,
 }
 
@@ -66,7 +66,7 @@ pub fn refused(why: &Refusal) -> Answer
     }
 }
 
-/// The answer that shows a text of so many bytes, which is that of so many entries.
+/// The answer that shows a text of the given number of bytes and of entries.
 pub fn text_told(bytes: u64, entries: u64) -> Answer
     ensures { result ≡ text_told bytes entries }
 {
@@ -87,7 +87,7 @@ fn gap_point(why: &Refusal) -> u64
     }
 }
 
-/// What is answered where the store replies so.
+/// The answer for a reply of the store.
 pub fn told_of(reply: &Reply) -> Answer
     ensures { result ≡ told_of reply.now }
 {
@@ -188,7 +188,7 @@ fn phase_number(phase: Phase) -> u32
     }
 }
 
-/// The own bytes of the key that a reply has; none where it has no key.
+/// The own bytes of the key that a reply has; no bytes if it has no key.
 pub fn key_of_reply(reply: &Reply) -> &[u8]
     ensures { result.now ≡ key_of_reply reply.now }
 {
@@ -198,7 +198,7 @@ pub fn key_of_reply(reply: &Reply) -> &[u8]
     }
 }
 
-/// The bytes of the value that a reply has; none where it has no value.
+/// The bytes of the value that a reply has; no bytes if it has no value.
 pub fn value_of_reply(reply: &Reply) -> &[u8]
     ensures { result.now ≡ value_of_reply reply.now }
 {

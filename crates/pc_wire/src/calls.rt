@@ -1,4 +1,4 @@
-//! What is asked of a store, as numbers and bytes.
+//! The request to a store, as numbers and bytes.
 ghost use Rattle.std.specs.Prelude.{◌≡◌, ◌⊎◌, Ok, Err, IsOk, IfOk, IfErr, IfSome};
 ghost use Rattle.pc_types.specs.declared.Event.TheVariants as asked;
 ghost use Rattle.pc_types.specs.declared.refusal.Refusal.TheVariants.{OutOfMemory};
@@ -11,14 +11,13 @@ use crate::codes::{
 use pc_types::{Event, FileNo, Key, MOST_KEY_BYTES, MOST_VALUE_BYTES, Refusal, SessionNo, Value};
 use std::alloc::Global;
 
-// The greatest space.
 const MOST_SPACE: u32 = 65_535;
 
-/// What is asked, without the bytes of its key and of its value. What its kind has no use for is not looked at.
+/// The request, without the bytes of its key and of its value. A field that its kind doesn't use is ignored.
 #[repr(C)]
 #[derive(Clone, Copy)]
 pub struct Call {
-    /// Which event is asked, as `codes` numbers them.
+    /// The kind of the event, by `codes`.
     pub kind: u32,
     /// The session, from 1.
     pub session: u32,
@@ -28,13 +27,13 @@ pub struct Call {
     pub first: u32,
     /// The second file of a join, from 1.
     pub second: u32,
-    /// What is added.
+    /// The number to add.
     pub delta: i64,
 }
 
-/// The event that the call asks with these bytes of a key and of a value, or why it asks none: `BadKind` where its kind is that of no
-/// event; where its event has a key, `BadLength` for a space past 65,535 and `KeyLength` for bytes that are no key's; and
-/// `ValueLength` for bytes of a put that are no value's. Where none of these stands, in this order, it refuses only with `OutOfMemory`.
+/// The event that the call asks with these bytes of a key and of a value, or why it asks none: `BadKind` if its kind is that of no
+/// event; if its event has a key, `BadLength` for a space past 65,535 and `KeyLength` for bytes that are no key's; and `ValueLength`
+/// for bytes of a put that are no value's. If none of these applies, checked in this order, it refuses only with `OutOfMemory`.
 pub fn event_of(alloc: Global, call: &Call, key: &[u8], value: &[u8]) -> Result<Event, Refusal>
     ensures asked { IfOk result (λ event. event_asked call.now key.now value.now ≡ Ok event) }
     ensures refused { IfErr result (λ why. (event_asked call.now key.now value.now ≡ Err why) ⊎ ((why ≡ OutOfMemory) × IsOk (event_asked call.now key.now value.now))) }
@@ -95,7 +94,7 @@ fn value_fault(kind: u32, bytes: &[u8]) -> Option<Refusal>
     }
 }
 
-// The event of a call without a fault; none where memory ran out.
+// The event of a call without a fault; `None` if an allocation failed.
 fn made(alloc: Global, call: &Call, key: &[u8], value: &[u8]) -> Option<Event>
     ensures { IfSome result (λ event. event ≡ event_at call.now key.now value.now) }
 {
@@ -118,7 +117,7 @@ fn made(alloc: Global, call: &Call, key: &[u8], value: &[u8]) -> Option<Event>
     }
 }
 
-// A put of these bytes; none where memory ran out.
+// A put of these bytes; `None` if an allocation failed.
 fn put_of(alloc: Global, call: &Call, own: &[u8], bytes: &[u8]) -> Option<Event>
     ensures { IfSome result (λ event. event ≡ asked.Put call.now.session (key_of call.now.space own.now) bytes.now) }
 {
@@ -127,7 +126,7 @@ fn put_of(alloc: Global, call: &Call, own: &[u8], bytes: &[u8]) -> Option<Event>
     Some(Event::Put(SessionNo(call.session), key, value))
 }
 
-// The key of these bytes in the space; none where memory ran out.
+// The key of these bytes in the space; `None` if an allocation failed.
 fn key_of(alloc: Global, space: u32, own: &[u8]) -> Option<Key>
     ensures { IfSome result (λ key. key ≡ key_of space own.now) }
 {

@@ -71,7 +71,7 @@ pub const JOINED: u32 = 16;
 pub const REFUSED: u32 = 17;
 /// A text is shown.
 pub const TEXT: u32 = 18;
-/// What was given is kept.
+/// The given bytes are kept.
 pub const GIVEN: u32 = 19;
 /// The store was opened.
 pub const OPENED: u32 = 20;
@@ -84,7 +84,7 @@ pub const OPEN: u32 = 21;
 pub const BASE: u32 = 1;
 /// The text of a part.
 pub const PART: u32 = 2;
-/// The log's text; of what is shown, what stands before its entries.
+/// The log's text; when shown, only its header.
 pub const LOG: u32 = 3;
 /// The texts of entries of the log.
 pub const ENTRIES: u32 = 4;

@@ -1,5 +1,5 @@
-//! How calls of a store, and what they are answered, are spelt as numbers and bytes: which event they ask, or why none, what is told of a
-//! reply, and what is copied of its bytes.
+//! The encoding of a store's calls and replies as numbers and bytes: the event that a call asks, or why none, the numbers of a reply,
+//! and the copies of its bytes.
 #![tactic(auto)]
 
 mod answers;

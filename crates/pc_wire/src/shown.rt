@@ -5,7 +5,7 @@ ghost use Rattle.pc_wire.specs.Shown.{key_shown, value_shown, filled};
 use crate::answers::{key_of_reply, value_of_reply};
 use pc_types::{Items, Reply};
 
-/// What was shown last.
+/// The bytes that were shown last.
 #[derive(Drop)]
 pub enum Shown {
     /// A reply, which may have a key and a value.
@@ -36,7 +36,7 @@ impl Shown {
     }
 
     /// Copies the key, and the value or the text from this byte on, which counts from 0, into the rooms, as far as there is place.
-    /// What is behind them in a room stays. What was shown stays too.
+    /// What is after them in a room stays. What was shown stays too.
     pub fn copy_into(&self, from: usize, key_room: &mut [u8], value_room: &mut [u8])
         ensures key { key_room.new ≡ filled (key_shown self.now) key_room.old }
         ensures value { value_room.new ≡ filled (drop from (value_shown self.now)) value_room.old }

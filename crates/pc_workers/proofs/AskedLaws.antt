@@ -1,4 +1,4 @@
--- What a session's calls were answered, as attempts at a job tell it.
+-- The answers to a session's calls, in the words of attempts at a job.
 use Rattle.std.proofs.Common.{◌≡◌, ◌≢◌, ℕ, Bool, true, false, true≢false, List, Some, None, Result, Ok, Err, IfOk, IfErr, OnErr, refl, sym, ap, subst}
 use Rattle.std.specs.Prelude.{MatchBool, is_err, ℤ}
 use Rattle.pc_types.specs.declared.Event.TheVariants as asked

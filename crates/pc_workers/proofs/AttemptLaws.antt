@@ -1,4 +1,4 @@
--- How attempts at a job go on, call by call, and jobs one after the other.
+-- How attempts at a job go on, call by call, and jobs in order.
 use Rattle.std.proofs.Common.{◌≡◌, ◌≢◌, ◌<◌, ◌++◌, ℕ, ◌+◌, zero, suc, Bool, true, false, List, [], ◌∷◌, length, take, drop, get_or, append-nil, refl, sym, ap, subst, ◌∙◌, inl, inr, arith}
 use Rattle.std.proofs.lemmas.List.{take_more, drop_more, take-append-drop}
 use Rattle.pc_types.specs.declared.Event.TheVariants as asked
@@ -86,21 +86,21 @@ module _ (st : Setting) (s : ℕ) where
   stuck_is_open : (ops : List Op) (a begun b : History) → WasBegun st s a begun → IsStuck st s ops begun b → is_open s b ≡ true
   stuck_is_open ops a begun b begins stuck = made_stays stuck.made begun b stuck.first ∙ begun_open st s a begun begins.0 begins.1
 
-  -- none is open behind it
+  -- none is open after it
   attempt_closes : (ops : List Op) (ended : EndedTransaction) (a b : History) → IsAttempt st s ops ended a b → is_open s a ≡ false → is_open s b ≡ false
   attempt_closes ops Committed a b (begun, made, begins, all, commits) idle = committed_closed st s made b commits.0 commits.1
   attempt_closes ops Died a b (begun, dead, begins, one, aborts) idle = aborted_closed st s dead b aborts
   attempt_closes ops Refused a b (inl (same, cause, refused)) idle = ap (is_open s) same ∙ idle
   attempt_closes ops Refused a b (inr (begun, stuck, begins, at, aborts)) idle = aborted_closed st s stuck b aborts
 
-  -- what comes of it by an abort of what is open
+  -- the attempt that results if the open transaction is aborted
   aborted_attempt : (ops : List Op) (ended : EndedTransaction) (a b c : History) → ended ≢ Committed → IsCourse st s ops ended a b → is_open s a ≡ false → (is_open s b ≡ true → WasAborted st s b c) → (is_open s b ≡ false → c ≡ b) → IsAttempt st s ops ended a c
   aborted_attempt ops Committed a b c not course idle aborts stays = absurd (not refl)
   aborted_attempt ops Died a b c not (begun, begins, one) idle aborts stays = (begun, b, begins, one, aborts (dead_is_open ops a begun b begins one))
   aborted_attempt ops Refused a b c not (inl (same, cause, refused)) idle aborts stays = inl (stays (ap (is_open s) same ∙ idle) ∙ same, cause, refused)
   aborted_attempt ops Refused a b c not (inr (begun, begins, stuck)) idle aborts stays = inr (begun, b, begins, stuck, aborts (stuck_is_open ops a begun b begins stuck))
 
-  -- the same by the number that the session has behind it
+  -- the same with the number that the session has afterwards
   pub aborted_at : (ops : List Op) (ended : EndedTransaction) (a b c : History) (n : ℕ) → n ≡ s → ended ≢ Committed → IsCourse st s ops ended a b → is_open s a ≡ false → (is_open n b ≡ true → WasAborted st n b c) → (is_open n b ≡ false → c ≡ b) → IsAttempt st s ops ended a c
   aborted_at ops ended a b c n number not course idle aborts stays =
       aborted_attempt ops ended a b c not course idle (subst (λ (m : ℕ). is_open m b ≡ true → WasAborted st m b c) number aborts) (subst (λ (m : ℕ). is_open m b ≡ false → c ≡ b) number stays)

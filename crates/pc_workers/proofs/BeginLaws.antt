@@ -1,4 +1,4 @@
--- What a session had seen is a beginning of what it has seen since, whatever a client asked for it.
+-- The history that a session had seen is a beginning of the one that it has seen since, whatever a client asked for it.
 use Rattle.std.proofs.Common.{◌≡◌, ◌⊎◌, ℕ, Bool, true, false, List, [], ◌∷◌, refl, sym, subst, inl, inr}
 use Rattle.pc_types.specs.declared.Event.TheVariants as asked
 use Rattle.pc_types.specs.declared.Reply.TheVariants as told

@@ -1,4 +1,4 @@
--- What a loop has called on a board, call after call.
+-- The calls of a loop on a board, call after call.
 use Rattle.std.proofs.Common.{◌≡◌, ◌≢◌, ◌==◌, ◌≤◌, ℕ, Bool, cond, List, [], ◌∷◌, ◌++◌, refl, ap, sym, subst, ◌∙◌, eq-eqb, append_assoc, arith}
 use Rattle.std.proofs.lemmas.List.{append-nil, map-append}
 use Rattle.std.proofs.lemmas.List.Elements.{All-nil, All-cons, All-append, filter-append}
@@ -63,7 +63,7 @@ published_on xs ys first middle last a b =
     ∙ (sym (map-append (λ point. call by Publish point) (done_among xs) (done_among ys)) ∙ ap (publications by) (sym (done_append xs ys))) in
     subst (MakesCalls first last) both (makes_on first middle last (publications by (done_among xs)) (publications middle.number (done_among ys)) a b)
 
--- what a pass has seen published it has still seen
+-- a pass that has seen a point published has still seen it
 greatest_of_more : (xs ys : List Call) → greatest_of xs ≤ greatest_of (xs ++ ys)
 greatest_of_more [] ys = omega arith
 greatest_of_more (x ∷ xs) ys = omega (arith, greatest_of_more xs ys)

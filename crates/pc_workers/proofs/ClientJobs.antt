@@ -1,4 +1,4 @@
--- What a session's calls make of what its transaction has written, and what is committed of jobs.
+-- The effect of a session's calls on its transaction's writes, and the committed writes of jobs.
 use Rattle.pc_types.specs.declared.Change.TheVariants.{Add}
 use Rattle.std.proofs.Common.{◌≡◌, ◌≢◌, ℕ, ◌+◌, ◌<◌, ◌==◌, ◌++◌, Bool, true, false, List, [], ◌∷◌, Some, None, Result, Ok, Err, IfOk, length, map, take, get_or, append-nil, length-append, refl, sym, ap, subst, ◌∙◌, arith}
 use Rattle.std.specs.Prelude.{if◌then◌else◌, ℤ}
@@ -59,7 +59,7 @@ module _ (st : Setting) (s : ℕ) (before after : History) where
       ∙ ap (λ b. if b then with_write (own_of s before).writes (write_of key (Add delta)) else (own_of s before).writes) (itself s)
   add key delta a (None, is, ext) alive = absurd (alive is)
 
--- what a call's result tells of the writes
+-- a call's result determines the writes
 module _ (st : Setting) (old new : Sitter) (same : new.number ≡ old.number) where
   abbrev Wrote : List Write → Result CallAnswer Refusal → Type 0
   Wrote writes result = IfOk result (λ a. a ≢ answer.Died → written_by new ≡ writes)
@@ -92,7 +92,7 @@ wrote_more writes (o ∷ ops) op = wrote_more (wrote writes o) ops op
 pub wrote_next : (writes : List Write) (ops : List Op) (i : ℕ) (op : Op) → i < length ops → op ≡ get_or ops i op → wrote_all writes (take (i + 1) ops) ≡ wrote (wrote_all writes (take i ops)) op
 wrote_next writes ops i op low is = ap (wrote_all writes) (take_more ops i op low) ∙ wrote_more writes (take i ops) (get_or ops i op) ∙ ap (wrote (wrote_all writes (take i ops))) (sym is)
 
--- ---- what is committed
+-- ---- the committed writes
 
 -- nothing more was
 pub same_committed : (old new : Sitter) → new.number ≡ old.number → new.receipts ≡ old.receipts → HasCommitted [] old new
@@ -121,7 +121,7 @@ unmarked_more (m ∷ marks) [] job same = absurd (omega (arith, same))
 unmarked_more (true ∷ marks) (j ∷ jobs) job same = ap (λ ws. writes_of j ∷ ws) (unmarked_more marks jobs job (omega (arith, same)))
 unmarked_more (false ∷ marks) (j ∷ jobs) job same = unmarked_more marks jobs job (omega (arith, same))
 
--- jobs with one more, which ended so
+-- jobs with one more, which ended in this way
 module _ (jobs : List Job) (job : Job) (commits : ℕ) (first old new : Sitter) (before : HasRun jobs commits first old) where
   run_committed : (more : ℕ) → HasCommitted (writes_of job ∷ []) old new → more ≡ commits + 1 → HasRun (jobs ++ job ∷ []) more first new
   run_committed more done count =

@@ -38,7 +38,7 @@ all_and_next n files old next p some within = by (nat_le p n) refl
 all_stay : (n : ℕ) (files : List File) (file : File) → HaveAllTo n files → HaveAllTo n (files ++ file ∷ [])
 all_stay n files file old p some within = list_any-append (λ (f : File). set.contains f.points p) files (file ∷ []) ∙ ap (λ b. b || (set.contains file.points p || false)) (old p some within)
 
--- of two that stand for points, one is true
+-- of two tests for points, one is true
 either : (a b : Bool) (C : Type 0) → (a || b) ≡ true → (a ≡ true → C) → (b ≡ true → C) → C
 either true b C is left right = left refl
 either false b C is left right = right is
@@ -68,7 +68,7 @@ pub both_to : (n : ℕ) (files more : List File) → HaveOnlyTo n files → Have
 both_to n files more some others p has =
     either (has_point files p) (has_point more p) ((1 ≤ p) × (p ≤ n)) (sym (list_any-append (λ (f : File). set.contains f.points p) files more) ∙ has) (some p) (others p)
 
--- what a collapser holds has no other points than those that were asked for
+-- the tickets of a collapser have no other points than those that were asked for
 pub collapsed_to : (n : ℕ) (before after : Pass) (files : List File) → HasCollapsed n before after files → HaveOnlyTo n files
 collapsed_to n before after files h p has = among n after h.taken h.shown p (sym (h.holds p) ∙ has)
 

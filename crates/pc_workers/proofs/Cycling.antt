@@ -253,7 +253,7 @@ module _ (st : Setting) where
   pub held_on : (a b c : History) (why : Refusal) → HasStood st a b → IsHeldUp st b c why → IsHeldUp st a c why
   held_on a b c why r h = (stood_on a b c r h.0, h.1)
 
-  -- it is held up where only a beginning of what was due was entered
+  -- it is held up when only a beginning of the phases that were due was entered
   pub breaks_off : (due xs ys : List (Phase × ℕ)) (p : Phase) (m : ℕ) (a b c : History) (earlier later : Pass) (why : Refusal) → xs ++ ys ≡ due → HasReached st xs p m a b → HasPublished xs earlier later → IsHeldUp st b c why
       → HasBrokenOff st due a c earlier later why
   breaks_off due xs ys p m a b c earlier later why is r published held =
@@ -268,7 +268,7 @@ pub of_refusal : {T : Type 0} (P : Refusal → Type 0) (r : Result T Refusal) (w
 of_refusal P (Ok x) why is holds = tt
 of_refusal P (Err given) why is holds = subst P (sym is) holds
 
--- the same of what it comes with
+-- the same of its companion
 pub of_stop : {T E : Type 0} (r : Result T E) (stop : E) → IsErrAnd r (λ given. given ≡ stop) → (P : E → Type 0) → P stop → IfErr r P
 of_stop (Ok x) stop is P holds = tt
 of_stop (Err given) stop is P holds = subst P (sym is) holds

@@ -1,4 +1,4 @@
--- What the store refuses a checkpointer for.
+-- Why the store refuses a checkpointer.
 use Rattle.std.proofs.Common.{◌≡◌, ◌⊎◌, inl, inr, ℕ, ◌+◌, ◌==◌, not, Bool, true, false, cond, List, [], ◌∷◌, refl, ap, sym, ◌∙◌, subst, arith}
 use Rattle.std.specs.Prelude.{⊤, ◌<◌, ◌≤◌, Option, Some, None, MatchOption, length}
 use Rattle.std.proofs.lemmas.Bool.Decides.{nat_tests}
@@ -20,7 +20,7 @@ use Rattle.pc_latch.specs.Cycles.{next_event}
 use Rattle.pc_latch.proofs.CycleLaws.{phase_known, point_known, shelf_known}
 use Rattle.pc_workers.specs.Checkpointing.{IsFull, IsRefusal, Shows}
 
--- the refusals that are left, and where the last two of them are told
+-- the refusals that are left, and when the last two of them are given
 abbrev IsFullAt : Setting → History → Refusal → Type 0
 IsFullAt st seen why.OutOfMemory = ⊤
 IsFullAt st seen why.LogFull = ⊤
@@ -29,7 +29,7 @@ IsFullAt st seen why.PointsFull = (phase_of seen ≡ Rest) × (point_of seen ≡
 IsFullAt st seen other = ⊥
 
 module _ (st : Setting) (seen : History) (given : Refusal) where
-  -- the refusal is a reply that is due, or the answer, or want of memory
+  -- the refusal is a reply that is due, or the answer, or a failed allocation
   abbrev Told : Option Reply → Type 0 → Type 0
   Told due answer = MatchOption due (answer ⊎ (told.Refused given ≡ told.Refused why.OutOfMemory)) (λ reply. told.Refused given ≡ reply)
 
@@ -134,11 +134,11 @@ at_last st seen shown last why.ShelfFull before shows full = full
 at_last st seen shown last why.PointsFull before shows (rest, full) = let low : point_of seen < last = before rest in omega (arith, low, full)
 at_last st seen shown last other before shows full = absurd full
 
--- where the store refuses a checkpointer, for which at rest the point before the last of those due has come at most
+-- a refusal of a checkpointer for which at rest the point before the last of those due has come at most
 pub is_full : (st : Setting) (seen shown : History) (last : ℕ) (given : Refusal) → (phase_of seen ≡ Rest → point_of seen < last) → Shows st seen given shown → IsRefusal st seen given → IsFull st seen shown last given
 is_full st seen shown last given before shows refused = at_last st seen shown last given before shows (full_at st seen given refused)
 
--- it is as full where more points are due
+-- it is as full if more points are due
 pub full_to : (st : Setting) (seen shown : History) (last more : ℕ) (given : Refusal) → last ≤ more → IsFull st seen shown last given → IsFull st seen shown more given
 full_to st seen shown last more why.OutOfMemory low full = tt
 full_to st seen shown last more why.LogFull low full = full

@@ -1,4 +1,4 @@
--- What a collapser holds, ticket after ticket.
+-- The tickets that a collapser holds, ticket after ticket.
 use Rattle.std.proofs.Common.{◌≡◌, ◌⊎◌, ℕ, suc, Bool, true, false, ◌||◌, Option, Some, None, MatchOption, List, [], ◌∷◌, ◌++◌, All, map, refl, ap, sym, subst, ◌∙◌, inl, inr, arith}
 use Rattle.std.proofs.lemmas.List.{map-append}
 use Rattle.std.proofs.lemmas.List.Elements.{All-nil, All-cons, All-append}
@@ -28,7 +28,7 @@ in_two true b c = refl
 in_two false true c = refl
 in_two false false c = or_false c
 
--- behind other files one more has its points
+-- after other files one more has its points
 pub has_point_more : (files : List File) (file : File) (point : ℕ) → has_point (files ++ file ∷ []) point ≡ (has_point files point || set.contains file.points point)
 has_point_more files file point =
     list_any-append (λ (f : File). set.contains f.points point) files (file ∷ [])
@@ -48,7 +48,7 @@ has_point_joined files last file point =
 pub one_point : (point number : ℕ) → set.contains (let one : Set number_order = set.insert set.empty number in one) point ≡ is_one_of point (number ∷ [])
 one_point point number = contains-from_list number_order (number ∷ []) point
 
--- What was claimed since was shown, and the files have just the points behind it.
+-- The numbers that were claimed since were shown, and the files have just the points after them.
 pub record Holds (points : ℕ) (before after : Pass) (files : List File) : Type 0 where
   pub taken : List ℕ
   pub claims : HasClaimed before after taken
@@ -59,7 +59,7 @@ pub holds_none : (points : ℕ) (pass : Pass) (files : List File) → files ≡ 
 holds_none points pass files none =
     record { taken = []; claims = claimed_none pass; shown = All-nil (IsShown points pass); holds = λ p. ap (λ fs. has_point fs p) none }
 
--- what was shown is still shown
+-- shown numbers are still shown
 still_shown : (points : ℕ) (before after : Pass) (numbers taken : List ℕ) → HasClaimed before after numbers → All (IsShown points before) taken → All (IsShown points after) taken
 still_shown points before after numbers taken a all = λ k d lt. let is = all k d lt in (is.0, omega (arith, is.1, still_greatest before after numbers a))
 
@@ -109,7 +109,7 @@ is_next points before after next file is m = subst (λ (o : Option File). MatchO
 pub is_none : (points : ℕ) (before after : Pass) (next : Option File) → next ≡ None → MatchOption next (HasEnded points before after) (IsNext points before after) → HasEnded points before after
 is_none points before after next is m = subst (λ (o : Option File). MatchOption o (HasEnded points before after) (IsNext points before after)) is m
 
--- for what a ticket is refused
+-- why a ticket is refused
 pub ticket_why : (st : Setting) (seen : History) (number : ℕ) (why : Refusal) → IsNoTicket st seen number why → (why ≡ NoFile) ⊎ (why ≡ OutOfMemory)
 ticket_why st seen number NoFile is = inl refl
 ticket_why st seen number OutOfMemory is = inr refl

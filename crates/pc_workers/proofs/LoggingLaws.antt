@@ -1,4 +1,4 @@
--- What a logger writes, piece after piece; and that its text and the rest's are together the text of the whole log.
+-- The text that a logger writes, piece after piece; and that its text and the rest's are together the text of the whole log.
 use Rattle.std.proofs.Common.{◌≡◌, ◌≤◌, ◌+◌, ◌-◌, ◌⊎◌, ℕ, List, [], ◌++◌, length, take, drop, append-nil, Option, Some, None, Ok, Err, refl, sym, ap, subst, ◌∙◌, inl, inr, append_assoc, arith}
 use Rattle.std.specs.Prelude.{Result, IfOk, slice_range}
 use Rattle.std.proofs.Math.Seq.{take-add}
@@ -17,7 +17,7 @@ use Rattle.pc_log.specs.Texts.{header_text, entry_text, log_text}
 use Rattle.pc_shared.specs.Written.{HasGoneOut}
 use Rattle.pc_workers.specs.Logging.{FailsBehind, Flushes, rest_text}
 
--- the text of a log is that of its beginning, and behind it that of the others
+-- the text of a log is that of its beginning, followed by that of the others
 more_text : (run : ℕ) (before more after : List Entry) → after ≡ before ++ more → log_text run before ++ flat_map entry_text more ≡ log_text run after
 more_text run before more after is =
     append_assoc (header_text run) (flat_map entry_text before) (flat_map entry_text more)
@@ -53,22 +53,22 @@ module _ {T : Type 0} (contents : T → Option (List ℕ)) where
   pub flush_failed : (a b c : Tally T) (e : Refusal) (x : List ℕ) → Puts contents a b (Ok tt) x → Flushes contents b c (Err e) → FailsBehind contents a c e x
   flush_failed a b c e x p q = (q.0, omega (arith, q.1, p.1), grown_stays (contents a.inner) (contents b.inner) (contents c.inner) x p.0 q.2)
 
-  -- a flush that failed behind another text
+  -- a flush that failed after another text
   fails_then : (a b c : Tally T) (e : Refusal) (x y : List ℕ) → Puts contents a b (Ok tt) x → FailsBehind contents b c e y → FailsBehind contents a c e (x ++ y)
   fails_then a b c e x y p q = (q.0, omega (arith, q.1, p.1), appends_then (contents a.inner) (contents b.inner) (contents c.inner) x y p.0 q.2)
 
-  -- more entries, behind those whose text has gone out
+  -- more entries, after those whose text has gone out
   pub logs_on : (a b c : Tally T) (run : ℕ) (before more after : List Entry) → after ≡ before ++ more → Puts contents a b (Ok tt) (log_text run before)
       → Puts contents b c (Ok tt) (flat_map entry_text more) → Puts contents a c (Ok tt) (log_text run after)
   logs_on a b c run before more after is p q =
       subst (λ (t : List ℕ). Puts contents a c (Ok tt) t) (more_text run before more after is)
       (puts_then contents a b c (Ok tt) (log_text run before) (flat_map entry_text more) p q)
 
-  -- memory ran out behind the text, or the device failed in it or behind it
+  -- an allocation failed after the text, or the device failed in it or after it
   abbrev Stops : Tally T → Tally T → Refusal → List ℕ → Type 0
   Stops old new e text = ((e ≡ OutOfMemory) × Puts contents old new (Ok tt) text) ⊎ (Puts contents old new (Err e) text ⊎ FailsBehind contents old new e text)
 
-  -- the last entries, where memory ran out or the device failed
+  -- the last entries, if an allocation or the device failed
   pub logs_stop : (a b c : Tally T) (e : Refusal) (run : ℕ) (before more after : List Entry) → after ≡ before ++ more → Puts contents a b (Ok tt) (log_text run before)
       → Stops b c e (flat_map entry_text more) → Stops a c e (log_text run after)
   logs_stop a b c e run before more after is p (inl h) = inl (h.0, logs_on a b c run before more after is p h.1)
@@ -79,19 +79,19 @@ module _ {T : Type 0} (contents : T → Option (List ℕ)) where
   logs_stop a b c e run before more after is p (inr (inr h)) =
       inr (inr (subst (λ (t : List ℕ). FailsBehind contents a c e t) (more_text run before more after is) (fails_then a b c e (log_text run before) (flat_map entry_text more) p h)))
 
-  -- what has gone out, and more entries behind it
+  -- the text that has gone out, and more entries after it
   pub gone_out : (b c : Tally T) (run : ℕ) (before more after : List Entry) → after ≡ before ++ more → HasGoneOut contents b (log_text run before)
       → Puts contents b c (Ok tt) (flat_map entry_text more) → HasGoneOut contents c (log_text run after)
   gone_out b c run before more after is out q = (out.0, logs_on out.0 b c run before more after is out.1 q)
 
-  -- Where the logger has written the entries that were handed out, which are the first of the log, so many, and then the rest
-  -- has gone out, the text of the whole log has.
+  -- If the logger has written the entries that were handed out, which are the first `logged` ones of the log, and then the rest has
+  -- gone out, the text of the whole log has.
   pub whole_log : (a b c : Tally T) (run logged : ℕ) (log given : List Entry) → given ≡ take logged log → Puts contents a b (Ok tt) (log_text run given)
       → Puts contents b c (Ok tt) (rest_text logged log) → Puts contents a c (Ok tt) (log_text run log)
   whole_log a b c run logged log given is p q =
       logs_on a b c run given (drop logged log) log (sym (take-append-drop logged log) ∙ ap (λ (l : List Entry). l ++ drop logged log) (sym is)) p q
 
-  -- some of the entries behind the first ones have gone out, and then more of them
+  -- some of the entries after the first ones have gone out, and then more of them
   pub rest_goes_on : (a b c : Tally T) (log : List Entry) (from done count : ℕ) (text : List ℕ) → text ≡ flat_map entry_text (slice_range log done (done + count)) → from ≤ done
       → Puts contents a b (Ok tt) (flat_map entry_text (slice_range log from done)) → Puts contents b c (Ok tt) text → Puts contents a c (Ok tt) (flat_map entry_text (slice_range log from (done + count)))
   rest_goes_on a b c log from done count text is order p q =
@@ -127,7 +127,7 @@ module _ {T : Type 0} (contents : T → Option (List ℕ)) where
       let none : from - from ≡ 0 = omega arith in
       subst (λ (n : ℕ). Puts contents a a (Ok tt) (flat_map entry_text (take n (drop from log)))) (sym none) (appends_nothing (contents a.inner), refl)
 
-  -- the same of the writer as it is
+  -- the same of the current writer
   pub whole_rest : (b c : Tally T) (run logged : ℕ) (log : List Entry) (result : Result (Unit {0}) Refusal) → HasGoneOut contents b (log_text run (take logged log)) → Puts contents b c result (rest_text logged log)
       → IfOk result (λ _. HasGoneOut contents c (log_text run log))
   whole_rest b c run logged log (Ok u) out q = (out.0, whole_log out.0 b c run logged log (take logged log) refl out.1 q)

@@ -21,7 +21,7 @@ use Rattle.pc_model.proofs.SessionCallLaws.{makes_own}
 itself : (s : ℕ) → (s == s) ≡ true
 itself s = eq-eqb s s refl
 
--- it is told by the session's own calls
+-- the session's own calls determine it
 pub open_by_calls : (s : ℕ) (one other : History) → calls_of s one ≡ calls_of s other → is_open s one ≡ is_open s other
 open_by_calls s one other same =
     let by_own : own_of s one ≡ own_of s other = sym (own_own s one) ∙ ap (own_of s) same ∙ own_own s other in
@@ -59,7 +59,7 @@ module _ (st : Setting) (s : ℕ) (before after : History) where
 
 -- ---- who has a transaction open is a session of the store
 
--- where the reply counts no refusal is certain
+-- if the reply counts no refusal is certain
 none_certain : (o : Option Reply) (Answer : Type 0) (reply : Reply) → IfSome o (λ due. (r : Refusal) × (due ≡ told.Refused r)) → counts reply ≡ true → MatchOption o (Answer ⊎ (reply ≡ told.Refused why.OutOfMemory)) (λ due. reply ≡ due) → o ≡ None
 none_certain None Answer reply refusal counted legal = refl
 none_certain (Some due) Answer reply refusal counted legal = absurd (true≢false (sym counted ∙ ap counts (legal ∙ refusal.1)))
@@ -126,7 +126,7 @@ module _ (st : Setting) (s : ℕ) where
       let there : is_open s h ≡ true = open_by_calls s h seen calls.1 ∙ is in
       only_aborted (no_session st s) (is_open s h) (open_is_known h legal there) there r _ answer
 
-  -- and where none is open there is none
+  -- and if none is open no abort is answered
   pub idle_is_not_aborted : (before after : History) → is_open s before ≡ false → Extends st before (step_of (asked.Abort s) told.Aborted) after → ⊥
   idle_is_not_aborted before after idle ext =
       let between : History = ext.1.0 in

@@ -1,4 +1,4 @@
--- Runs of jobs one after the other are one run of all of them.
+-- Runs of jobs in order are one run of all of them.
 use Rattle.std.proofs.Common.{◌≡◌, ℕ, ◌+◌, ◌++◌, Bool, true, false, List, [], ◌∷◌, length, length-append, refl, sym, ap, subst, ◌∙◌, arith}
 use Rattle.pc_types.specs.declared.Write.{Write}
 use Rattle.pc_model.specs.History.{is_open}
@@ -17,7 +17,7 @@ marked_join (m ∷ marks) more [] next same = absurd (omega (arith, same))
 marked_join (true ∷ marks) more (j ∷ jobs) next same = ap (λ ws. writes_of j ∷ ws) (marked_join marks more jobs next (omega (arith, same)))
 marked_join (false ∷ marks) more (j ∷ jobs) next same = marked_join marks more jobs next (omega (arith, same))
 
--- where there is nothing to do nothing was done
+-- if there is nothing to do nothing was done
 pub no_jobs_run : (s : Sitter) → HasRun [] 0 s s
 no_jobs_run s = record { marks = []; one_each = refl; committed = same_committed s s refl refl; count = refl }
 

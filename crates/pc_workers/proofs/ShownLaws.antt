@@ -1,4 +1,4 @@
--- What a witness shows of a refusal of the checkpointer.
+-- The facts that a witness proves of a refusal of the checkpointer.
 use Rattle.std.proofs.Common.{◌≡◌, ◌⊎◌, inl, inr, ℕ, ◌+◌, ◌==◌, not, Bool, true, false, cond, List, [], ◌∷◌, ◌++◌, length, append-nil, refl, ap, ◌∙◌, subst}
 use Rattle.std.specs.Prelude.{Option, Some, None, MatchOption}
 use Rattle.pc_types.specs.Phases.{same_phase}
@@ -23,7 +23,7 @@ use Rattle.pc_latch.specs.Cycles.{next_event, IsTakeCalled}
 use Rattle.pc_shared.specs.Advances.{EndsWith}
 use Rattle.pc_workers.specs.Checkpointing.{Shows}
 
--- LogFull is a reply that is due, or the answer, or want of memory
+-- LogFull is a reply that is due, or the answer, or a failed allocation
 abbrev Told : Option Reply → Type 0 → Type 0
 Told due answer = MatchOption due (answer ⊎ (told.Refused why.LogFull ≡ told.Refused why.OutOfMemory)) (λ reply. told.Refused why.LogFull ≡ reply)
 
@@ -56,7 +56,7 @@ module _ (st : Setting) (h : History) where
       let n = active_in st class h in
       by_log (log_is_full h) answer (λ a. cc (a)) (behind_wait (n == 0) n full answer (behind_phase (not (same_phase (phase_of h) from)) (or_else (not_yet n) full) answer is))
 
-  -- where LogFull is legal, the log is full
+  -- if LogFull is legal, the log is full
   log_full : (phase : Phase) → IsLegal st h (next_event phase) (told.Refused why.LogFull) → log_is_full h ≡ true
   log_full Rest is =
       let answer : Type 0 = told.Refused why.LogFull ≡ told.Phase Prepare (point_of h + 1) in
@@ -78,7 +78,7 @@ module _ (st : Setting) (h : History) where
 refused_log : (phase : Phase) (given : Refusal) (h : History) → log_is_full (step_of (next_event phase) (told.Refused given) ∷ h) ≡ log_is_full h
 refused_log phase given h = ap (λ (log : List Entry). length log == MOST_LOG_ENTRIES) (ap (λ (e : Effect). log_of h ++ entries_by e h) (refused_does_nothing (next_event phase) given) ∙ append-nil (log_of h))
 
--- what a witness shows that ends with the refusal
+-- the facts by a witness that ends with the refusal
 pub shows : (st : Setting) (seen shown : History) (reply : Reply) (given : Refusal) → reply ≡ told.Refused given → EndsWith st seen reply shown → Shows st seen given shown
 shows st seen shown reply given is ends = record { legal = ends.legal; had_seen = ends.had_seen; log = by }
   where
@@ -109,7 +109,7 @@ take_is_not_full st h is =
     by false (inl takes) = takes_none (closed_set h) takes
     by false (inr bad) = cc (bad)
 
--- what a later witness shows of a take's refusal
+-- the facts of a take's refusal by a later witness
 pub shows_take : (st : Setting) (before after seen shown : History) (reply : Reply) (given : Refusal) → reply ≡ told.Refused given → IsTakeCalled st before reply after → IsLegalHistory st shown → IsBeginning seen shown → Shows st seen given shown
 shows_take st before after seen shown reply given is called legal had_seen = record { legal = legal; had_seen = had_seen; log = by }
   where

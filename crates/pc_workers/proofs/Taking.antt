@@ -1,4 +1,4 @@
--- What a turn of takes leaves.
+-- The state after a turn of takes.
 use Rattle.std.proofs.Common.{◌≡◌, ℕ, zero, suc, refl, ◌∙◌, subst}
 use Rattle.pc_types.specs.declared.Phase.TheVariants.{Capture}
 use Rattle.pc_types.specs.declared.Refusal.{Refusal}
@@ -35,7 +35,7 @@ module _ (st : Setting) where
       refused : IsTakeCalled st turn.between (told.Refused why) after
       refused = (subst (λ (e : TakesEnd). HasEndedTakes st most takes.keys e turn.between after) is turn.ended).1
 
-      -- it was held up where a take was refused
+      -- it was held up if a take was refused
       pub turn_held_up : phase_of before ≡ Capture → IsHeldUp st before after why
       turn_held_up capture =
           let stood = taken_stood takes.keys before turn.between turn.taken in

@@ -1,4 +1,4 @@
--- What a client knows of its commits that waits for the log.
+-- The facts of its commits that a client has once it has waited for the log.
 use Rattle.std.proofs.Common.{◌≡◌, ◌<◌, ◌-◌, ℕ, Bool, true, false, true≢false, List, [], ◌∷◌, ◌++◌, length, length-append, append-nil, Option, Some, None, refl, sym, ap, subst, ◌∙◌, inl, inr, arith}
 use Rattle.std.specs.Prelude.{IfSome, MatchOption, ◌+◌, ◌⊎◌, map}
 use Rattle.pc_types.specs.declared.Entry.TheVariants as logged
@@ -44,7 +44,7 @@ pub keeps_then : {X : Type 0} (P : X → Type 0) (a b c : Option X) → KeepsMar
 keeps_then P a b c p q = record { stays = λ e. q.stays (p.stays e); ours = λ h. q.ours (p.ours h) }
 
 module _ (out : List ℕ → Type 0) (st : Setting) where
-  -- behind a commit and the wait for it
+  -- after a commit and the wait for it
   pub waited : (lag : Option ℕ) (ended : Bool) (s t : Sitter) (m n : ℕ) (made : History) → t ≡ s → Extends st made (step_of (asked.Commit m) (told.Committed n)) s.seen
       → IfSome lag (λ most. ended ≡ false → IsSeatedOut out st.run s (n - most)) → HasWaited out st lag ended t
   waited lag ended s t m n made same x gone = subst (λ (y : Sitter). IfSome lag (λ most. ended ≡ false → IsHeld out st most y)) (sym same) (by_case lag gone)
@@ -76,7 +76,7 @@ module _ (out : List ℕ → Type 0) (st : Setting) where
       let receipts : b.receipts ≡ a.receipts = done.receipts ∙ nothing_more a.receipts done.more done.writes in
       (h.0, beginning_trans h.0 a.seen b.seen h.1 begins, subst (λ (y : ℕ × List Receipt). IsHeld out st most (sitter y.0 h.0 y.1)) (λ i. (sym done.number i, sym receipts i)) h.2)
 
-  -- behind the next job
+  -- after the next job
   pub next_held : (lag mine : Option ℕ) (old new : Bool) (a b : Sitter) (ended : EndedTransaction) (writes : List Write) (commits more : ℕ) → mine ≡ lag → (old ≡ true → new ≡ true) → HasCommitted (done_by ended writes) a b → IsBeginning a.seen b.seen
       → (ended ≡ Committed → HasWaited out st mine new b) → more ≡ commits + length (done_by ended []) → IfSome lag (λ most. 0 < commits → old ≡ false → AreHeld out st most a)
       → IfSome lag (λ most. 0 < more → new ≡ false → AreHeld out st most b)

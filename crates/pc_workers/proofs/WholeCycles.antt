@@ -1,4 +1,4 @@
--- Whole cycles, one after the other, and the points whose parts were put on the shelf.
+-- Whole cycles, in order, and the points whose parts were put on the shelf.
 use Rattle.std.proofs.Common.{◌≡◌, ℕ, zero, suc, ◌+◌, ◌-◌, ◌<◌, ◌≤◌, eqb, Bool, true, false, cond, List, [], ◌∷◌, ◌++◌, length, length-append, refl, ap, sym, ◌∙◌, subst, arith, append_assoc}
 use Rattle.std.specs.Prelude.{Some, None, slice_get}
 use Rattle.std.proofs.lemmas.Bool.Decides.{nat_tests}
@@ -99,14 +99,14 @@ module _ (st : Setting) where
         refusal = o.refusal;
       }
 
--- so many cycles have so many points
+-- n cycles have n points
 pub points_of_cycles : (m n : ℕ) → length (done_among (whole_cycles m n)) ≡ n
 points_of_cycles m zero = refl
 points_of_cycles m (suc n) =
     let before = points_of_cycles m n in
     ap length (done_append (whole_cycles m n) (whole_cycle (m + suc n))) ∙ (length-append (done_among (whole_cycles m n)) (done_among (whole_cycle (m + suc n))) ∙ omega (arith, before))
 
--- what was put on the shelf since
+-- the parts that were put on the shelf since
 pub done_since : (st : Setting) (phases : List (Phase × ℕ)) (p : Phase) (m : ℕ) (before after : History) → HasReached st phases p m before after → points_done after ≡ points_done before ++ done_among phases
 done_since st phases p m before after r = ap done_among r.entered ∙ done_append (phases_entered before) phases
 
@@ -150,7 +150,7 @@ memory_alone st seen points point why.NoFile legal done low high none =
 memory_alone st seen points point why.OutOfMemory legal done low high none = refl
 memory_alone st seen points point other legal done low high none = absurd none
 
--- where the part of a point was put on the shelf only memory keeps a ticket of it back
+-- if the part of a point was put on the shelf only a failed allocation prevents a ticket of it
 pub only_memory : (st : Setting) (h seen : History) (points point : ℕ) (given : Refusal) → h ≡ seen → IsLegalHistory st seen → points ≤ length (points_done seen) → 1 ≤ point → point ≤ points → IsNoTicket st h point given → given ≡ why.OutOfMemory
 only_memory st h seen points point given same legal done low high none =
     memory_alone st seen points point given legal done low high (subst (λ (l : History). IsNoTicket st l point given) same none)

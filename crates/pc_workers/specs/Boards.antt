@@ -1,4 +1,4 @@
--- What the calls of one pass are that a loop has made on a board.
+-- The calls of one pass that a loop has made on a board.
 use Rattle.std.specs.Prelude.{◌≡◌, ◌≢◌, ℕ, List, [], ◌∷◌, ◌++◌, All, map}
 use mathlib.Core.List.{IsPrefix}
 use Rattle.pc_board.specs.declared.calls.CallKind.{CallKind}

@@ -1,4 +1,4 @@
--- What a checkpointer has seen and published since, and why it stops.
+-- The phases that a checkpointer has seen and the points that it has published since, and why it stops.
 use Rattle.std.specs.Prelude.{◌≡◌, ◌⊎◌, ◌<◌, ⊤, IsTrue, ℕ, zero, suc, ◌+◌, List, [], ◌∷◌, ◌++◌, Option, Some, None, length}
 use mathlib.Core.List.{IsPrefix}
 use Rattle.pc_types.specs.declared.Event.TheVariants.{Take}
@@ -18,7 +18,7 @@ use Rattle.pc_board.specs.Passes.{Pass}
 use Rattle.pc_latch.specs.Cycles.{next_event, phases_entered, done_among}
 use Rattle.pc_workers.specs.Boards.{MakesCalls, publications}
 
--- the phase behind a phase
+-- the phase after a phase
 abbrev pub next_phase : Phase → Phase
 next_phase Rest = Prepare
 next_phase Prepare = Resolve
@@ -26,7 +26,7 @@ next_phase Resolve = Capture
 next_phase Capture = Complete
 next_phase Complete = Rest
 
--- the point as that phase is entered: where a cycle begins it is the next one
+-- the point when that phase is entered: at the begin of a cycle it is the next one
 abbrev pub next_point : Phase → ℕ → ℕ
 next_point Rest point = point + 1
 next_point other point = point
@@ -35,13 +35,13 @@ next_point other point = point
 abbrev pub whole_cycle : ℕ → List (Phase × ℕ)
 whole_cycle point = (Prepare, point) ∷ (Resolve, point) ∷ (Capture, point) ∷ (Complete, point) ∷ (Rest, point) ∷ []
 
--- those of so many cycles behind the point, one after the other
+-- those of the given number of cycles after the point, in order
 abbrev pub whole_cycles : ℕ → ℕ → List (Phase × ℕ)
 whole_cycles point zero = []
 whole_cycles point (suc count) = whole_cycles point count ++ whole_cycle (point + suc count)
 
--- The checkpointer has seen a history that goes on from what it had seen; if that was legal, and each of its takes carried what
--- its key had at the point, so is this one, and so has each of its takes. Just these phases were entered since, each with its
+-- The checkpointer has seen a history that extends the one that it had seen; if that was legal, and each of its takes carried its
+-- key's value at the point, so is this one, and so has each of its takes. Just these phases were entered since, each with its
 -- point, and for each part that was done as they were the shelf has one more file; and the phase and the point are now these.
 pub record HasReached (st : Setting) (phases : List (Phase × ℕ)) (phase : Phase) (point : ℕ) (before after : History) : Type 0 where
   pub begins : IsBeginning before after
@@ -61,7 +61,7 @@ abbrev pub HasTurned : Setting → History → History → Type 0
 HasTurned st before after =
     HasReached st ((next_phase (phase_of before), next_point (phase_of before) (point_of before)) ∷ []) (next_phase (phase_of before)) (next_point (phase_of before) (point_of before)) before after
 
--- it has gone through so many whole cycles, one after the other
+-- it has gone through this many whole cycles, in order
 abbrev pub HasCycled : Setting → ℕ → History → History → Type 0
 HasCycled st count before after = HasReached st (whole_cycles (point_of before) count) Rest (point_of before + count) before after
 
@@ -70,9 +70,9 @@ HasCycled st count before after = HasReached st (whole_cycles (point_of before) 
 abbrev pub IsRefusal : Setting → History → Refusal → Type 0
 IsRefusal st seen why = IsAnswered st 0 seen (next_event (phase_of seen)) (told.Refused why) ⊎ ((phase_of seen ≡ Capture) × IsAnswered st 0 seen Take (told.Refused why))
 
--- What such a refusal is, where the points up to this one are due, the checkpointer has seen the first history, and a witness has
--- seen the second: memory ran out; by what the witness has seen the log has no place left; by what the checkpointer has seen the shelf
--- has none; or there can't be so many points.
+-- The meaning of such a refusal, if the points up to this one are due, the checkpointer has seen the first history, and a witness
+-- has seen the second: an allocation failed; the log of the witness's history has no place left; the shelf of the checkpointer's
+-- has none; or there can't be this many points.
 abbrev pub IsFull : Setting → History → History → ℕ → Refusal → Type 0
 IsFull st seen shown last refusal.OutOfMemory = ⊤
 IsFull st seen shown last refusal.LogFull = IsTrue (log_is_full shown)
@@ -80,8 +80,8 @@ IsFull st seen shown last refusal.ShelfFull = length (shelf st.run seen) ≡ MOS
 IsFull st seen shown last refusal.PointsFull = MOST_POINTS < last
 IsFull st seen shown last other = ⊥
 
--- A witness has seen a legal history that goes on from what the checkpointer had seen, and where this refusal says so, its log has no
--- place left.
+-- A witness has seen a legal history that extends the one that the checkpointer had seen, and if this refusal says so, its log has
+-- no place left.
 pub record Shows (st : Setting) (seen : History) (why : Refusal) (shown : History) : Type 0 where
   pub legal : IsLegalHistory st shown
   pub had_seen : IsBeginning seen shown
@@ -96,8 +96,8 @@ IsHeldUp st before after why = HasStood st before after × IsRefusal st after wh
 abbrev pub HasPublished : List (Phase × ℕ) → Pass → Pass → Type 0
 HasPublished phases before after = MakesCalls before after (publications before.number (done_among phases))
 
--- It stopped at a refusal: since then a beginning of the phases that were due was entered, and what was put on the shelf was
--- published, and no more.
+-- It stopped at a refusal: since then a beginning of the phases that were due was entered, and the parts that were put on the shelf
+-- were published, and no more.
 pub record HasBrokenOff (st : Setting) (due : List (Phase × ℕ)) (before after : History) (earlier later : Pass) (why : Refusal) : Type 0 where
   pub phases : List (Phase × ℕ)
   pub phase : Phase

@@ -1,4 +1,4 @@
--- What a client's loop adds to its session: a receipt for each job that was committed, with what the job writes.
+-- The receipts that a client's loop adds to its session: one for each job that was committed, with the job's writes.
 use Rattle.pc_types.specs.declared.Change.TheVariants as change
 use Rattle.std.specs.Prelude.{◌≡◌, ◌++◌, ℕ, Bool, true, false, List, [], ◌∷◌, Some, None, length, map}
 use Rattle.pc_types.specs.declared.Receipt.{Receipt}
@@ -27,22 +27,22 @@ abbrev pub wrote_all : List Write → List Op → List Write
 wrote_all writes [] = writes
 wrote_all writes (op ∷ ops) = wrote_all (wrote writes op) ops
 
--- what a job writes: of each key the last write, the keys as they were first written
+-- a job's writes: of each key the last write, in the order in which the keys were first written
 abbrev pub writes_of : Job → List Write
 writes_of job = wrote_all [] job.ops
 
--- what the session's transaction has written, by its history
+-- the writes of the session's transaction, by its history
 abbrev pub written_by : Sitter → List Write
 written_by s = (own_of s.number s.seen).writes
 
--- the session has its number still, and behind its receipts one with each of these lists of writes
+-- the session still has its number, and after its receipts one with each of these lists of writes
 pub record HasCommitted (done : List (List Write)) (old new : Sitter) : Type 0 where
   pub number : new.number ≡ old.number
   pub more : List Receipt
   pub receipts : new.receipts ≡ old.receipts ++ more
   pub writes : map (λ (r : Receipt). r.writes) more ≡ done
 
--- what is committed of a transaction with these writes that ended so
+-- the committed writes of a transaction with these writes that ended in this way
 abbrev pub done_by : EndedTransaction → List Write → List (List Write)
 done_by Committed writes = writes ∷ []
 done_by Died writes = []
@@ -55,14 +55,14 @@ marked (mark ∷ marks) [] = []
 marked (true ∷ marks) (job ∷ jobs) = writes_of job ∷ marked marks jobs
 marked (false ∷ marks) (job ∷ jobs) = marked marks jobs
 
--- Of the jobs those that are marked were committed in their order, so many, and the others given up.
+-- Of the jobs those that are marked were committed in their order, this many, and the others given up.
 pub record HasRun (jobs : List Job) (commits : ℕ) (old new : Sitter) : Type 0 where
   pub marks : List Bool
   pub one_each : length marks ≡ length jobs
   pub committed : HasCommitted (marked marks jobs) old new
   pub count : length (marked marks jobs) ≡ commits
 
--- Beside that each of the jobs was tried, if the session had no transaction open, and was committed just where it is marked.
+-- Besides, each of the jobs was tried, if the session had no transaction open, and was committed if and only if it is marked.
 pub record HasTried (st : Setting) (jobs : List Job) (commits : ℕ) (old new : Sitter) : Type 0 where
   pub run : HasRun jobs commits old new
   pub tried : is_open old.number old.seen ≡ false → AreTried st old.number run.marks jobs old.seen new.seen

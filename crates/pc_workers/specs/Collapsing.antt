@@ -1,4 +1,5 @@
--- What a collapser has claimed, and what it holds. The point behind number 0 is point 1, which is the point of file 1.
+-- The numbers that a collapser has claimed, and the tickets that it holds. The point after number 0 is point 1, which is the point
+-- of file 1.
 use Rattle.std.specs.Prelude.{◌≡◌, ◌⊎◌, ◌≤◌, ◌<◌, ℕ, suc, Bool, List, [], ◌∷◌, ◌++◌, All, map}
 use Rattle.std.specs.List.{list_any}
 use Rattle.pc_types.specs.declared.Refusal.{Refusal}
@@ -18,11 +19,11 @@ use Rattle.pc_workers.specs.Boards.{HasClaimed}
 abbrev pub has_point : List File → ℕ → Bool
 has_point files point = list_any (λ (file : File). set.contains file.points point) files
 
--- the number is below points, and the pass has seen published the point behind it or a greater one
+-- the number is below points, and the pass has seen published the point after it or a greater one
 abbrev pub IsShown : ℕ → Pass → ℕ → Type 0
 IsShown points pass number = (number < points) × (number < greatest_of pass.seen)
 
--- the number isn't below points, or the pass has seen published neither the point behind it nor a greater one
+-- the number isn't below points, or the pass has seen published neither the point after it nor a greater one
 abbrev pub IsUnshown : ℕ → Pass → ℕ → Type 0
 IsUnshown points pass number = (points ≤ number) ⊎ (greatest_of pass.seen ≤ number)
 
@@ -32,8 +33,8 @@ IsAtEnd points pass [] = claims_made pass ≡ MOST_CLAIMS
 IsAtEnd points pass (number ∷ []) = IsUnshown points pass number
 IsAtEnd points pass (number ∷ other ∷ more) = ⊥
 
--- The numbers that were claimed since are those taken, and the last one at the end. What was taken was shown, and the files have
--- just the points behind it.
+-- The numbers that were claimed since are those taken, and the last one at the end. Those taken were shown, and the files have just
+-- the points after them.
 pub record HasCollapsed (points : ℕ) (before after : Pass) (files : List File) : Type 0 where
   pub taken : List ℕ
   pub last : List ℕ
@@ -42,8 +43,8 @@ pub record HasCollapsed (points : ℕ) (before after : Pass) (files : List File)
   pub holds : (point : ℕ) → has_point files point ≡ is_one_of point (map suc taken)
   pub ended : IsAtEnd points after last
 
--- All numbers that were claimed since were shown. Then memory ran out, or there was no ticket of the last one's file by the legal
--- history that the collapser's witness has then seen.
+-- All numbers that were claimed since were shown. Then an allocation failed, or there was no ticket of the last one's file in the
+-- legal history that the collapser's witness has then seen.
 pub record CollapserHasStopped (st : Setting) (points : ℕ) (seen : History) (before after : Pass) (why : Refusal) : Type 0 where
   pub numbers : List ℕ
   pub claims : HasClaimed before after numbers

@@ -12,23 +12,23 @@ use Rattle.pc_workers.specs.declared.clients.EndedTransaction.{EndedTransaction}
 use Rattle.pc_workers.specs.declared.clients.EndedTransaction.TheVariants.{Committed, Died, Refused}
 use Rattle.pc_workers.specs.declared.clients.TheConstants.{MOST_REPEATS}
 
--- what it adds, if anything, has 64 bits with a sign
+-- the number that it adds, if any, is in the range of 64 bits with a sign
 abbrev pub IsInRange : Op → Type 0
 IsInRange (Add key delta) = fits delta ≡ true
 IsInRange other = ⊤
 
--- the operation was so answered: made, or it died
+-- the answer to the operation: it was made, or it died
 abbrev pub IsAsked : Setting → ℕ → Op → CallAnswer → History → History → Type 0
 IsAsked st s op answer.Died early late = Dies st s op early late
 IsAsked st s op other early late = IsOpMade st s op early late
 
--- an attempt that ended so, before its abort
+-- an attempt that ended in this way, before its abort
 abbrev pub IsCourse : Setting → ℕ → List Op → EndedTransaction → History → History → Type 0
 IsCourse st s ops Committed early late = (begun made : History) × WasBegun st s early begun × AreMade st s ops begun made × WasCommitted st s made late
 IsCourse st s ops Died early late = (begun : History) × WasBegun st s early begun × OneDies st s ops begun late
 IsCourse st s ops Refused early late = IsNotBegun st s early late ⊎ ((begun : History) × WasBegun st s early begun × IsStuck st s ops begun late)
 
--- a job that had died was begun again, until it ended so
+-- a job that had died was begun again, until it ended in this way
 pub record IsRepeated (st : Setting) (s : ℕ) (ops : List Op) (ended : EndedTransaction) (early late : History) : Type 0 where
   pub deaths : ℕ
   pub few : deaths < MOST_REPEATS
@@ -37,7 +37,7 @@ pub record IsRepeated (st : Setting) (s : ℕ) (ops : List Op) (ended : EndedTra
   pub last : IsAttempt st s ops ended between late
   pub as_often : ended ≡ Died → deaths + 1 ≡ MOST_REPEATS
 
--- it is marked where it was committed
+-- it is marked if it was committed
 abbrev pub mark_of : EndedTransaction → Bool
 mark_of Committed = true
 mark_of Died = false

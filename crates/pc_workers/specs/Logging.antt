@@ -1,4 +1,4 @@
--- What a logger writes.
+-- The text that a logger writes.
 use Rattle.std.specs.Prelude.{◌≡◌, ◌⊎◌, ◌++◌, ℕ, List, Option, Result, Ok, Err, drop}
 use Rattle.std.specs.List.{flat_map}
 use Rattle.std.specs.Io.KnownBytes.{Appends, Keeps}
@@ -10,7 +10,7 @@ use Rattle.pc_types.specs.declared.refusal.Refusal.TheVariants.{OutOfMemory, Dev
 use Rattle.pc_types.specs.declared.tally.Tally.{Tally}
 use Rattle.pc_log.specs.Texts.{entry_text}
 
--- What was written before goes out of whatever keeps it; or the device failed.
+-- All bytes that were written before are flushed; or the device failed.
 abbrev pub Flushes : {T : Type 0} → (T → Option (List ℕ)) → Tally T → Tally T → Result (Unit {0}) Refusal → Type 0
 Flushes contents old new (Ok u) = Keeps (contents old.inner) (contents new.inner) × (new.failures ≡ old.failures)
 Flushes contents old new (Err e) = (e ≡ Device) × HasRisen old.failures new.failures × Keeps (contents old.inner) (contents new.inner)
@@ -19,7 +19,7 @@ Flushes contents old new (Err e) = (e ≡ Device) × HasRisen old.failures new.f
 abbrev pub FailsBehind : {T : Type 0} → (T → Option (List ℕ)) → Tally T → Tally T → Refusal → List ℕ → Type 0
 FailsBehind contents old new e text = (e ≡ Device) × HasRisen old.failures new.failures × Appends (contents old.inner) (contents new.inner) text
 
--- All of the text went out, on Ok and where memory ran out; or the device failed, and then a beginning of the text went out,
+-- All of the text went out, on Ok and after a failed allocation; or the device failed, and then a beginning of the text went out,
 -- but not all of it, or all of it, and a flush failed.
 abbrev pub LogGoesOut : {T X : Type 0} → (T → Option (List ℕ)) → Tally T → Tally T → Result X Refusal → List ℕ → Type 0
 LogGoesOut contents old new (Ok x) text = Puts contents old new (Ok tt) text
@@ -30,6 +30,6 @@ abbrev pub LogsMore : {T X : Type 0} → (T → Option (List ℕ)) → Tally T �
 LogsMore contents old new result before after =
     (more : List Entry) × (after ≡ before ++ more) × LogGoesOut contents old new result (flat_map entry_text more)
 
--- the text of the entries behind the first so many
+-- the text of the entries after the first ones of this number
 abbrev pub rest_text : ℕ → List Entry → List ℕ
 rest_text count log = flat_map entry_text (drop count log)

@@ -1,4 +1,4 @@
-//! The checkpointer's loop: it takes one point after the other.
+//! The checkpointer's loop: it takes points in order.
 ghost use Rattle.std.specs.Prelude.{◌≡◌, ◌+◌, None, IfOk, IfErr, IfSome, OnErr};
 ghost use Rattle.pc_types.specs.declared.Phase.TheVariants.{Rest, Capture};
 ghost use Rattle.pc_types.specs.declared.Reply.TheVariants.{Refused};
@@ -14,7 +14,7 @@ use pc_tie::StoreName;
 use pc_types::{Gate, GatePlace, Phase, Point, Refusal, Reply};
 use std::sync::Wait;
 
-/// Why a checkpointer has stopped, with a witness of the store's history then, or later.
+/// Why a checkpointer stopped, with a witness of the store's history then, or later.
 #[derive(Drop)]
 pub struct CheckpointFault<N: StoreName> {
     pub why: Refusal,
@@ -31,7 +31,7 @@ impl<N: StoreName> From<CheckpointFault<N>> for Refusal {
     }
 }
 
-// The point of the phase that the reply names, if it names one; or the refusal that it is.
+// The point of the phase that the reply names, if it names one; or the refusal.
 fn told(reply: &Reply) -> Result<Option<Point>, Refusal>
     ensures named { IfOk result (λ named. named ≡ point_named reply.now) }
     ensures refused { IfErr result (λ why. reply.now ≡ Refused why) }
@@ -44,8 +44,8 @@ fn told(reply: &Reply) -> Result<Option<Point>, Refusal>
     }
 }
 
-// Asks for the event that ends the phase, once, and gives the point of the phase that the answer names, if it names one; else others
-// are still in the way.
+// Calls once with the event that ends the phase, and gives the point of the phase that the answer names, if it names one; otherwise
+// transactions or keys are still in the way.
 fn ask_phase<N: StoreName, R: Wait>(
     rt: &R,
     shared: &Shared<N>,
@@ -65,8 +65,8 @@ fn ask_phase<N: StoreName, R: Wait>(
     }
 }
 
-// Asks for the event that ends the phase, until it is answered with the next phase, and gives its point; while others are in the
-// way it waits until the count of changes is another than the one from before it asked.
+// Calls with the event that ends the phase until the answer names the next phase, and gives its point; while transactions or keys
+// are in the way it waits until the count of changes differs from the one before the call.
 fn change_phase<N: StoreName, R: Wait>(
     rt: &R,
     shared: &Shared<N>,
@@ -113,14 +113,15 @@ fn enter<N: StoreName, R: Wait, G: Gate>(
     Ok(point)
 }
 
-// How often who rests looks, at most, how much was committed: with the pauses between these looks others are let run 2,047 times.
+// How often the checkpointer, when it rests, looks at most at the number of commits: in the pauses between these looks others are
+// let run 2,047 times.
 const MOST_LOOKS: u32 = 132;
 
 // How often others are let run, at most, between two looks: once before the first, and before each further one twice as often as
 // before the one before. On one processor each time may hand over a whole slice of time.
 const LONGEST_PAUSE: u32 = 16;
 
-// Rests behind a turn, and lets others run meanwhile; then the next turn begins.
+// Rests after a turn, and lets others run meanwhile; then the next turn begins.
 fn rest<N: StoreName, R: Wait>(rt: &R, shared: &Shared<N>, pace: &mut Pace) {
     let mut times = 1u32;
     for looks in 1..=MOST_LOOKS {
@@ -133,7 +134,7 @@ fn rest<N: StoreName, R: Wait>(rt: &R, shared: &Shared<N>, pace: &mut Pace) {
     pace.begin_turn(shared.last_entry(rt).number);
 }
 
-// How many keys are taken in one turn of the latch, at most: some 10 microseconds' work.
+// The number of keys that are taken in one turn of the latch, at most: some 10 microseconds' work.
 const BATCH: u32 = 32;
 
 // Passes the gate once for each key that was taken.
@@ -143,7 +144,7 @@ fn pass_each<G: Gate>(gate: &G, keys: u32) {
     }
 }
 
-// Takes keys of the point in one turn of the latch, and passes the gate behind it, once for each; whether more may be left.
+// Takes keys of the point in one turn of the latch, and then passes the gate once for each; whether more may be left.
 fn take_batch<N: StoreName, R: Wait, G: Gate>(
     rt: &R,
     shared: &Shared<N>,
@@ -243,15 +244,15 @@ fn take_point<N: StoreName, R: Wait, G: Gate>(
     Ok(())
 }
 
-/// Takes so many points, one after the other, and answers how many. The phase is rest at first, and the checkpointer's calls then
-/// make up so many whole cycles; by the rules of the store each of them takes all keys of its point. It passes the gate before and
-/// after each change of the phase, and behind each key. It publishes each point with the pass once its part is on the shelf, before
-/// it asks for the rest that ends the point's cycle; it makes no other call on the board. The first refusal ends it: one that the
-/// store may answer, after some legal history with all that the checkpointer has seen, to the event that ends the phase or to a
-/// take: `OutOfMemory`, `LogFull`, `ShelfFull` where the shelf has 65,536 files by what the checkpointer has seen, or `PointsFull` where
-/// more than 65,535 points are due. It comes with a witness of the store's legal history then, or later, which goes on from what the
-/// checkpointer has seen: `LogFull` is told only where its log has 16,777,216 entries. What was put on the shelf until then was
-/// published. Each point that it takes puts one file on the shelf.
+/// Takes the given number of points, in order, and returns their number. The phase is rest at first, and the checkpointer's calls
+/// then make up that many whole cycles; by the rules of the store each of them takes all keys of its point. It passes the gate
+/// before and after each change of the phase, and after each key. It publishes each point with the pass once its part is on the
+/// shelf, before it calls for the rest that ends the point's cycle; it makes no other call on the board. The first refusal ends it:
+/// one that the store may answer, after some legal history with all that the checkpointer has seen, to the event that ends the
+/// phase or to a take: `OutOfMemory`, `LogFull`, `ShelfFull` if the shelf has 65,536 files in the history that the checkpointer has
+/// seen, or `PointsFull` if more than 65,535 points are due. It comes with a witness of the store's legal history then, or later,
+/// which extends the one that the checkpointer has seen: `LogFull` is returned only if its log has 16,777,216 entries. All that was
+/// put on the shelf until then was published. Each point that it takes puts one file on the shelf.
 pub fn checkpoint_loop<N: StoreName, R: Wait, G: Gate>(
     rt: &R,
     shared: &Shared<N>,

@@ -1,7 +1,7 @@
-//! The gate of clients, which learns why what they run is given up.
+//! The gate of clients, which learns why their jobs are given up.
 use pc_types::{Gate, OpenGate, Refusal, SessionNo};
 
-/// What a client's loop passes at each of its places, and tells what it was refused.
+/// The gate that a client's loop passes at each of its places; the loop passes it each refusal.
 pub trait ClientGate: Gate {
     /// The session's transaction was refused for this reason, and will be given up.
     fn refused(&self, session: SessionNo, why: Refusal);

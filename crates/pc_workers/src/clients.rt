@@ -15,23 +15,23 @@ use pc_types::{GatePlace, Lsn, Refusal, number_fits};
 use std::alloc::Global;
 use std::sync::Wait;
 
-/// How many jobs were committed, and how many were given up.
+/// The numbers of jobs that were committed, and that were given up.
 #[derive(Clone, Copy, Debug, PartialEq, Eq)]
 pub struct Count {
     pub commits: u64,
     pub given_up: u64,
 }
 
-/// What a client's loop ends with.
+/// The result of a client's loop.
 #[derive(Drop)]
 pub struct ClientEnd<'a> {
     pub count: Count,
-    /// The mark of the log's end, where the client went on from a commit for that; once it has one, it keeps one.
+    /// The mark of the log's end, if the client went on from a commit for that; once it has one, it keeps one.
     pub log_end: Option<LogEndMark<'a>>,
 }
 
 impl Count {
-    // Counts a job that ended so.
+    // Counts a job that ended in this way.
     fn note(&mut self, ended: EndedTransaction)
         requires { self.old.commits + self.old.given_up < 2 ^ 64 - 1 }
         ensures commits { self.new.commits ≡ self.old.commits + length (done_by ended []) }
@@ -44,15 +44,15 @@ impl Count {
     }
 }
 
-/// A job is begun again at most so many times.
+/// A job is begun again at most this many times.
 pub const MOST_REPEATS: u32 = 10_000;
 
 // How often a client lets others run, at most, before it begins a job again: once after the first death, and after each further
 // one twice as often as after the one before.
 const LONGEST_PAUSE: u32 = 512;
 
-// How a client waits for the log: how many of its entries, up to that of a commit, may be unwritten when the client goes on from
-// that, if it waits at all; and the mark of the log's end, where it went on for that.
+// How a client waits for the log: the number of its entries, up to that of a commit, that may be unwritten when the client goes on,
+// if it waits at all; and the mark of the log's end, if it went on for that.
 struct Patience<'a> {
     lag: Option<u32>,
     log_end: Option<LogEndMark<'a>>,
@@ -65,11 +65,11 @@ pub enum EndedTransaction {
     Committed,
     // One of its requests died.
     Died,
-    // A call was refused, or memory ran out.
+    // A call was refused, or an allocation failed.
     Refused,
 }
 
-// Makes the operation.
+// Performs the operation.
 fn make<N: StoreName, R: Wait>(
     rt: &R,
     alloc: Global,
@@ -105,7 +105,7 @@ fn make<N: StoreName, R: Wait>(
     }
 }
 
-// What the operation adds has 64 bits with a sign: its type says so.
+// The number that the operation adds is in the range of 64 bits with a sign: its type says so.
 fn in_range(op: &Op)
     ensures { IsInRange op.now }
 {
@@ -115,7 +115,7 @@ fn in_range(op: &Op)
     }
 }
 
-// Makes the operations, until one dies: then false.
+// Performs the operations, until one dies: then false.
 fn make_all<N: StoreName, R: Wait, G: ClientGate>(
     rt: &R,
     alloc: Global,
@@ -142,7 +142,8 @@ fn make_all<N: StoreName, R: Wait, G: ClientGate>(
     Ok(true)
 }
 
-// The session has committed this entry: it waits until no more than so many up to it aren't written, as long as more will be.
+// The session has committed this entry: it waits until no more entries up to it than the lag are unwritten, as long as more will be
+// written.
 fn hold<'a, N: StoreName, R: Wait, G: ClientGate>(
     rt: &R,
     shared: &'a Shared<N>,
@@ -168,7 +169,7 @@ fn hold<'a, N: StoreName, R: Wait, G: ClientGate>(
     }
 }
 
-// Begins, makes the operations and commits; where it doesn't commit, the transaction stays open, if it was begun.
+// Begins, performs the operations and commits; if it doesn't commit, the transaction stays open, if it was begun.
 fn transact<'a, N: StoreName, R: Wait, G: ClientGate>(
     rt: &R,
     alloc: Global,
@@ -219,7 +220,7 @@ fn abort_open<N: StoreName, R: Wait>(rt: &R, shared: &Shared<N>, session: &mut S
     let _ = shared.abort(rt, session);
 }
 
-// A transaction that is over when it returns: it commits, or is aborted.
+// Runs a transaction to its end: it commits, or is aborted.
 fn attempt<'a, N: StoreName, R: Wait, G: ClientGate>(
     rt: &R,
     alloc: Global,
@@ -248,7 +249,7 @@ fn attempt<'a, N: StoreName, R: Wait, G: ClientGate>(
     ended
 }
 
-// Runs the job again, until it doesn't die, and answers how it ended the last time. Before each time it lets others run, so that
+// Runs the job again, until it doesn't die, and returns how it ended the last time. Before each time it lets others run, so that
 // the one that it lost to may end.
 fn repeat<'a, N: StoreName, R: Wait, G: ClientGate>(
     rt: &R,
@@ -278,8 +279,8 @@ fn repeat<'a, N: StoreName, R: Wait, G: ClientGate>(
     EndedTransaction::Died
 }
 
-// Tries the job, and again where it died, and answers how it ended the last time. Of the clients whose job has died one at a time
-// begins again, and the others sleep: so they don't die of one another over and over.
+// Tries the job, and again if it died, and returns how it ended the last time. Of the clients whose job has died one at a time
+// begins again, and the others sleep, so that they don't die of one another over and over.
 fn try_job<'a, N: StoreName, R: Wait, G: ClientGate>(
     rt: &R,
     alloc: Global,
@@ -306,7 +307,7 @@ fn try_job<'a, N: StoreName, R: Wait, G: ClientGate>(
     }
 }
 
-// Runs the job, and tells the gate where it is given up.
+// Runs the job, and reports to the gate if it is given up.
 fn run<'a, N: StoreName, R: Wait, G: ClientGate>(
     rt: &R,
     alloc: Global,
@@ -330,18 +331,18 @@ fn run<'a, N: StoreName, R: Wait, G: ClientGate>(
     ended
 }
 
-/// The session runs the jobs in order, each as a transaction. Where a request died the transaction is aborted and the job is
-/// begun again, at most 10,000 times, by one client of the store at a time; after that, and after any refusal, its open
-/// transaction is aborted and the job is given up. Want of memory for the copy of a key or a value counts as a refusal. Where there
-/// is a lag, the client goes on from a commit once no more than so many entries, up to that of the commit, aren't marked as
-/// written, or no more will be: with 0 once its own is. It passes the gate at each of the places that `GatePlace` has of a client, and tells it each refusal. Answers
-/// how many jobs were committed, each of which has added a receipt with what the job writes, in their order, and how many were
-/// given up. If the session had no transaction open, each job was tried by just these calls, and none is open behind it: each
-/// attempt but the last one died, and a job that is given up has died so 10,001 times, or was refused as the store may after some
-/// legal history with all that the session had seen, or named a key of more than 16 bytes of its own or a value of
-/// more than 16, whose copy takes memory. Where there is a lag and something was committed, all but so many of the entries of the
-/// log that the session had seen behind its last commit are the first of those whose text has gone out, with 0 each of its commits;
-/// or it has the mark of the log's end, for which it went on.
+/// The session runs the jobs in order, each as a transaction. If a request died the transaction is aborted and the job is begun
+/// again, at most 10,000 times, by one client of the store at a time; after that, and after any refusal, its open transaction is
+/// aborted and the job is given up. A failed allocation for the copy of a key or a value counts as a refusal. If there is a lag,
+/// the client goes on from a commit once no more entries than the lag, up to that of the commit, aren't marked as written, or no
+/// more will be: with 0 once its own is. It passes the gate at each of the places that `GatePlace` has of a client, and reports
+/// each refusal to it. Returns the number of jobs that were committed, each of which has added a receipt with the job's writes, in
+/// their order, and the number that were given up. If the session had no transaction open, each job was tried by just these calls,
+/// and none is open afterwards: each attempt but the last one died, and a job that is given up has died 10,001 times in this way,
+/// or was refused as the store may after some legal history with all that the session had seen, or named a key of more than 16
+/// bytes of its own or a value of more than 16, whose copy allocates memory. If there is a lag and a job was committed, all entries
+/// but the last ones, as many as the lag, of the log that the session had seen after its last commit are the first of those whose
+/// text has gone out, with 0 each of its commits; or it has the mark of the log's end, for which it went on.
 pub fn client_loop<'a, N: StoreName, R: Wait, G: ClientGate>(
     rt: &R,
     alloc: Global,

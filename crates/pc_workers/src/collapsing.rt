@@ -1,4 +1,4 @@
-//! A collapser's loop: it takes the files of points that were published, and joins them while the store is used.
+//! A collapser's loop: it takes the files of points that were published, and joins them while the store is in use.
 ghost use Rattle.std.specs.Prelude.{◌≡◌, ◌⊎◌, ◌≤◌, ◌<◌, ◌||◌, ℕ, suc, [], IfErr, IfOk, IfSome, IfNone, MatchOption, vec_capacity, vec_len};
 ghost use Rattle.pc_model.specs.Calls.{IsBeginning};
 ghost use Rattle.pc_model.specs.Replies.{IsLegalHistory};
@@ -16,8 +16,8 @@ use pc_types::{FileNo, Gate, GatePlace, Point, Refusal};
 use std::alloc::Global;
 use std::sync::Wait;
 
-// The file of the point behind the number, once a look shows the point; none where the end had been marked before a look that
-// doesn't. Between two looks it waits until the phase has changed: a point is published before the rest that ends its cycle.
+// The file of the point after the number, once a look shows the point; none if the end had been marked before a look that doesn't
+// show it. Between two looks it waits until the phase has changed: a point is published before the rest that ends its cycle.
 fn await_file<N: StoreName, R: Wait>(
     rt: &R,
     shared: &Shared<N>,
@@ -45,7 +45,7 @@ fn await_file<N: StoreName, R: Wait>(
     unreachable!()
 }
 
-// A ticket of the next number's file; none where no more files are taken.
+// A ticket of the next number's file; none if no more files are taken.
 fn next_ticket<N: StoreName, R: Wait>(
     rt: &R,
     shared: &Shared<N>,
@@ -74,7 +74,7 @@ fn next_ticket<N: StoreName, R: Wait>(
     }
 }
 
-// Takes the ticket to those that are held, for which there is room: joined to the last of them, where that isn't refused.
+// Adds the ticket to those that are held, for which there is room: joined to the last of them, if the join isn't refused.
 fn take_in<N: StoreName, G: Gate>(
     held: &mut Vec<PartTicket<N>>,
     ticket: PartTicket<N>,
@@ -98,12 +98,12 @@ fn take_in<N: StoreName, G: Gate>(
     }
 }
 
-/// Claims numbers with the pass, takes the file of the point behind each once that is published, and joins it at once to what it
-/// holds; before each join it passes the gate. It ends where a number isn't below `points`, where the end was marked before it
-/// looked and the number's point wasn't published, or where the pass can claim no more. It gives what it holds: none, one, or
-/// more where a join was refused; together they have just the points behind the claimed numbers but the last. Refuses with
-/// `NoFile` alone, where the store that the witness has then seen has no file of the last number's point, or with `OutOfMemory`;
-/// what it held is then let go.
+/// Claims numbers with the pass, takes the file of the point after each once that is published, and joins it immediately to the
+/// last ticket that it holds; before each join it passes the gate. It ends if a number isn't below `points`, if the end was marked
+/// before it looked and the number's point wasn't published, or if the pass can claim no more. It returns the tickets that it
+/// holds: none, one, or more if a join was refused; together they have just the points after the claimed numbers but the last. Its
+/// errors are `NoFile`, if the store that the witness has then seen has no file of the last number's point, and `OutOfMemory`; the
+/// tickets that it held are then dropped.
 pub fn collapse_loop<N: StoreName, R: Wait, G: Gate>(
     rt: &R,
     alloc: Global,

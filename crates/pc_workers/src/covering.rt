@@ -42,9 +42,9 @@ fn has_point<N: StoreName>(tickets: &[PartTicket<N>], point: u32) -> bool
     tickets.iter().any(|ticket| covers(ticket.part(), point))
 }
 
-/// The tickets, whose files have no points but those from 1 to this, and behind them one of each such point that none of them
-/// has. The checkpointer has seen a legal history in which so many points' parts were put on the shelf. Refuses with
-/// `OutOfMemory` alone; the tickets are then let go.
+/// The tickets, whose files have no points but those from 1 to `points`, followed by one of each such point that none of them has.
+/// The checkpointer has seen a legal history in which that many points' parts were put on the shelf. Its only error is
+/// `OutOfMemory`; the tickets are then dropped.
 pub fn with_missing_points<N: StoreName, R: Wait>(
     rt: &R,
     shared: &Shared<N>,

@@ -1,4 +1,4 @@
-//! What the threads of a shared store run: loops of clients, of the checkpointer, of collapsers and of the logger.
+//! The loops that the threads of a shared store run: of clients, of the checkpointer, of collapsers and of the logger.
 #![tactic(auto)]
 
 mod checkpointing;

@@ -1,4 +1,4 @@
-//! The logger's loop: the text of the log goes out while the store is used.
+//! The logger's loop: the text of the log goes out while the store is in use.
 ghost use Rattle.std.specs.Prelude.{◌≡◌, ◌≤◌, ◌++◌, ℕ, [], List, length, take, All, IfOk, IfSome};
 ghost use Rattle.std.specs.List.{flat_map};
 ghost use mathlib.Core.List.{IsPrefix};
@@ -18,14 +18,14 @@ use std::io;
 use std::io::Write;
 use std::sync::Wait;
 
-/// The logger asks at once for entries whose texts have some so many bytes.
+/// The number of bytes that the texts of the entries in one batch of the logger have, about.
 pub const MOST_BATCH: u32 = 262_144;
 
-// How often the logger lets others run at most behind a batch, as long as nobody waits for an entry: meanwhile more of them come,
+// How often the logger lets others run at most after a batch, as long as no call waits for an entry: meanwhile more of them come,
 // and it gets the latch less often.
 const PAUSE: u32 = 1024;
 
-// What was written goes out of whatever keeps it.
+// Flushes the bytes that were written.
 fn flush<W: io::Write>(out: &mut Tally<W>) -> Result<(), Refusal>
     ensures { Flushes W.contents out.old out.new result }
 {
@@ -58,7 +58,7 @@ fn write_batch<N: StoreName, R: Wait, W: io::Write, G: Gate>(
     Ok(())
 }
 
-// The next entries go out, and are marked as written. False where there are none.
+// The next entries go out, and are marked as written. False if there are none.
 fn log_batch<N: StoreName, R: Wait, W: io::Write, G: Gate>(
     rt: &R,
     shared: &Shared<N>,
@@ -78,7 +78,7 @@ fn log_batch<N: StoreName, R: Wait, W: io::Write, G: Gate>(
     Ok(true)
 }
 
-// Lets others run for a while, until somebody waits for an entry.
+// Lets others run for a while, until a call waits for an entry.
 fn rest<N: StoreName>(shared: &Shared<N>) {
     for _ in 0..PAUSE {
         if shared.is_log_awaited() {
@@ -88,8 +88,8 @@ fn rest<N: StoreName>(shared: &Shared<N>) {
     }
 }
 
-// A turn of the logger: the next entries go out, and it rests. Where there were none, it gives the mark of the end, if that is marked and
-// there still are none, and else waits until the count of changes is another than the one from before it looked for them.
+// A turn of the logger: the next entries go out, and it rests. If there were none, it gives the mark of the end, if that is marked
+// and there still are none, and otherwise waits until the count of changes differs from the one before it looked for them.
 fn turn<'a, N: StoreName, R: Wait, W: io::Write, G: Gate>(
     rt: &R,
     shared: &'a Shared<N>,
@@ -116,7 +116,7 @@ fn turn<'a, N: StoreName, R: Wait, W: io::Write, G: Gate>(
     Ok(end)
 }
 
-/// How a logger's loop has ended.
+/// How a logger's loop ended.
 #[derive(Drop)]
 pub struct LogEnd<'a, N: StoreName> {
     /// The number of the last entry that was handed out.
@@ -126,12 +126,13 @@ pub struct LogEnd<'a, N: StoreName> {
 }
 
 /// Writes the log as the store grows it: the header of the run, and each entry, until the end is marked and no entry is left. It
-/// takes all entries that are there, up to some 262,144 bytes of text at once, flushes the writer behind them, and then marks them
-/// as written; it passes the gate before and after that. Answers the number of the last entry that the pass has then handed out,
-/// which is how many they are, and the mark of the store's end: each entry that the log had when the end was marked is among them.
-/// Whatever it answers, the pass has what was handed out: on Ok and where memory ran out its whole text went out; `Device` is
-/// answered exactly where the device failed, and then a beginning of the text went out, and not all of it, or all of it, and a flush
-/// failed. What goes out to the writer has to count as gone out by the store's name, since those are told of it who wait.
+/// takes all entries that there are, up to about 262,144 bytes of text together, flushes the writer after them, and then marks them
+/// as written; it passes the gate before and after that. Returns the number of the last entry that the pass has then handed out,
+/// which is the number of entries, and the mark of the store's end: each entry that the log had when the end was marked is among
+/// them. In every case the pass has the entries that were handed out: on Ok and after a failed allocation their whole text went
+/// out; `Device` is returned if and only if the device failed, and then a beginning of the text went out, and not all of it, or all
+/// of it, and a flush failed. Text that goes out to the writer must count as gone out by the store's name, since calls that wait
+/// rely on it.
 pub fn log_loop<'a, N: StoreName, R: Wait, W: io::Write, G: Gate>(
     rt: &R,
     shared: &'a Shared<N>,
@@ -161,8 +162,8 @@ pub fn log_loop<'a, N: StoreName, R: Wait, W: io::Write, G: Gate>(
     unreachable!()
 }
 
-/// Where the logger has ended, its pass has each entry that the log had when the end was marked, as any mark of the store's end tells:
-/// of one store's end all marks tell the same. It does nothing, and its contract is that law.
+/// If the logger has ended, its pass has each entry that the log had when the end was marked, by any mark of the store's end: all
+/// marks of one store's end have the same history. It does nothing, and its contract is that law.
 pub fn has_all_until<'a, N: StoreName>(
     mark: &EndMark<'a, N>,
     ended: &LogEnd<'a, N>,
@@ -175,7 +176,7 @@ pub fn has_all_until<'a, N: StoreName>(
     ended.mark.agrees(mark);
 }
 
-// The entries behind those that were handed out go out.
+// The entries after those that were handed out go out.
 fn put_rest<N: StoreName, W: io::Write>(
     closed: &Closed<N>,
     out: &mut Tally<W>,
@@ -193,9 +194,9 @@ fn put_rest<N: StoreName, W: io::Write>(
     Ok(())
 }
 
-/// Writes what the logger has left of the log of a store that was closed: where the text of what was handed out had gone out, that
-/// of the whole log then has. It takes no memory, and refuses with `Device` exactly where the device failed; then a beginning of the
-/// text went out, and not all of it.
+/// Writes the rest of the log of a store that was closed, after the logger: if the text of the entries that were handed out had
+/// gone out, that of the whole log then has. It allocates nothing, and returns `Device` if and only if the device failed; then a
+/// beginning of the text went out, and not all of it.
 pub fn log_rest<N: StoreName, W: io::Write>(
     closed: &Closed<N>,
     out: &mut Tally<W>,

@@ -1,24 +1,24 @@
-//! The pace of a capture: how many keys the checkpointer takes in a turn, and when it has rested behind one.
+//! The pace of a capture: how many keys the checkpointer takes in a turn, and when it has rested after one.
 ghost use Rattle.std.specs.Prelude.{◌≡◌, ◌≤◌, ◌-◌, nat_eq};
 ghost use Rattle.pc_workers.specs.declared.pace.TheConstants.{FIRST_TAKES, MOST_TAKES};
 ghost use Rattle.pc_workers.specs.Pacing.{turn_behind, has_rested};
 
 use pc_types::Lsn;
 
-/// How many keys the first turn of a capture has: some half a millisecond's.
+/// The number of keys in the first turn of a capture: some half a millisecond's work.
 pub const FIRST_TAKES: u32 = 1_024;
 
-/// How many keys a turn has at most.
+/// The greatest number of keys in a turn.
 pub const MOST_TAKES: u32 = 65_536;
 
-/// After so many looks who has seen no commit has rested: nobody else seems to be there. Who finds the latch taken may let others
-/// run 256 times before it looks again, and between these looks others are let run 511 times in all.
+/// After this many looks without a commit the checkpointer has rested: no other thread seems to run. A thread that finds the latch
+/// held may let others run 256 times before it looks again, and between these looks others are let run 511 times in all.
 pub const LOOKS_ALONE: u32 = 36;
 
-/// How many keys the checkpointer takes in a turn, how many of them are left to take, and the log's last entry when the turn
-/// began. A turn has half of what was committed in the one before it and in the rest behind that, and twice what that one had where
-/// nothing was, from 1,024 to 65,536 keys: where others run for long whenever the checkpointer rests, as on one processor, its turns
-/// grow with what they commit meanwhile.
+/// The number of keys that the checkpointer takes in a turn, the number of them that are left to take, and the log's last entry
+/// when the turn began. A turn has half as many keys as were committed in the one before it and in the rest after that, and twice
+/// as many as that one if nothing was committed, from 1,024 to 65,536: if others run for long whenever the checkpointer rests, as
+/// on one processor, its turns grow with the commits meanwhile.
 #[derive(Drop)]
 pub struct Pace {
     turn: u32,
@@ -29,7 +29,7 @@ pub struct Pace {
 }
 
 impl Pace {
-    /// The first turn begins, where the log has its last entry at this number.
+    /// The first turn begins; the log's last entry has this number.
     pub(crate) fn new(last: Lsn) -> Pace
         ensures turn { result.turn ≡ FIRST_TAKES }
         ensures left { result.left ≡ FIRST_TAKES }
@@ -42,7 +42,7 @@ impl Pace {
         }
     }
 
-    /// This many more keys were taken: whether none of the turn is left.
+    /// This many more keys were taken; returns whether the turn has none left.
     pub(crate) fn take(&mut self, keys: u32) -> bool
         ensures over { result ≡ nat_eq self.new.left 0 }
         ensures left { self.new.left ≡ self.old.left - keys }
@@ -53,8 +53,8 @@ impl Pace {
         self.left == 0
     }
 
-    /// Whether the checkpointer has rested, where the log's last entry has this number now and it has looked so often: twice as
-    /// much was committed since the turn began as that has taken, or nothing was.
+    /// Whether the checkpointer has rested, if the log's last entry has this number now and it has looked this often: twice as many
+    /// keys were committed since the turn began as it has taken, or none was.
     pub(crate) fn has_rested(&self, last: Lsn, looks: u32) -> bool
         ensures { result ≡ has_rested self.now.turn (last - self.now.begun) looks }
     {
@@ -64,7 +64,7 @@ impl Pace {
         }
     }
 
-    /// The next turn begins, where the log has its last entry at this number.
+    /// The next turn begins; the log's last entry has this number.
     pub(crate) fn begin_turn(&mut self, last: Lsn)
         ensures turn { self.new.turn ≡ turn_behind self.old.turn (last - self.old.begun) }
         ensures left { self.new.left ≡ self.new.turn }

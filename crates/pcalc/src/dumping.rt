@@ -1,4 +1,4 @@
-//! The pairs that a folder's files are worth, a line for each.
+//! The pairs recovered from a folder's files, a line for each.
 use pc_disk::{Causes, FoundFolder, ReadFolder, open_folder, output_before, tell_unopened};
 use pc_explanations::{About, Explained, Explainer, explain_output, is_explained};
 use pc_lines::text_of;
@@ -15,7 +15,7 @@ use std::io::Write;
 /// The status of a dump of which not all went out.
 const FAILED: u8 = 1;
 
-/// The status of one that was asked for in a way that can't be.
+/// The status of a dump with an invalid option.
 const MISUSED: u8 = 2;
 
 /// Prints the pairs of the folder as the options say; the status.
@@ -78,7 +78,7 @@ fn dump<E: Write>(
     dump_to(dir, &choice, options.accepts_damage, &mut out, errors)
 }
 
-/// The form of lines that are JSON, or aren't.
+/// The form of lines, JSON or not.
 pub fn form_of(is_json: bool) -> Form {
     if is_json { Form::Json } else { Form::Words }
 }

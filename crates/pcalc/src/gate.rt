@@ -3,7 +3,7 @@ use pc_progress::Progress;
 use pc_types::{Gate, GatePlace, Refusal, SessionNo};
 use pc_workers::ClientGate;
 
-/// What the loops pass is counted, and what clients are refused.
+/// Counts the places that the loops pass, and the refusals of clients.
 #[derive(Drop)]
 pub struct RunGate<'a> {
     pub progress: &'a Progress<'a>,

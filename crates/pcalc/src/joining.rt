@@ -49,7 +49,8 @@ pub fn join_parts(rt: &HostRuntime, options: &CollapseOptions<'_>) -> io::Result
     Ok(status)
 }
 
-// Whether another file than a part stands where the joined one is to stand. That an input has its name is told before.
+// Whether the destination of the joined file is another file than a part. That an input has its name is reported
+// before.
 fn is_misused(
     rt: &HostRuntime,
     causes: &Causes,

@@ -37,7 +37,7 @@ pub fn load_folder(rt: &HostRuntime, options: &LoadOptions<'_>) -> io::Result<u8
     Ok(status)
 }
 
-// Reads the lines, and makes the files where none is at fault.
+// Reads the lines, and makes the files if none is at fault.
 fn load<E: Write>(
     explainer: &Explainer<'_>,
     options: &LoadOptions<'_>,
@@ -71,7 +71,7 @@ fn load<E: Write>(
     }
 }
 
-// Tells which line is at fault, and why.
+// Reports the line that is at fault, and why.
 fn tell_line<E: Write>(number: u64, fault: Fault, errors: &mut Tally<E>) -> Result<(), Refusal> {
     let mut buffer = Buffer::new();
     let line = buffer.format(number).as_bytes();
@@ -118,7 +118,7 @@ fn make_in<E: Write>(claim: &Claim<'_>, base: &Base, errors: &mut Tally<E>) -> i
     }
 }
 
-// The base first, then the log, which has no entry; or the file that can't be made, and why.
+// Makes the base first, then the log, which has no entry; gives the file that can't be made, and why.
 fn make_files(folder: &mut NewFolder<'_>, base: &Base) -> Result<(), (&'static str, Refusal)> {
     if let Err(why) = make_base(folder, base) {
         return Err((BASE, why));

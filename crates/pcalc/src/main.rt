@@ -1,5 +1,5 @@
-//! Runs a script of transactions or a workload of clients against a store, joins part files, recovers what a folder's files are worth,
-//! shows what a log has, tells whether files are whole, or serves the store of a folder.
+//! Runs a script of transactions or a workload of clients against a store, joins part files, recovers the state from a folder's files,
+//! prints the entries of a log, checks whether files are whole, or serves the store of a folder.
 #![tactic(auto)]
 
 mod dumping;
@@ -64,8 +64,8 @@ fn run_command<H: Threads + Wait + Sync>(rt: &HostRuntime, threads: &H) -> io::R
     }
 }
 
-// Prints the fault of usage, or the help or the version that was asked for; the status. A fault of usage has its own, also where it
-// can't be told.
+// Prints the fault of usage, or the help or the version that was asked for; the status. A fault of usage has its own, also if it can't
+// be told.
 fn tell(rt: &HostRuntime, told: Result<Error, Error>) -> io::Result<u8> {
     let e = match told {
         Ok(e) => e,

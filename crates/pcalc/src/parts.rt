@@ -8,7 +8,7 @@ use std::io::Read;
 use std::string::String;
 use std::{fs, io};
 
-/// How many bytes a magic has.
+/// The number of bytes that a magic has.
 const MAGIC: usize = 8;
 
 /// The magics of part files.
@@ -39,9 +39,9 @@ impl<'a> Inputs<'a> {
         self.paths.iter().any(|input| *input == path)
     }
 
-    /// The files. Each is opened when it is first read. Where they are many, or one is no plain file, as a pipe, whose writer may wait
+    /// The files. Each is opened when it is first read. If they are many, or one is no plain file, as a pipe, whose writer may wait
     /// until all of it is read, it is read whole before, unless one can't be opened or has the name of the target. It is an error only
-    /// where memory ran out.
+    /// if an allocation failed.
     pub fn open(&self, target: &str) -> Result<Vec<NamedFile<LateFile<'a>>>, Refusal> {
         let mut inputs = Vec::new(self.rt.alloc());
         let mut is_read = !self.has(target);
@@ -82,7 +82,7 @@ impl<'a> Inputs<'a> {
     }
 }
 
-// The file, all of whose bytes are read, where it can be opened.
+// The file, all of whose bytes are read, if it can be opened.
 fn read_whole(file: NamedFile<LateFile<'_>>) -> Result<NamedFile<LateFile<'_>>, Refusal> {
     let NamedFile { name, opened } = file;
     let opened = match opened {
@@ -139,7 +139,7 @@ pub struct JoinedFile<'a> {
     pub target: Target<'a>,
 }
 
-// What stands on a disk is known to no contract.
+// No contract knows the contents of a disk.
 impl<'a> Maker<Noted<'a, File>> for JoinedFile<'a> {
     ghost use Rattle.std.specs.Prelude.{⊤};
 

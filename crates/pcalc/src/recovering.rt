@@ -1,4 +1,4 @@
-//! A folder of which it is told what its files are worth, or those of the generation that counts.
+//! Prints the state recovered from a folder's files, or from those of the generation that counts.
 use pc_disk::{Causes, FoundFolder, ReadFolder, open_folder, output_before, tell_unopened};
 use pc_explanations::{About, Explained, Explainer, Lacking, explain_output, is_explained};
 use pc_options::RecoverOptions;

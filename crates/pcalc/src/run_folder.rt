@@ -16,7 +16,7 @@ use std::{fs, io};
 // How many bytes of a run's file are kept before they go out.
 const ROOM: usize = 65_536;
 
-/// A run's hold on its folder: the log, which it has made there before all else, and which is locked as long as this stands.
+/// A run's hold on its folder: the log, which it has made there before all else, and which is locked as long as this value lives.
 #[derive(Drop)]
 pub struct Claim<'a> {
     dir: ReadFolder<'a>,
@@ -24,7 +24,7 @@ pub struct Claim<'a> {
     is_synced: bool,
     // The log's file, which this run has made, or why it has not.
     log: Result<File, Unmade>,
-    // Whether the base stands in the folder: from then on there is something to recover.
+    // Whether the base is in the folder: from then on there is something to recover.
     has_begun: AtomicBool,
 }
 
@@ -38,8 +38,8 @@ enum Unmade {
 }
 
 impl<'a> Claim<'a> {
-    /// Claims the folder for a run: makes the log, where there is none, and no other file of a run. It is an error only where memory
-    /// ran out.
+    /// Claims the folder for a run: makes the log, if there is none, and no other file of a run. It is an error only if an
+    /// allocation failed.
     pub fn new(dir: ReadFolder<'a>, is_synced: bool) -> Result<Claim<'a>, AllocError> {
         let log = claim_folder(dir)?;
         let has_begun = AtomicBool::new(false);
@@ -51,7 +51,7 @@ impl<'a> Claim<'a> {
         })
     }
 
-    /// The folder, for the files of the run, or why it can't be used. It is an error only where memory ran out.
+    /// The folder, for the files of the run, or why it can't be used. It is an error only if an allocation failed.
     pub fn folder<'b>(&'b self) -> Result<RunFolder<NewFolder<'b>>, AllocError> {
         let name = Vec::from_slice(self.dir.rt.alloc(), self.dir.path.as_bytes())?;
         let files = match &self.log {
@@ -64,7 +64,7 @@ impl<'a> Claim<'a> {
         Ok(RunFolder { name, files })
     }
 
-    /// The run has ended. Where it ended before its base stood in the folder, the folder is left as it was.
+    /// The run has ended. If it ended before its base was in the folder, the folder is left as it was.
     pub fn end(self) {
         if self.log.is_ok() && !self.has_begun.load(Ordering::SeqCst) {
             remove_log(self.dir);
@@ -72,7 +72,7 @@ impl<'a> Claim<'a> {
     }
 }
 
-// Makes the log and locks it, where the folder has no file of a run.
+// Makes the log and locks it, if the folder has no file of a run.
 fn claim_folder(dir: ReadFolder<'_>) -> Result<Result<File, Unmade>, AllocError> {
     if let Err(why) = look(dir, false) {
         return Ok(Err(Unmade::Unusable(why)));
@@ -103,7 +103,7 @@ fn remove_log(dir: ReadFolder<'_>) {
     }
 }
 
-// Whether the folder can be used: it can be listed, and has no file of a run but its log, where that is this run's own.
+// Whether the folder can be used: it can be listed, and has no file of a run but its log, if that is this run's own.
 fn look(dir: ReadFolder<'_>, has_log: bool) -> Result<(), Unusable> {
     let names = match names_in(dir) {
         Ok(names) => names,
@@ -118,10 +118,10 @@ fn look(dir: ReadFolder<'_>, has_log: bool) -> Result<(), Unusable> {
     Ok(())
 }
 
-/// A folder in which a run makes its files. Where it is dropped, what isn't whole of them goes.
+/// A folder in which a run makes its files. If it is dropped, what isn't whole of them goes.
 pub struct NewFolder<'a> {
     claim: &'a Claim<'a>,
-    // The file that is made just now, where it is made apart.
+    // The file that is made just now, if it is made apart.
     made: Option<Target<'a>>,
 }
 
@@ -193,7 +193,7 @@ impl<'a> NewFolder<'a> {
     }
 }
 
-// What is on a disk is known to no contract.
+// No contract knows the contents of a disk.
 impl<'a> NewFiles<RunFile<'a>> for NewFolder<'a> {
     ghost use Rattle.std.specs.Prelude.{⊤, None};
 
@@ -238,7 +238,7 @@ impl<'a> NewFiles<RunFile<'a>> for NewFolder<'a> {
 #[derive(Drop)]
 pub struct RunFile<'a> {
     kept: BufWriter<Noted<'a, File>>,
-    // Whether what was written reaches the device where it is flushed.
+    // Whether what was written reaches the device if it is flushed.
     is_synced: bool,
 }
 

@@ -1,4 +1,4 @@
-//! A run of a workload: its files, what is shown of it, and what is told of it in the end.
+//! A run of a workload: its files, its progress, and its final report.
 use crate::gate::RunGate;
 use crate::parts::open_named;
 use crate::run_folder::Claim;
@@ -35,12 +35,12 @@ const MISUSED: u8 = 2;
 /// The status of a run whose workload has a bad line.
 const BAD_LINE: u8 = 3;
 
-/// What a run is given beside its options.
+/// The inputs of a run besides its options.
 #[derive(Drop)]
 pub struct Setting<'a> {
     rt: &'a HostRuntime,
     causes: &'a Causes,
-    /// What is counted and shown of it.
+    /// Its counts, which may be shown.
     pub progress: &'a Progress<'a>,
     // The folder from whose state it starts, if any.
     from: Option<&'a RecoveredFolder>,
@@ -48,7 +48,7 @@ pub struct Setting<'a> {
     is_explained: bool,
 }
 
-/// Runs the workload as the options say, and writes what was asked to be told of it; the status.
+/// Runs the workload as the options say, and writes the reports that were asked for; the status.
 pub fn run_clients<H: Threads + Wait + Sync>(
     rt: &HostRuntime,
     threads: &H,
@@ -81,7 +81,7 @@ fn found_start(
     }
 }
 
-// Runs the workload, and tells its faults; the status.
+// Runs the workload, and reports its faults; the status.
 fn run_told<H: Threads + Wait + Sync>(
     setting: &Setting<'_>,
     threads: &H,
@@ -108,7 +108,7 @@ fn run_told<H: Threads + Wait + Sync>(
     Ok(status)
 }
 
-// What its faults are about.
+// The subject of its faults.
 fn about<'a>(setting: &Setting<'a>, options: &RunOptions<'_>) -> About<'a> {
     match setting.from {
         Some(from) => About::Start(from.path.as_str(), options.capacity),
@@ -116,7 +116,7 @@ fn about<'a>(setting: &Setting<'a>, options: &RunOptions<'_>) -> About<'a> {
     }
 }
 
-// What is to be counted.
+// The counts that are asked for.
 fn asked(options: &RunOptions<'_>, is_explained: bool) -> Asked {
     Asked {
         is_quiet: options.is_quiet,
@@ -126,7 +126,7 @@ fn asked(options: &RunOptions<'_>, is_explained: bool) -> Asked {
     }
 }
 
-// Runs the workload, and writes its times to the file of this path, which is made before and gets its name in the end, where all else
+// Runs the workload, and writes its times to the file of this path, which is made before and gets its name in the end, if all else
 // was done.
 fn run_timed<H: Threads + Wait + Sync, E: Write>(
     setting: &Setting<'_>,
@@ -156,7 +156,7 @@ fn run_timed<H: Threads + Wait + Sync, E: Write>(
     status
 }
 
-// Why the times aren't written to this file, if they aren't: it is the workload, or stands among the files of a run.
+// Why the times aren't written to this file, if they aren't: it is the workload, or is among the files of a run.
 fn why_not_times(
     setting: &Setting<'_>,
     options: &RunOptions<'_>,
@@ -215,7 +215,7 @@ fn write_times<W: Write>(progress: &Progress<'_>, out: &mut W) -> io::Result<()>
     out.flush()
 }
 
-// What a run begins with: the seed of the hashes of its store, its hold on its folder, where there is one, and its workload.
+// The start of a run: the seed of the hashes of its store, its hold on its folder, if there is one, and its workload.
 #[derive(Drop)]
 struct Source<'a, R> {
     seed: RandomState,
@@ -223,7 +223,7 @@ struct Source<'a, R> {
     opened: Result<R, Refusal>,
 }
 
-/// Runs the workload in its folder, where there is one, which is claimed before all else; the status.
+/// Runs the workload in its folder, if there is one, which is claimed before all else; the status.
 pub fn run<H: Threads + Wait + Sync, E: Write>(
     setting: &Setting<'_>,
     threads: &H,
@@ -246,7 +246,7 @@ pub fn run<H: Threads + Wait + Sync, E: Write>(
     status
 }
 
-// Runs the workload. Where faults are explained it is read before, since it may be a pipe, and it is told why its bad line is one.
+// Runs the workload. If faults are explained it is read before, since it may be a pipe, and the reason for its bad line is printed.
 fn run_opened<H: Threads + Wait + Sync, E: Write>(
     setting: &Setting<'_>,
     threads: &H,
@@ -289,7 +289,7 @@ fn run_opened<H: Threads + Wait + Sync, E: Write>(
     Ok(status)
 }
 
-// Tells why the first bad line of the workload is one.
+// Reports why the first bad line of the workload is bad.
 fn tell_bad_line<E: Write>(
     alloc: Global,
     name: &str,
@@ -305,7 +305,7 @@ fn tell_bad_line<E: Write>(
     }
 }
 
-// Runs the workload, and prints what it leaves, and its report where that is asked for.
+// Runs the workload, and prints what it leaves, and its report if that is asked for.
 fn run_in<R: Read + Drop, H: Threads + Wait + Sync, E: Write>(
     setting: &Setting<'_>,
     threads: &H,
@@ -351,7 +351,7 @@ fn run_in<R: Read + Drop, H: Threads + Wait + Sync, E: Write>(
     Ok(status)
 }
 
-// What the store starts from. Of a folder, parts whose names are no UTF-8 are told.
+// The start of the store. Of a folder, parts whose names are no UTF-8 are reported.
 fn origin_of<'a, E: Write>(
     setting: &Setting<'a>,
     options: &RunOptions<'_>,

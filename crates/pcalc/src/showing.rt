@@ -1,4 +1,4 @@
-//! A run, and beside it the thread that shows how far it is.
+//! A run, and a concurrent thread that shows its progress.
 use crate::running::{Setting, run};
 use pc_options::RunOptions;
 use pc_types::Tally;
@@ -7,8 +7,8 @@ use std::sync::Wait;
 use std::thread::Threads;
 use std::{io, thread};
 
-/// Runs the workload as the options say; the status. Where a line is to be shown on a terminal, a thread of its own shows it until the run
-/// has ended; where that thread can't be started, nothing is shown.
+/// Runs the workload as the options say; the status. If a line is to be shown on a terminal, a thread of its own shows it until the run
+/// has ended; if that thread can't be started, nothing is shown.
 pub fn run_shown<H: Threads + Wait + Sync, E: Write>(
     setting: &Setting<'_>,
     threads: &H,

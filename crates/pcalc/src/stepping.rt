@@ -15,8 +15,8 @@ use std::io::{Read, Write};
 /// The status of a script that has a bad line.
 const BAD_LINES: u8 = 3;
 
-/// Runs the script as the options say; the status. The seed of the hashes of its store is drawn before anything is opened; where the
-/// system gives none, it is an error, and nothing is told.
+/// Runs the script as the options say; the status. The seed of the hashes of its store is drawn before anything is opened; if the
+/// system gives none, it is an error, and nothing is printed.
 pub fn step_script(rt: &HostRuntime, options: &StepOptions<'_>) -> io::Result<u8> {
     let causes = Causes::new(rt.alloc())?;
     let explainer = Explainer {
@@ -46,7 +46,7 @@ fn step_opened<E: Write>(
     }
 }
 
-// What the store is made with.
+// The setup of the store.
 fn setup_of(options: &StepOptions<'_>) -> Setup {
     Setup {
         run: options.run,
@@ -77,7 +77,7 @@ fn step<R: Read + Drop, E: Write>(
     Ok(ended.status)
 }
 
-// The same; then it is told of each bad line why it is one. The script is read before, since it may be a pipe.
+// The same; then the reason for each bad line is printed. The script is read before, since it may be a pipe.
 fn step_told<E: Write>(
     explainer: &Explainer<'_>,
     options: &StepOptions<'_>,

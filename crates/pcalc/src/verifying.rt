@@ -12,10 +12,10 @@ use std::alloc::{AllocError, Global};
 use std::io::{Read, Write};
 use std::{fs, io};
 
-/// The status where a file or a folder isn't whole.
+/// The status if a file or a folder isn't whole.
 const LACKING: u8 = 4;
 
-/// Tells of each of the files and folders whether it is whole, as the options say; the status.
+/// Reports for each of the files and folders whether it is whole, as the options say; the status.
 pub fn verify_paths(rt: &HostRuntime, options: &VerifyOptions<'_>) -> io::Result<u8> {
     let causes = Causes::new(rt.alloc())?;
     let explainer = Explainer {
@@ -31,7 +31,6 @@ pub fn verify_paths(rt: &HostRuntime, options: &VerifyOptions<'_>) -> io::Result
     Ok(status)
 }
 
-// The first path.
 fn first_of<'a>(options: &VerifyOptions<'a>) -> &'a str {
     match options.paths.first() {
         Some(path) => *path,
@@ -54,7 +53,7 @@ fn verify_all<E: Write>(
     }
 }
 
-// Whether all of them are whole. Where memory runs out, the error writer gets the path that it was needed for.
+// Whether all of them are whole. If an allocation fails, the error writer gets the path that it was needed for.
 fn verify_each<W: Write, E: Write>(
     explainer: &Explainer<'_>,
     options: &VerifyOptions<'_>,
@@ -92,7 +91,7 @@ fn verify_path<W: Write, E: Write>(
     }
 }
 
-// By its name's end a file is a base or a log, and else a part.
+// By its name's end a file is a base or a log, and otherwise a part.
 fn kind_of(path: &str) -> FileKind {
     if path.ends_with(".pcb") {
         FileKind::Base
@@ -167,7 +166,7 @@ fn verify_files<R: Read + Drop, W: Write, E: Write>(
     Ok(are_whole && is_whole)
 }
 
-// What recovery makes of the folder, without the pairs; whether it lacks nothing.
+// The result of recovering the folder, without the pairs; whether it lacks nothing.
 fn put_summary<W: Write, E: Write>(
     dir: ReadFolder<'_>,
     out: &mut Tally<W>,
@@ -189,7 +188,7 @@ fn put_summary<W: Write, E: Write>(
     Ok(ended.status == 0)
 }
 
-// The lines of a recovery up to that which tells how many pairs there are.
+// The lines of a recovery up to that with the number of pairs.
 #[derive(Drop)]
 struct BeforePairs {
     lines: Vec<u8>,

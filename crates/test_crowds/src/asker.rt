@@ -29,7 +29,7 @@ impl Asker {
         Ok(())
     }
 
-    /// Asks the event, counts the reply, and gives it.
+    /// Asks the event, counts the reply, and returns it.
     pub fn reply(&mut self, ask: Ask) -> Result<Reply, Refusal> {
         let event = event_of(self.alloc, ask)?;
         let reply = self.world.step(&event);

@@ -10,13 +10,13 @@ use test_support::{Ask, Sums};
 
 const WORD: [u8; 64] = [b'w'; 64];
 
-// A value of so many bytes.
+// A value of the given number of bytes.
 fn value_of(length: u32) -> &'static [u8] {
     &WORD[..length.min(64) as usize]
 }
 
-/// How the sessions come to the key: in steps of so many numbers, and whether every third of them writes it and the others
-/// read it, or the other way round. What a session writes is as long as its number says.
+/// How the sessions come to the key: in steps of the given number of numbers, and whether every third of them writes it and
+/// the others read it, or the other way round. What a session writes is as long as its number says.
 #[derive(Clone, Copy)]
 pub struct Crowd {
     pub stride: u32,
@@ -31,7 +31,6 @@ fn wish(crowd: Crowd, session: u32) -> Ask<'static> {
     }
 }
 
-// All begin.
 fn begin(asker: &mut Asker) -> Result<(), Refusal> {
     for session in 1..=64u32 {
         asker.ask(Ask::Begin(session))?;
@@ -48,7 +47,7 @@ fn come(asker: &mut Asker, crowd: Crowd) -> Result<(), Refusal> {
     Ok(())
 }
 
-// The session asks again for what it wishes and commits, or aborts where it has died. Whether its transaction has ended.
+// The session asks again for what it wishes and commits, or aborts if it has died. Whether its transaction has ended.
 fn turn(asker: &mut Asker, crowd: Crowd, session: u32) -> Result<bool, Refusal> {
     asker.ask(wish(crowd, session))?;
     match asker.reply(Ask::Commit(session))? {
@@ -86,7 +85,7 @@ fn end(asker: &mut Asker, crowd: Crowd) -> Result<(), Refusal> {
 }
 
 /// All begin and come to the key; then each has a turn, until none ends in it. The store is checked at the end. It fails
-/// only where memory ran out. The seed is that of the hashes of the store's keys.
+/// only if an allocation fails. The seed is that of the hashes of the store's keys.
 pub fn sums_of_crowd(alloc: Global, seed: RandomState, crowd: Crowd) -> Result<Sums, Refusal> {
     let world = World::new(alloc, Base::start(1, Vec::new(alloc)), 64, 2, seed)?;
     let mut asker = Asker::new(alloc, world);
@@ -163,9 +162,9 @@ fn look_back(asker: &mut Asker) -> Result<(), Refusal> {
     Ok(())
 }
 
-/// Half of the sessions wait for one another and are granted in the order in which they came, in a store with room for
-/// one key; the other half dies. The store is checked at the end. It fails only where memory ran out.
-/// The seed is that of the hashes of the store's keys.
+/// Half of the sessions wait for one another and are granted in the order in which they came, in a store with room for one
+/// key; the other half dies. The store is checked at the end. It fails only if an allocation fails. The seed is that of the
+/// hashes of the store's keys.
 pub fn sums_one_by_one(alloc: Global, seed: RandomState) -> Result<Sums, Refusal> {
     let world = World::new(alloc, Base::start(1, Vec::new(alloc)), 64, 1, seed)?;
     let mut asker = Asker::new(alloc, world);

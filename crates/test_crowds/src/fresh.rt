@@ -11,8 +11,8 @@ use test_support::{Ask, Sums};
 const ROUNDS: u32 = 1000;
 
 /// In each of 1,000 rounds a key that was never there is put, and removed by the next transaction, and a whole cycle takes all
-/// that there is of it. The store is checked at the end. It fails only where memory ran out. The seed is that of the hashes of
-/// the store's keys.
+/// that there is of it. The store is checked at the end. It fails only if an allocation fails. The seed is that of the hashes
+/// of the store's keys.
 pub fn sums_of_fresh_keys(alloc: Global, seed: RandomState) -> Result<Sums, Refusal> {
     let world = World::new(alloc, Base::start(1, Vec::new(alloc)), 1, 2, seed)?;
     let mut asker = Asker::new(alloc, world);

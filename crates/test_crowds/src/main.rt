@@ -1,4 +1,4 @@
-//! Asks stores for crowds of sessions at one key, for keys that come and go, and for a long walk by chance, and prints how
+//! Asks stores for crowds of sessions at one key, for keys that come and go, and for a long random walk, and prints how
 //! often each kind of reply was given, with sums over them.
 #![tactic(auto)]
 
@@ -19,7 +19,7 @@ use walk::sums_of_walk;
 // From the oldest on, from the youngest on, and in two mixed orders.
 const STRIDES: [u32; 4] = [1, 63, 27, 45];
 
-// The status is 1 where memory, the output or the draw of a seed failed.
+// The status is 1 if memory, the output or the draw of a seed failed.
 fn main(rt: HostRuntime) -> ExitCode {
     match run(&rt) {
         Ok(()) => ExitCode::from(0),

@@ -1,4 +1,4 @@
-//! A long walk by chance of eight sessions and the checkpointer over fifty keys, with joins now and then.
+//! A long random walk of eight sessions and the checkpointer over fifty keys, with joins now and then.
 
 use crate::asker::Asker;
 use pc_engine::World;
@@ -10,7 +10,7 @@ use test_support::{Ask, Sums, drawn, drawn_value, following};
 
 const LETTERS: [u8; 50] = *b"ABCDEFGHIJKLMNOPQRSTUVWXYZabcdefghijklmnopqrstuvwx";
 
-// How many steps there are.
+// The number of steps.
 const STEPS: u32 = 100_000;
 
 fn key_of(seed: u64) -> &'static [u8] {
@@ -18,7 +18,7 @@ fn key_of(seed: u64) -> &'static [u8] {
     &LETTERS[i.min(49)..i.min(49) + 1]
 }
 
-// Where the cycle is, as far as the replies have told, how many files there are, and the file of the points from 1 on
+// The state of the cycle, as far as the replies have told, how many files there are, and the file of the points from 1 on
 // that has the most of them.
 #[derive(Clone, Copy)]
 struct WalkCycle {
@@ -40,7 +40,7 @@ fn next_of(cycle: &WalkCycle) -> Ask<'static> {
     }
 }
 
-// What the checkpointer asks: most often what is next, and else any event of its own.
+// What the checkpointer asks: most often what is next, and otherwise any event of its own.
 fn checkpointer(seed: u64, cycle: &WalkCycle) -> Ask<'static> {
     match drawn(seed, 41, 30) {
         0 => Ask::StartPoint,
@@ -58,7 +58,7 @@ fn delta_of(seed: u64) -> i64 {
     i64::from(drawn(seed, 35, 28)).wrapping_sub(14)
 }
 
-// What a session asks. The one that was told that it must abort does so.
+// What a session asks. One that was answered `MustAbort` does so.
 fn session(seed: u64, dead: u32) -> Ask<'static> {
     if dead != 0 {
         return Ask::Abort(dead);
@@ -112,7 +112,7 @@ fn moved(cycle: &WalkCycle, has_part: bool, reply: &Reply) -> WalkCycle {
     now
 }
 
-// The walk: its seed, where the cycle stands, and the part of the last step and the session of that step that must abort,
+// The walk: its seed, the phase of the cycle, and the part of the last step and the session of that step that must abort,
 // or 0.
 #[derive(Clone, Copy)]
 struct Walk {
@@ -123,7 +123,8 @@ struct Walk {
 }
 
 // The next step of the walk: after each part it is joined with the file of all the points before it, so that there are
-// files of the points 1 to n for every n; now and then any two files are joined; else a session or the checkpointer asks.
+// files of the points 1 to n for every n; now and then any two files are joined; otherwise a session or the checkpointer
+// asks.
 fn next_ask(walk: &Walk) -> Ask<'static> {
     if walk.part > 1 {
         return Ask::Join(walk.cycle.whole, walk.part);
@@ -146,7 +147,7 @@ fn part_of(reply: &Reply) -> u32 {
     }
 }
 
-// The session, where it must abort, or 0.
+// The session, if it must abort, or 0.
 fn dead_of(session: u32, reply: &Reply) -> u32 {
     match reply {
         Reply::Refused(Refusal::MustAbort) => session,
@@ -182,7 +183,7 @@ const START: Walk = Walk {
     dead: 0,
 };
 
-// Walks so many steps, and checks the store at each tenth of them and at the end.
+// Walks the given number of steps, and checks the store at each tenth of them and at the end.
 fn go(asker: &mut Asker) -> Result<(), Refusal> {
     let mut walk = START;
     for n in 0..STEPS {
@@ -194,7 +195,7 @@ fn go(asker: &mut Asker) -> Result<(), Refusal> {
     asker.check()
 }
 
-/// Walks 100,000 steps. The store is checked at each tenth of them, and at the end. It fails only where memory ran out.
+/// Walks 100,000 steps. The store is checked at each tenth of them, and at the end. It fails only if an allocation fails.
 /// The seed is that of the hashes of the store's keys, and not of the walk.
 pub fn sums_of_walk(alloc: Global, seed: RandomState) -> Result<Sums, Refusal> {
     let world = World::new(alloc, Base::start(1, Vec::new(alloc)), 8, 50, seed)?;

@@ -28,7 +28,7 @@ const A_TOMBSTONE: [u8; 59] = *b"PCALCP02\
     \x00\x02\x00\x00ab\x00\x00\xff\xfe\x00\
     \x00\x00\x00\x00\x00\x02";
 
-// Points 1 to 3 of run 1, behind which `a` is `2`, of point 2, and `b` is gone, at point 3.
+// Points 1 to 3 of run 1, after which `a` is `2`, of point 2, and `b` is gone, at point 3.
 const THREE_POINTS: [u8; 59] = *b"PCALCP02\
     \x00\x00\x00\x00\x00\x00\x00\x01\
     \x00\x00\x00\x01\x00\x00\x00\x01\x00\x00\x00\x03\

@@ -11,7 +11,7 @@ use test_support::{EMPTY_BASE, ONE_KEY, SIX_ENTRIES, THIRD_POINT, TWO_KEYS};
 
 type Parts<'a> = Vec<NamedFile<Tape<'a>>>;
 
-// The parts: of each its name, its bytes, or why it can't be opened, and whether it is torn behind them.
+// The parts: of each its name, its bytes, or why it can't be opened, and whether it is torn after them.
 fn parts_of<'a>(
     alloc: Global,
     files: &[(&str, Result<&'a [u8], Refusal>, bool)],
@@ -46,8 +46,8 @@ fn alone<R>(alloc: Global, base: R) -> Folder<R> {
     }
 }
 
-// The status of the recovery of the folder `d d`, and whether its output takes what it is to, and just this is told; what is lacking
-// is handed back exactly where the status isn't 1.
+// The status of the recovery of the folder `d d`, and whether its output takes the expected text, and just this is reported; what is
+// lacking is handed back if and only if the status isn't 1.
 fn recover_as<R: Read + Drop>(
     alloc: Global,
     folder: Folder<R>,
@@ -69,12 +69,13 @@ fn recover<R: Read + Drop>(alloc: Global, folder: Folder<R>, out: Sink, told: &s
     recover_as(alloc, folder, false, out, told)
 }
 
-// Whether the recovery of the folder has the status 1, prints nothing and tells this.
+// Whether the recovery of the folder has the status 1, prints nothing and reports this.
 fn is_told<R: Read + Drop>(alloc: Global, folder: Folder<R>, told: &str) -> bool {
     recover(alloc, folder, Sink::of(b""), told) == (1, true)
 }
 
-// The folder of files' beginnings of so many bytes, of which one is torn: 1 is the base, 2 and 3 are the parts, and 4 is the log.
+// The folder of files' prefixes of the given number of bytes, of which one is torn: 1 is the base, 2 and 3 are the parts, and 4 is
+// the log.
 fn beginnings(alloc: Global, length: usize, torn: u8) -> Result<Folder<Tape<'static>>, AllocError> {
     let length = length.min(24);
     let files = [
@@ -88,7 +89,7 @@ fn beginnings(alloc: Global, length: usize, torn: u8) -> Result<Folder<Tape<'sta
     })
 }
 
-// How many reads of a file failed, where it is handed back for that; else 0.
+// The number of reads of a file that failed, if it is handed back for that; otherwise 0.
 fn failed_reads<R>(lost: &Option<Lost<R>>) -> u64 {
     let unread = match lost {
         Some(Lost::Base(unread)) => unread,
@@ -102,7 +103,7 @@ fn failed_reads<R>(lost: &Option<Lost<R>>) -> u64 {
     }
 }
 
-// How many reads failed of the file that a recovery of the folder hands back.
+// The number of reads that failed of the file that a recovery of the folder hands back.
 fn failed_reads_of<R: Read + Drop>(alloc: Global, folder: Folder<R>) -> u64 {
     let mut out = Tally::new(Sink::of(b""));
     let mut errors = Tally::new(Sink::of(b""));
@@ -213,7 +214,7 @@ fn damaged(alloc: Global) -> Result<Folder<Tape<'static>>, AllocError> {
 const RECOVERED: [u8; 75] = *b"point 1\nentries 1\nlog BadKind\n\
     skipped part-00003.pcp Gap 2\npairs 2\na 1\nb 1\n";
 
-// Where fewer bytes go out than there are, the status is 1, else it is 0, or 4 of a strict recovery; nothing is told.
+// If fewer bytes go out than there are, the status is 1, else it is 0, or 4 of a strict recovery; nothing is reported.
 #[test]
 fn stops_where_the_output_fails(rt: HostRuntime) -> Result<(), Fail> {
     for (is_strict, whole) in [(false, 0u8), (true, 4)] {
@@ -228,7 +229,7 @@ fn stops_where_the_output_fails(rt: HostRuntime) -> Result<(), Fail> {
     Ok(())
 }
 
-// The base of the run behind the one of the parts of two keys, with what they are worth.
+// The base of the run after that of the parts of two keys, with the state recovered from them.
 const NEXT_BASE: [u8; 44] = *b"PCALCB02\
     \x00\x00\x00\x00\x00\x00\x00\x02\
     \x00\x00\x00\x00\x00\x00\x00\x02\
@@ -256,7 +257,7 @@ fn makes_a_base_of_a_damaged_folder(rt: HostRuntime) -> Result<(), Fail> {
     Ok(())
 }
 
-// Whether no base is made of the folder where damage isn't accepted, and just this is told of that, by the name `d d`.
+// Whether no base is made of the folder if damage isn't accepted, and just this is reported of that, by the name `d d`.
 fn is_refused(alloc: Global, folder: Folder<Tape>, told: &str) -> bool {
     let mut errors = Tally::new(Sink::of(told.as_bytes()));
     let Err(lost) = recover_base(alloc, folder, false, &mut errors) else {
@@ -266,7 +267,7 @@ fn is_refused(alloc: Global, folder: Folder<Tape>, told: &str) -> bool {
     matches!(lost, Lost::Damaged) && went_out(errors)
 }
 
-// What is damaged is told before.
+// Damage is reported before.
 #[test]
 fn makes_no_base_of_a_damaged_folder(rt: HostRuntime) -> Result<(), Fail> {
     let told = "log BadKind\nskipped part-00003.pcp Gap 2\npcalc: d\\x20d: Damaged\n";
@@ -274,7 +275,7 @@ fn makes_no_base_of_a_damaged_folder(rt: HostRuntime) -> Result<(), Fail> {
     Ok(())
 }
 
-// The folder of a base and the first bytes of a log, so many of them.
+// The folder of a base and the given number of first bytes of a log.
 fn with_log(alloc: Global, length: usize) -> Folder<Tape<'static>> {
     let mut folder = alone(alloc, Tape::new(&EMPTY_BASE, false));
     folder.log = Ok(Tape::new(&SIX_ENTRIES[..length.min(SIX_ENTRIES.len())], false));
@@ -295,13 +296,13 @@ fn makes_no_base_beside_a_log_without_its_header(rt: HostRuntime) {
     }
 }
 
-// Whether a base is made of the folder where damage isn't accepted, and nothing is told.
+// Whether a base is made of the folder if damage isn't accepted, and nothing is reported.
 fn is_taken(alloc: Global, folder: Folder<Tape>) -> bool {
     let mut errors = Tally::new(Sink::of(b""));
     recover_base(alloc, folder, false, &mut errors).is_ok() && went_out(errors)
 }
 
-// A log that is cut off is no damage, at whatever byte behind its header.
+// A log that is truncated is no damage, at whatever byte after its header.
 #[test]
 fn makes_a_base_beside_a_log_that_is_cut_off(rt: HostRuntime) {
     for length in 20..=SIX_ENTRIES.len() {
@@ -325,7 +326,7 @@ const LAST_RUN: [u8; 24] = *b"PCALCB02\
     \xff\xff\xff\xff\xff\xff\xff\xff\
     \x00\x00\x00\x00\x00\x00\x00\x00";
 
-// Why no base is made of the folder of a base alone, where that is a fault of the folder, and whether nothing is told.
+// Why no base is made of the folder of a base alone, if that is a fault of the folder, and whether nothing is reported.
 fn why_unmade(alloc: Global, base: &'static [u8]) -> (Option<Refusal>, bool) {
     let mut errors = Tally::new(Sink::of(b""));
     let folder = alone(alloc, Tape::new(base, false));
@@ -337,7 +338,7 @@ fn why_unmade(alloc: Global, base: &'static [u8]) -> (Option<Refusal>, bool) {
     (why, went_out(errors))
 }
 
-// Though the log isn't there either, which is told last.
+// Though the log isn't there either, which is reported last.
 #[test]
 fn makes_no_base_behind_the_last_run(rt: HostRuntime) {
     for (base, why) in [

@@ -51,7 +51,7 @@ fn reader_of(
     PartReader::new(alloc, Tally::new(Tape { rest, step, then }))
 }
 
-// The join of two texts, the first of which may fail behind its bytes.
+// The join of two texts, the first of which may fail after its bytes.
 fn join_two<W: Write>(
     alloc: Global,
     first: (&[u8], Option<ErrorKind>),
@@ -132,7 +132,7 @@ fn a_changed_text_beside_a_whole_one(rt: HostRuntime) -> Result<(), Fail> {
     Ok(())
 }
 
-// The reader fails behind each number of its bytes; the count of the one that failed has risen, and no other.
+// The reader fails after each number of its bytes; the count of the one that failed has increased, and no other.
 #[test]
 fn a_reader_that_fails_at_each_place(rt: HostRuntime) -> Result<(), Fail> {
     let alloc = rt.alloc();
@@ -152,7 +152,8 @@ fn a_reader_that_fails_at_each_place(rt: HostRuntime) -> Result<(), Fail> {
     Ok(())
 }
 
-// A writer takes each number of bytes in turn, and then fails: just these went out, and Device is told where they aren't all.
+// A writer takes each number of bytes in turn, and then fails: just these went out, and `Device` is returned if they aren't
+// all.
 #[test]
 fn a_writer_that_takes_so_many_bytes(rt: HostRuntime) -> Result<(), Fail> {
     let alloc = rt.alloc();
@@ -166,7 +167,7 @@ fn a_writer_that_takes_so_many_bytes(rt: HostRuntime) -> Result<(), Fail> {
     Ok(())
 }
 
-// The text of a part of a point, of format 01 where its number is even, with keys of space 0 of which most are in the next
+// The text of a part of a point, of format 01 if its number is even, with keys of space 0 of which most are in the next
 // point's part too; each fifth has no value.
 fn text_at(alloc: Global, point: u16) -> Result<Vec<u8>, Refusal> {
     let mut text = Vec::new(alloc);
@@ -197,7 +198,7 @@ fn text_at(alloc: Global, point: u16) -> Result<Vec<u8>, Refusal> {
     Ok(text)
 }
 
-// Whether the join of the texts, read in steps of so many bytes, is their fold.
+// Whether the join of the texts, read in steps of the given number of bytes, is their fold.
 fn is_fold(alloc: Global, texts: &[Vec<u8>], step: usize) -> Result<bool, Refusal> {
     let mut parts = Vec::new(alloc);
     let mut inputs = Vec::new(alloc);
@@ -229,7 +230,7 @@ fn many_files_are_their_fold(rt: HostRuntime) -> Result<(), Fail> {
     Ok(())
 }
 
-// The longest entry, of 65,803 bytes, stands between two short ones.
+// The longest entry, of 65,803 bytes, is between two short ones.
 #[test]
 fn the_longest_entry_between_short_ones(rt: HostRuntime) -> Result<(), Fail> {
     let alloc = rt.alloc();

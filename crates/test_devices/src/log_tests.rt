@@ -31,7 +31,7 @@ fn put_entries(out: &mut Tally<Sink>, entries: &[Entry]) -> Result<(), Refusal> 
     Ok(())
 }
 
-// The writer takes each number of bytes in turn: so many of them go out, and a failure is told.
+// The writer takes each number of bytes in turn: that many of them go out, and a failure is returned.
 #[test]
 fn a_log_goes_out_as_far_as_the_writer_takes_it(rt: HostRuntime) -> Result<(), Fail> {
     let text = read_log(rt.alloc(), &SIX_ENTRIES)?;

@@ -5,7 +5,7 @@ use pc_types::{Key, Refusal, Tally, Value};
 use std::alloc::{AllocError, Global};
 use std::test::Fail;
 
-// So many pairs stand before one whose line is longer than a piece, and as many behind it.
+// The number of pairs before one whose line is longer than a piece, and also after it.
 const PAIRS: u16 = 2_000;
 
 const LONG: usize = 65_535;
@@ -55,7 +55,7 @@ fn digit(number: u16) -> u8 {
     b'0' + (number % 10) as u8
 }
 
-// So many zeros, and how they are printed.
+// The given number of zeros, and how they are printed.
 fn zeros(alloc: Global, count: usize) -> Result<(Vec<u8>, Vec<u8>), AllocError> {
     let mut bytes = Vec::new(alloc);
     let mut printed = Vec::new(alloc);

@@ -1,4 +1,4 @@
-//! What a refusal says in words, where a device or memory fails too.
+//! What a refusal says in words, if a device or memory fails too.
 use pc_types::{Point, Refusal};
 use std::test::Fail;
 

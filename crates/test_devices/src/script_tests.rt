@@ -30,8 +30,8 @@ impl Runner {
         })
     }
 
-    // The status of the script, and whether its output takes what it is to, and just this is told; of a reader that is handed back
-    // one read has failed, and one is handed back exactly where `Device` is told.
+    // The status of the script, and whether its output takes the expected text, and just this is reported; of a reader that is
+    // handed back one read has failed, and one is handed back if and only if `Device` is reported.
     fn run<R: Read + Drop>(
         &self,
         name: &str,
@@ -48,12 +48,12 @@ impl Runner {
         (ended.status, is_told && is_read_told)
     }
 
-    // Whether the script that can't be read is told so by its name, with the status 1 and nothing else.
+    // Whether a script that can't be read is reported by its name, with the status 1 and nothing else.
     fn is_told<R: Read + Drop>(&self, name: &str, opened: Result<R, Refusal>, told: &[u8]) -> bool {
         self.run(name, opened, Sink::of(b""), told) == (1, true)
     }
 
-    // The status of a script, and how much it prints and tells.
+    // The status of a script, and how much it prints and reports.
     fn outcome_of(&self, script: &[u8]) -> (u8, usize, usize) {
         let Runner { alloc, seed } = *self;
         let mut out = Tally::new(Vec::new(alloc));
@@ -64,7 +64,7 @@ impl Runner {
     }
 }
 
-// How many reads of the script failed, where it is handed back for that; else 0.
+// The number of reads of the script that failed, if it is handed back for that; otherwise 0.
 fn failed_reads<R>(ended: &EndedScript<R>) -> u64 {
     match &ended.unread {
         Some(Unread::Failed(reader)) => reader.failures(),
@@ -94,7 +94,7 @@ const SCRIPT: &[u8] = b"begin 1\nfrob\ncommit 1\n";
 
 const PRINTED: &[u8] = b"begun 1\nbad line\ncommitted 1\n";
 
-// What the script prints goes out as far as the writer takes it, and nothing is told.
+// What the script prints goes out as far as the writer takes it, and nothing is reported.
 #[test]
 fn stops_where_the_output_fails(rt: HostRuntime) -> Result<(), Fail> {
     let runner = Runner::new(&rt)?;
@@ -115,7 +115,7 @@ fn tells_nothing_of_a_flush_that_fails(rt: HostRuntime) -> Result<(), Fail> {
     Ok(())
 }
 
-// Where memory runs out, each line is answered by its answer or by that refusal, and asking again is allowed.
+// If an allocation fails, each line is answered by its answer or by that refusal, and asking again is allowed.
 #[test]
 fn asks_again_after_want_of_memory(rt: HostRuntime) -> Result<(), Fail> {
     let script =

@@ -4,27 +4,27 @@ use std::io;
 use std::io::{Error, ErrorKind, Write};
 
 /// Takes `room` bytes, at most `step` of them at a write, and compares them with the text that is wanted. Then it answers
-/// `then`, or that it takes nothing where that is `None`.
+/// `then`, or that it takes nothing if that is `None`.
 #[derive(Drop)]
 pub struct Sink<'a> {
-    /// What is wanted of the text behind the bytes that were taken.
+    /// What is wanted of the text after the bytes that were taken.
     pub wanted: &'a [u8],
     /// How many more bytes are taken.
     pub room: usize,
     /// How many bytes of the text there is no room for.
     pub excess: usize,
-    /// How many bytes are taken at most at a write.
+    /// The number of bytes taken at most at a write.
     pub step: usize,
     /// What is answered once there is no room.
     pub then: Option<ErrorKind>,
-    /// What a flush answers, where it fails.
+    /// What a flush answers, if it fails.
     pub flush_fault: Option<ErrorKind>,
     /// Whether all that was taken was wanted.
     pub is_same: bool,
 }
 
 impl<'a> Sink<'a> {
-    /// Takes so many bytes of this text, and then fails. Flushes succeed.
+    /// Takes the given number of bytes of this text, and then fails. Flushes succeed.
     pub fn new(wanted: &'a [u8], room: usize) -> Sink<'a> {
         Sink {
             wanted,
@@ -42,14 +42,14 @@ impl<'a> Sink<'a> {
         Sink::new(wanted, wanted.len())
     }
 
-    /// Takes this text, and fails where it is flushed.
+    /// Takes this text, and fails if it is flushed.
     pub fn unflushed(wanted: &'a [u8]) -> Sink<'a> {
         let mut sink = Sink::of(wanted);
         sink.flush_fault = Some(ErrorKind::Other);
         sink
     }
 
-    // Whether it has taken what it is to, with so many failures.
+    // Whether it has taken the expected text, with the given number of failures.
     fn is_right(&self, failures: u64) -> bool {
         let has_failed = self.excess > 0 || self.flush_fault.is_some();
         self.is_same && self.wanted.len() == self.excess && failures == u64::from(has_failed)
@@ -84,14 +84,14 @@ fn behind(text: &[u8], count: usize) -> &[u8] {
     &text[count.min(text.len())..]
 }
 
-/// Whether as much of the text went out as there was room for; where that isn't all of it, or the flush failed, one failure was
+/// Whether as much of the text went out as there was room for; if that isn't all of it, or the flush failed, one failure was
 /// counted.
 pub fn went_out(out: Tally<Sink>) -> bool {
     let failures = out.failures();
     out.into_inner().is_right(failures)
 }
 
-/// Whether it went out so, and `Device` was answered where that isn't all of it.
+/// Whether it went out so, and `Device` was answered if that isn't all of it.
 pub fn is_answered(out: Tally<Sink>, refused: Option<Refusal>) -> bool {
     let failures = out.failures();
     let sink = out.into_inner();
@@ -99,8 +99,8 @@ pub fn is_answered(out: Tally<Sink>, refused: Option<Refusal>) -> bool {
     refused == wanted && sink.is_right(failures)
 }
 
-/// Whether what is put is answered so by writers that take each number of bytes in turn, up to one more than the text has; else
-/// the number at which it isn't.
+/// Whether what is put is answered so by writers that take each number of bytes in turn, up to one more than the text has;
+/// otherwise the number at which it isn't.
 pub fn stops_at<F: Fn(&mut Tally<Sink>) -> Result<(), Refusal>>(
     text: &[u8],
     put: F,

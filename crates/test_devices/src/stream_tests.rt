@@ -72,7 +72,7 @@ fn push_header<R: Read>(text: &mut Vec<u8>, reader: &mut PartReader<R>) -> Resul
     Ok(())
 }
 
-// The text in format 02 of what a reader gives, entry by entry, up to its end; a Conflict where an entry's own text is another one.
+// The text in format 02 of what a reader gives, entry by entry, up to its end; a Conflict if an entry's own text is another one.
 fn told<R: Read>(alloc: Global, reader: &mut PartReader<R>) -> Result<Vec<u8>, Refusal> {
     let mut text = Vec::new(alloc);
     push_header(&mut text, reader)?;

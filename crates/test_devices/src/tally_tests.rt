@@ -8,7 +8,7 @@ use std::test::Fail;
 
 const FAULTS: [ErrorKind; 2] = [ErrorKind::Other, ErrorKind::Interrupted];
 
-// So many times 2, then 1, and then 0.
+// 2 the given number of times, then 1, and then 0.
 fn push_thirds(bytes: &mut Vec<u8>, third: usize) -> Result<(), AllocError> {
     for byte in [2u8, 1, 0] {
         for _ in 0..third {
@@ -38,7 +38,7 @@ fn reads_to_the_end(rt: HostRuntime) -> Result<(), Fail> {
     Ok(())
 }
 
-// Whether the reader's fault behind these bytes, five at a read, is answered by `Device` and counted once.
+// Whether the reader's fault after these bytes, five at a read, is answered by `Device` and counted once.
 fn is_stopped(alloc: Global, bytes: &[u8], fault: ErrorKind) -> bool {
     let mut tally = Tally::new(Tape {
         rest: bytes,

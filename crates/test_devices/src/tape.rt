@@ -2,19 +2,19 @@
 use std::io;
 use std::io::{Error, ErrorKind, Read};
 
-/// Gives the bytes, at most `step` of them at a read, and then ends, or answers `then`.
+/// Returns the bytes, at most `step` of them at a read, and then ends, or answers `then`.
 #[derive(Drop)]
 pub struct Tape<'a> {
     /// What is still to be read.
     pub rest: &'a [u8],
     /// How many bytes are given at most at a read.
     pub step: usize,
-    /// What is answered once all is read, where the end is a fault.
+    /// What is answered once all is read, if the end is a fault.
     pub then: Option<ErrorKind>,
 }
 
 impl<'a> Tape<'a> {
-    /// Gives the bytes and then ends, or fails where it is torn.
+    /// Returns the bytes and then ends, or fails if it is torn.
     pub fn new(rest: &'a [u8], is_torn: bool) -> Tape<'a> {
         let step = 1_000_000;
         let then = if is_torn {
@@ -42,7 +42,7 @@ impl<'a> Read for Tape<'a> {
     }
 }
 
-/// Gives the bytes before its failure, fails once, and then gives those behind it.
+/// Returns the bytes before its failure, fails once, and then gives those after it.
 #[derive(Drop)]
 pub struct TornOnce<'a> {
     /// What is read first.
@@ -54,7 +54,7 @@ pub struct TornOnce<'a> {
 }
 
 impl<'a> TornOnce<'a> {
-    /// Fails between both pieces, and ends behind the second.
+    /// Fails between both pieces, and ends after the second.
     pub fn new(before: &'a [u8], behind: &'a [u8]) -> TornOnce<'a> {
         TornOnce {
             before: Tape::new(before, true),

@@ -16,7 +16,7 @@ pub enum Found {
     Refused(Refusal),
 }
 
-/// How many entries or pairs were read, where the bytes of the last one end, the fault behind it in a log, and whether what
+/// How many entries or pairs were read, where the bytes of the last one end, the fault after it in a log, and whether what
 /// was read is written again as the bytes up to that end; else, how many bytes are written.
 #[derive(Clone, Copy)]
 pub struct ReadItems {
@@ -37,7 +37,7 @@ impl Found {
         }
     }
 
-    /// Prints it behind the label, as a line.
+    /// Prints it after the label, as a line.
     pub fn put<W: Write>(
         &self,
         alloc: Global,
@@ -132,7 +132,7 @@ fn read_base(alloc: Global, bytes: &[u8]) -> Result<ReadAgain, Refusal> {
     Ok(whole(base.pairs().len(), bytes, out.into_inner()))
 }
 
-// So many items in all of the bytes, which are written again so.
+// The given number of items in all of the bytes, which are written again so.
 fn whole(count: usize, bytes: &[u8], text: Vec<u8>) -> ReadAgain {
     let items = ReadItems {
         count,

@@ -33,7 +33,7 @@ pub fn put_items<W: Write>(
     }
 }
 
-/// Prints the part: its run, its points, the last of them where they are all from 1 on, and its entries.
+/// Prints the part: its run, its points, the last of them if they are all from 1 on, and its entries.
 pub fn put_part<W: Write>(alloc: Global, part: &Part, out: &mut Tally<W>) -> Result<(), Refusal> {
     let run = part.run();
     let complete = match part.complete_to() {
@@ -89,7 +89,7 @@ fn put_write<W: Write>(
     }
 }
 
-// A key: its space where that isn't 0, and its own bytes.
+// A key: its space if that isn't 0, and its own bytes.
 fn put_key<W: Write>(alloc: Global, key: &Key, out: &mut Tally<W>) -> Result<(), Refusal> {
     if key.space() != 0 {
         let space = format!(in alloc; "{}:", key.space())?;
@@ -120,8 +120,8 @@ pub fn put_base<W: Write>(alloc: Global, base: &Base, out: &mut Tally<W>) -> Res
     Ok(())
 }
 
-// The run, and each entry by its number in a log to which they are appended, with how many bytes are left behind it; and the
-// fault behind the last.
+// The run, and each entry by its number in a log to which they are appended, with how many bytes are left after it; and the
+// fault after the last.
 fn put_log<W: Write>(
     alloc: Global,
     format: Format,

@@ -8,12 +8,12 @@
 //! | `read` | what the text holds |
 //! | `list` | each entry or pair of the text |
 //! | `write` | the text that is written of what the text holds, of a log of its whole entries |
-//! | `cuts` | what each proper beginning of the text holds |
+//! | `cuts` | what each proper prefix of the text holds |
 //! | `changes` | what the text holds with each byte in turn of each value |
 //! | `longer` | what the text holds with one byte more, of each value |
 //! | `join` | the parts that the texts hold, joined from the left |
 //! | `stream` | the same, written as the texts are read, or why not, and what is then read of what was written |
-//! | `lay` | the base that the first text holds, with the parts of the others laid on it from the left |
+//! | `lay` | the base that the first text holds, with the parts of the others applied to it from the left |
 #![tactic(auto)]
 
 mod found;

@@ -23,7 +23,7 @@ pub fn put_read<W: Write>(
     found_in(alloc, kind, bytes).put(alloc, b"", out)
 }
 
-/// Prints what each proper beginning of the text holds, by its length.
+/// Prints what each proper prefix of the text holds, by its length.
 pub fn put_cuts<W: Write>(
     alloc: Global,
     kind: Kind,
@@ -85,7 +85,7 @@ fn put_values<W: Write>(
     put_span(alloc, span, label.as_bytes(), out)
 }
 
-// Prints the span where something else was found at the next number, and gives the span with that number in it.
+// Prints the span if something else was found at the next number, and returns the span with that number in it.
 fn extended<W: Write>(
     alloc: Global,
     span: Option<Span>,

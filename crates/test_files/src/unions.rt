@@ -1,4 +1,4 @@
-//! What is written again, and parts that are joined, and laid on a base.
+//! What is written again, and parts that are joined, and applied to a base.
 use crate::found::{put_refusal, rewritten};
 use crate::items::{put_base, put_hex, put_part};
 use crate::kinds::Kind;
@@ -34,7 +34,8 @@ fn joined(alloc: Global, text: &[u8], others: &[Vec<u8>]) -> Result<Part, Refusa
     Ok(part)
 }
 
-/// Prints the base that the text holds with the parts that the others hold laid on it, and its text, or why there is none.
+/// Prints the base that the text holds with the parts that the others hold applied to it, and its text, or why there is
+/// none.
 pub fn put_laid<W: Write>(
     alloc: Global,
     text: &[u8],

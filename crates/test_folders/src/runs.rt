@@ -67,7 +67,7 @@ fn run_into<'a, H: Threads + Wait + Sync>(
     )
 }
 
-// What is recovered of the base, the two parts and the log, where all of them are there.
+// What is recovered of the base, the two parts and the log, if all of them are there.
 fn recovered(alloc: Global, folder: &MemoryFolder) -> Result<Option<Recovered>, Refusal> {
     let (Some(base), Some(log)) = (folder.text(FileName::Base), folder.text(FileName::Log)) else {
         return Ok(None);
@@ -178,7 +178,7 @@ fn run_from<'a, H: Threads + Wait + Sync>(
     )
 }
 
-// How a run has ended: its status, whether it hands back a folder, and what it has printed and told.
+// How a run has ended: its status, whether it hands back a folder, and its output and its messages.
 #[derive(Drop)]
 struct Ended {
     status: u8,

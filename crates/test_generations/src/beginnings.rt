@@ -1,4 +1,4 @@
-//! What is left of a beginning that is cut off at each of its calls.
+//! The folders after a beginning that is interrupted at each of its calls.
 use crate::folders::{Failure, MemoryFolders, StoredFile};
 use pc_generations::{
     BASE_NAME, LOG_NAME, MOST_GENERATIONS, begin_generation, generation_name, latest_generation,
@@ -8,7 +8,8 @@ use pc_types::Refusal;
 use std::alloc::Global;
 use std::test::Fail;
 
-// How many calls a beginning makes over what is given: the new generation is made, its two files are written, and an older one goes.
+// The number of calls that a beginning makes over what is given: the new generation is made, its two files are written, and an older
+// one goes.
 const CALLS: usize = 4;
 
 fn add(files: &mut Vec<StoredFile>, alloc: Global, number: u32, name: &[u8]) -> Result<(), Fail> {
@@ -20,7 +21,7 @@ fn add(files: &mut Vec<StoredFile>, alloc: Global, number: u32, name: &[u8]) -> 
     Ok(())
 }
 
-// Generations 3 and 4, and what a beginning of 5 has left that was cut off.
+// Generations 3 and 4, and the remains of an interrupted beginning of 5.
 fn given(rt: &HostRuntime, calls: usize, failure: Failure) -> Result<MemoryFolders, Fail> {
     let alloc = rt.alloc();
     let mut files = Vec::new(alloc);
@@ -112,7 +113,7 @@ fn first_generation_begins(rt: HostRuntime) -> Result<(), Fail> {
     Ok(())
 }
 
-// The numbers of those of the generations 1 to 6 that are left where this many are kept before number 6.
+// The numbers of those of the generations 1 to 6 that are left if this many are kept before number 6.
 fn kept(rt: &HostRuntime, keep: u32) -> Result<Vec<u32>, Fail> {
     let alloc = rt.alloc();
     let mut files = Vec::new(alloc);

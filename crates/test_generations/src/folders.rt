@@ -17,11 +17,11 @@ pub struct StoredFile {
 pub enum Failure {
     /// As it was.
     Undone,
-    /// Done in part, or all of it, where it has no parts.
+    /// Done in part, or all of it, if it has no parts.
     Done,
 }
 
-/// Folders in memory. Of the calls that change them the one after `calls` more fails, and so do all behind it, which do nothing.
+/// Folders in memory. Of the calls that change them the one after `calls` more fails, and so do all after it, which do nothing.
 #[derive(Drop)]
 pub struct MemoryFolders {
     pub alloc: Global,
@@ -43,7 +43,7 @@ impl MemoryFolders {
         None
     }
 
-    /// How many files a generation has.
+    /// The number of files that a generation has.
     pub fn count(&self, number: u32) -> usize {
         let mut count = 0usize;
         for file in &self.files {
@@ -102,7 +102,7 @@ impl MemoryFolders {
         (is_done, Err(Refusal::Device))
     }
 
-    // The files of a generation go, or one of them where the call fails.
+    // The files of a generation go, or one of them if the call fails.
     fn clear(&mut self, number: u32) -> Result<(), Refusal> {
         let (is_made, called) = self.call();
         if is_made {
@@ -113,7 +113,7 @@ impl MemoryFolders {
     }
 }
 
-// What stands in these folders is read by the tests alone.
+// Only the tests read the contents of these folders.
 impl Generations for MemoryFolders {
     ghost use Rattle.std.specs.Prelude.{⊤};
 

@@ -1,7 +1,7 @@
-//! Calls that are made a second time where memory was wanting.
+//! Calls that are made a second time if an allocation failed.
 use pc_types::Refusal;
 
-/// What the call is told; where memory was wanting, what it is told the second time.
+/// The answer to the call; if an allocation failed, the answer to the second one.
 pub(crate) fn again<T, F: FnMut() -> Result<T, Refusal>>(mut call: F) -> Result<T, Refusal>
     requires { F.IsAlwaysCallable call }
 {

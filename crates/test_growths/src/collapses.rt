@@ -38,7 +38,7 @@ pub(crate) const JOINED: &[u8] = b"PCALCP02\
     \x00\x01\x00\x07b\x00\x00\x00\x03\x00\
     \x00\x00\x00\x00\x00\x02";
 
-// The parts of point 1, at which `a` was `1` and `b` was `9`, and of points 1 to 3, behind which `a` is `2` and `b` is gone.
+// The parts of point 1, at which `a` was `1` and `b` was `9`, and of points 1 to 3, after which `a` is `2` and `b` is gone.
 const WORKED: [&[u8]; 2] = [
     b"PCALCP02\
     \x00\x00\x00\x00\x00\x00\x00\x01\

@@ -40,7 +40,7 @@ pub(crate) struct Asker<'a, N: StoreName, R: Wait> {
 }
 
 impl<'a, N: StoreName, R: Wait> Asker<'a, N, R> {
-    // What the session is answered, where it isn't refused.
+    // What the session is answered, if it isn't refused.
     fn answer(&self, session: &mut Session<N>, ask: Ask) -> Result<Told, Refusal> {
         let (rt, shared) = (self.rt, self.shared);
         Ok(match ask {
@@ -64,7 +64,7 @@ impl<'a, N: StoreName, R: Wait> Asker<'a, N, R> {
         Key::new(self.alloc, key)
     }
 
-    /// What the session is answered. Where memory was wanting it shows what it did, and is asked again; an abort needs none.
+    /// What the session is answered. If an allocation failed it shows what it did, and is asked again; an abort needs none.
     pub(crate) fn answer_again(&self, session: &mut Session<N>, ask: Ask) -> Told {
         let before = shown(session);
         let told = match self.answer(session, ask) {
@@ -80,7 +80,7 @@ impl<'a, N: StoreName, R: Wait> Asker<'a, N, R> {
     }
 }
 
-// How an add is told.
+// The answer of an add.
 fn told_of(answer: CallAnswer) -> Told {
     match answer {
         CallAnswer::Sum(sum) => Told::Sum(sum),

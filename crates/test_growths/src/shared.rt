@@ -56,7 +56,7 @@ const SECOND: [(usize, Ask, Told); 5] = [
     (1, Ask::Commit, Told::Committed(7)),
 ];
 
-// Behind it, open till the end.
+// After it, open till the end.
 const LAST: [(usize, Ask, Told); 2] = [(0, Ask::Begin, Told::Begun(4)), (0, Ask::Del(A), OK)];
 
 // What two sessions that add are asked and answered: keys that are new, that the transaction has written, and that have a record.
@@ -94,7 +94,7 @@ const ADDED: Receipts = [Some((1, 0, 2)), None, Some((2, 1, 2)), Some((3, 0, 1))
 // The phases of a point.
 const PHASES: [Phase; 3] = [Phase::Prepare, Phase::Resolve, Phase::Capture];
 
-// How many entries the log has in the end: two commits, and five phases of each of two points.
+// The number of entries that the log has in the end: two commits, and five phases of each of two points.
 const ENTRIES: usize = 12;
 
 // Everybody at a store.
@@ -127,7 +127,7 @@ impl<'a, N: StoreName, R: Wait> Table<'a, N, R> {
         0
     }
 
-    // What the checkpointer is answered; asked again where memory was wanting.
+    // What the checkpointer is answered; asked again if an allocation failed.
     fn advance(&mut self) -> Result<Reply, Refusal> {
         again(|| unrefused(self.shared.advance(self.rt, &mut self.checkpointer)))
     }
@@ -147,7 +147,7 @@ impl<'a, N: StoreName, R: Wait> Table<'a, N, R> {
         true
     }
 
-    // Takes two keys, and then none; whether the part has so many entries, and the cycle ends.
+    // Takes two keys, and then none; whether the part has that many entries, and the cycle ends.
     fn completes(&mut self) -> bool {
         for _ in 0..2 {
             let Ok(Reply::Took(_, _)) = self.take() else {
@@ -163,7 +163,7 @@ impl<'a, N: StoreName, R: Wait> Table<'a, N, R> {
         matches!(self.advance(), Ok(Reply::Phase(Phase::Rest, _)))
     }
 
-    // The ticket of the file of this number; asked again where memory was wanting.
+    // The ticket of the file of this number; asked again if an allocation failed.
     fn ticket(&mut self, number: FileNo) -> Result<PartTicket<N>, Refusal> {
         let (rt, seat) = (self.rt, &mut self.checkpointer);
         again(|| self.shared.take_part(rt, seat, number))
@@ -195,7 +195,7 @@ impl<'a, N: StoreName, R: Wait> Table<'a, N, R> {
     }
 }
 
-// What the checkpointer is answered, where it isn't refused.
+// What the checkpointer is answered, if it isn't refused.
 fn unrefused(reply: Reply) -> Result<Reply, Refusal> {
     match reply {
         Reply::Refused(why) => Err(why),
@@ -203,7 +203,7 @@ fn unrefused(reply: Reply) -> Result<Reply, Refusal> {
     }
 }
 
-// The join of both; asked again where memory was wanting, of both as they were handed back.
+// The join of both; asked again if an allocation failed, of both as they were handed back.
 fn join<N: StoreName>(
     first: PartTicket<N>,
     second: PartTicket<N>,
@@ -215,7 +215,7 @@ fn join<N: StoreName>(
     joined.map_err(|(why, _first, _second)| why)
 }
 
-// A list of the ticket; made again where memory was wanting.
+// A list of the ticket; made again if an allocation failed.
 fn listed<N: StoreName>(
     alloc: Global,
     ticket: PartTicket<N>,
@@ -299,7 +299,7 @@ fn play<N: StoreName, R: Wait>(mut table: Table<N, R>) -> Result<Played, Refusal
     Ok(([first, second, last], taken, left(&table.close(tickets))))
 }
 
-// Everybody at the store; None where there was no memory to give it its name.
+// All participants of the store; `None` if the allocation of its name failed.
 fn named<N: StoreName, R: Wait>(rt: &R, alloc: Global, opened: Opened) -> Option<Table<'_, N, R>>
     requires { opened ≡ N.name }
 {
@@ -316,7 +316,7 @@ fn named<N: StoreName, R: Wait>(rt: &R, alloc: Global, opened: Opened) -> Option
     })
 }
 
-// What is played with the store; None where there was no memory to give it its name.
+// The results of the play with the store; `None` if the allocation of its name failed.
 fn play_named<N: StoreName, R: Wait>(
     rt: &R,
     alloc: Global,
@@ -333,7 +333,7 @@ fn play_named<N: StoreName, R: Wait>(
 // The number of the first wrong row of the adds, and the receipts.
 type PlayedAdds = (usize, Receipts);
 
-// What is played with adds; None where there was no memory to give the store its name.
+// The results of the play with adds; `None` if the allocation of the store's name failed.
 fn add_named<N: StoreName, R: Wait>(rt: &R, alloc: Global, opened: Opened) -> Option<PlayedAdds>
     requires { opened ≡ N.name }
 {
@@ -380,7 +380,7 @@ fn sessions_add_the_same_at_each_refused_growth(rt: HostRuntime) -> Result<(), F
 }
 
 // Whichever growth is refused, each call that is refused leaves its session and its pass as they were, and made again answers as
-// with ample memory, and so does all behind it.
+// with ample memory, and so does all after it.
 #[test]
 fn a_shared_store_answers_the_same_at_each_refused_growth(rt: HostRuntime) -> Result<(), Fail> {
     let seed = RandomState::new(&rt)?;

@@ -23,7 +23,7 @@ fn gives_all(alloc: Global) -> Result<bool, Refusal> {
     Ok(reader.failures() == 0)
 }
 
-// Whether the texts are joined to the text of their join. Where that is refused less than all of it may have gone out.
+// Whether the texts are joined to the text of their join. If that is refused less than all of it may have gone out.
 fn joins_all(alloc: Global) -> Result<bool, Refusal> {
     let mut out = Tally::new(Vec::with_capacity(alloc, ROOM)?);
     let mut inputs = Vec::new(alloc);

@@ -26,11 +26,11 @@ pub enum Rule {
     /// A list isn't gone on with once its last event was refused. The store is checked after the longest lists.
     CheckLongest,
     /// A list isn't gone on with once its last event was refused or found nothing to do. The store is checked after the
-    /// longest lists, where they would be gone on with.
+    /// longest lists, if they would be gone on with.
     CheckChanged,
 }
 
-/// All lists of 1 to so many events, each event one of the letters, which follow on the start.
+/// All lists of 1 to the given number of events, each event one of the letters, which follow on the start.
 #[derive(Clone, Copy)]
 pub struct Family {
     pub name: &'static str,
@@ -52,7 +52,7 @@ pub fn new_world(alloc: Global, seed: RandomState, store: StoreFamily) -> Result
 }
 
 impl Rule {
-    /// Whether a list with this last reply is gone on with; where it isn't, its last event has left the store as it was.
+    /// Whether a list with this last reply is gone on with; if it isn't, its last event has left the store as it was.
     pub fn goes_on(self, reply: &Reply) -> bool {
         match reply {
             Reply::Refused(_) => false,

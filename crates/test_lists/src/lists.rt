@@ -18,14 +18,14 @@ struct Way {
     world: World,
     // The seed of the hashes of each store's keys.
     seed: RandomState,
-    // Whether the store stands after all but the last.
+    // Whether the store is valid after all but the last.
     is_ready: bool,
     sums: Sums,
 }
 
 /// Goes through every list of the family: the replies to the events of its start, and then of each list the reply to its
-/// last event, a list before the longer ones that begin with it, and by the order of the letters. It fails only where
-/// memory ran out. All its stores hash their keys under the seed.
+/// last event, a list before the longer ones that begin with it, and by the order of the letters. It fails only if an
+/// allocation fails. All its stores hash their keys under the seed.
 pub fn sums_of(alloc: Global, seed: RandomState, family: &Family) -> Result<Sums, Refusal> {
     let mut way = way_into(alloc, seed, family)?;
     go_through(alloc, family, &mut way)?;

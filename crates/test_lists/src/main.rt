@@ -29,7 +29,7 @@ const FAMILIES: [Family; 11] = [
     ADDING_FROM_RESOLVE,
 ];
 
-// The status is 1 where memory, the output or the draw of a seed failed.
+// The status is 1 if memory, the output or the draw of a seed failed.
 fn main(rt: HostRuntime) -> ExitCode {
     match go_through(&rt) {
         Ok(()) => ExitCode::from(0),

@@ -7,7 +7,7 @@ use pc_types::{Mode, Outcome, SlotId, TxnNo};
 use std::alloc::{AllocError, Global};
 use std::marker::Model;
 
-/// How many slots there are. A greater number is that of a slot by its remainder.
+/// The number of slots. A greater number is that of a slot by its remainder.
 pub const SLOTS: u32 = 16;
 
 /// Locks, and who keeps the ends of their queues.
@@ -33,7 +33,7 @@ impl Model for LockSlots {
 }
 
 impl LockSlots {
-    /// No request stands.
+    /// There is no request.
     pub fn new(alloc: Global) -> Result<LockSlots, AllocError> {
         let row = RowOfEnds::new(alloc)?;
         let locks = Locks::new(alloc);
@@ -45,18 +45,18 @@ impl LockSlots {
         self.locks.is_waiting(transaction)
     }
 
-    /// Whether a request of the slot stands.
+    /// Whether the slot has a request.
     pub fn has_request(&self, slot: u32) -> bool {
         self.locks.has_request(&self.row, SlotId(slot % SLOTS))
     }
 
-    /// How a request of the slot would be answered, where the transaction doesn't wait.
+    /// How a request of the slot would be answered, if the transaction doesn't wait.
     pub fn outcome(&self, transaction: TxnNo, slot: u32, mode: Mode) -> Outcome {
         self.locks
             .outcome(&self.row, transaction, SlotId(slot % SLOTS), mode)
     }
 
-    /// How a request of the slot is answered; None where the transaction waits. Where memory ran out nothing changed.
+    /// How a request of the slot is answered; `None` if the transaction waits. If an allocation failed nothing changed.
     pub fn request(
         &mut self,
         transaction: TxnNo,

@@ -7,7 +7,7 @@ const FNV_OFFSET: u64 = 0xcbf2_9ce4_8422_2325;
 const FNV_PRIME: u64 = 0x0000_0100_0000_01b3;
 
 /// How many lists there were, how many of their last events came to what, how many transactions waited and at how many slots
-/// a request stood then, and the checksum.
+/// a slot then had a request, and the checksum.
 #[derive(Clone, Copy)]
 pub struct LockCounts {
     pub lists: u64,
@@ -39,7 +39,7 @@ pub const NO_COUNTS: LockCounts = LockCounts {
 };
 
 impl LockCounts {
-    /// Counts one more list, by the answer to its last event and what stands then.
+    /// Counts one more list, by the answer to its last event and the requests then.
     pub fn count(&mut self, answer: Answer, standing: u8) {
         self.lists = self.lists.wrapping_add(1);
         let number = self.count_answer(answer);
@@ -48,7 +48,7 @@ impl LockCounts {
         self.checksum = with_byte(with_byte(self.checksum, number), standing);
     }
 
-    // Counts the answer, and gives its number.
+    // Counts the answer, and returns its number.
     fn count_answer(&mut self, answer: Answer) -> u8 {
         match answer {
             Answer::NotAsked => {

@@ -5,7 +5,7 @@ use crate::table::{Answer, LockTable, TableEvent};
 use pc_types::{Mode, Refusal};
 use std::alloc::{AllocError, Global};
 
-/// Which lists are gone through: those of so many of the letters, 10 or 15, and at most so long.
+/// Which lists are gone through: those of the first 10 or 15 letters, and at most the given number of events long.
 #[derive(Clone, Copy)]
 pub struct ListBounds {
     pub letters: usize,
@@ -44,15 +44,15 @@ fn last_answer(table: &mut LockTable, list: &[usize]) -> Result<Answer, Refusal>
     Ok(last)
 }
 
-// The same, and what stands then.
+// The same, and the requests then.
 fn outcome(alloc: Global, list: &[usize]) -> Result<(Answer, u8), Refusal> {
     let mut table = LockTable::new(alloc)?;
     let last = last_answer(&mut table, list)?;
     Ok((last, table.standing()))
 }
 
-// The next list, depth first: a longer one where that is wanted, else one with the next letter in the last place that has
-// another. It is empty where none is left.
+// The next list, depth first: a longer one if that is wanted, else one with the next letter in the last place that has
+// another. It is empty if none is left.
 fn go_on(list: &mut Vec<usize>, lists: ListBounds, is_longer: bool) -> Result<(), AllocError> {
     if is_longer && list.len() < lists.most {
         list.push(0)?;

@@ -1,10 +1,10 @@
-//! Goes through every short list of requests and releases of locks, and tells how many there are and what they came to.
+//! Goes through every short list of requests and releases of locks, and prints how many there are and their outcomes.
 //!
 //! A list isn't gone on with once its last event was not asked: a transaction that waits only releases, and so does one that
 //! died, until it has released all. Of each list the answer to its last event is counted, and who waits then, and at how many
-//! slots a request stands. The checksum is FNV-1a of 64 bits over two bytes a list, in the order of the lists: the answer's
-//! number (0 not asked, 1 granted, 2 queued, 3 died, 4 and 5 released slot 0 and 1, 6 nothing, 7 not foretold), and what stands then (1, 2 and 4
-//! where the transactions 1, 2 and 3 wait, 8 and 16 where a request stands at the slots 0 and 1).
+//! slots there is a request. The checksum is FNV-1a of 64 bits over two bytes a list, in the order of the lists: the answer's
+//! number (0 not asked, 1 granted, 2 queued, 3 died, 4 and 5 released slot 0 and 1, 6 nothing, 7 not previewed), and the
+//! requests then (1, 2 and 4 if the transactions 1, 2 and 3 wait, 8 and 16 if the slots 0 and 1 have a request).
 #![tactic(auto)]
 
 mod counts;

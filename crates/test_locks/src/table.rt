@@ -13,7 +13,7 @@ pub enum Answer {
     Died,
     Released(u32),
     Nothing,
-    /// A request was answered otherwise than was foretold just before.
+    /// A request was answered otherwise than was previewed just before.
     NotForetold,
 }
 
@@ -25,8 +25,8 @@ pub struct TableEvent {
     pub mode: Option<Mode>,
 }
 
-/// Locks of two slots; which transactions died and have not released all since, and where each has a request: a bit for each
-/// transaction, and for each transaction and slot.
+/// Locks of two slots; which transactions died and have not released all since, and at which slots each has a request: a bit
+/// for each transaction, and for each transaction and slot.
 #[derive(Drop)]
 pub struct LockTable {
     slots: LockSlots,
@@ -61,7 +61,7 @@ fn request_bit(transaction: u8, slot: u32) -> u8 {
 }
 
 impl LockTable {
-    /// No request stands.
+    /// There is no request.
     pub fn new(alloc: Global) -> Result<LockTable, Refusal> {
         let slots = LockSlots::new(alloc)?;
         Ok(LockTable {
@@ -71,7 +71,7 @@ impl LockTable {
         })
     }
 
-    /// Does what is asked, where the transaction may ask it.
+    /// Does what is asked, if the transaction may ask it.
     pub fn answer(&mut self, event: TableEvent) -> Result<Answer, Refusal> {
         match event.mode {
             None => Ok(self.release(event.transaction)),
@@ -118,7 +118,7 @@ impl LockTable {
         }
     }
 
-    /// What stands: 1, 2 and 4 where the transactions 1, 2 and 3 wait, 8 and 16 where a request stands at the slots 0 and 1.
+    /// The requests: 1, 2 and 4 if the transactions 1, 2 and 3 wait, 8 and 16 if the slots 0 and 1 have a request.
     pub fn standing(&self) -> u8 {
         let mut bits = 0;
         for transaction in 1..4u8 {

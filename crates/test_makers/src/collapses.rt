@@ -1,4 +1,4 @@
-//! What stands under the name of a joined file behind a collapse that is done, that fails, or whose file can't get the name.
+//! The contents of a joined file after a collapse that succeeds, that fails, or whose file can't get the name.
 use crate::memory::MemoryFile;
 use pc_collapse_files::run_collapse;
 use pc_texts::NamedFile;
@@ -27,7 +27,7 @@ const BOTH: &[u8] = b"PCALCP02\
     \x00\x01\x00\x00a\x00\x00\x00\x02\x01\x00\x00\x00\x012\
     \x00\x00\x00\x00\x00\x01";
 
-// Joins the first part and the bytes, and gives the status.
+// Joins the first part and the bytes, and returns the status.
 fn collapse(alloc: Global, second: &[u8], file: &mut MemoryFile) -> Result<u8, Refusal> {
     let mut files = Vec::new(alloc);
     for (name, bytes) in [(b"1", FIRST), (b"2", second)] {
@@ -50,7 +50,7 @@ fn the_join_takes_the_place_of_what_stood_there(rt: HostRuntime) -> Result<(), F
     Ok(())
 }
 
-// The second input is cut off at each byte.
+// The second input is truncated at each byte.
 #[test]
 fn a_fault_leaves_what_stood_there(rt: HostRuntime) -> Result<(), Fail> {
     let alloc = rt.alloc();

@@ -1,4 +1,4 @@
-//! Collapses into a file of which contracts know what stands under its name: one in memory.
+//! Collapses into a file whose contents contracts know: one in memory.
 #![tactic(auto)]
 
 #[cfg(test)]

@@ -5,18 +5,18 @@ use pc_collapse_files::Maker;
 use pc_types::Refusal;
 use std::alloc::Global;
 
-/// A file in memory: the bytes that stand under its name, which are those of the file that was finished last.
+/// A file in memory: the bytes under its name, which are those of the file that was finished last.
 #[derive(Drop)]
 pub struct MemoryFile {
     alloc: Global,
-    /// What stands under the name.
+    /// The contents under the name.
     pub standing: Vec<u8>,
     /// Whether no file can get the name.
     pub is_unnamed: bool,
 }
 
 impl MemoryFile {
-    /// These bytes stand under the name.
+    /// Puts these bytes under the name.
     pub fn new(alloc: Global, standing: Vec<u8>) -> MemoryFile
         ensures { result.standing.items ≡ standing.items }
     {

@@ -1,12 +1,12 @@
-//! What a store answers, in plain words, asked again where memory was wanting.
+//! What a store answers, in plain words, asked again if an allocation failed.
 
 use pc_engine::World;
 use pc_types::{Event, Phase, Point, Refusal, Reply, Value};
 use std::alloc::Global;
 use test_support::{Ask, event_of};
 
-/// What the store answers. Of a value that was found the length is told; of a key that was taken the first byte, and that
-/// of what it had, or 0; of a joined file's points the digits.
+/// The store's answer. Of a value that was found it has the length; of a key that was taken the first byte, and that of
+/// what it had, or 0; of a joined file's points the digits.
 #[derive(Clone, Copy, Debug, PartialEq)]
 pub(crate) enum Told {
     Begun(u64),
@@ -76,7 +76,7 @@ fn digits(points: &[Point]) -> u32 {
     digits
 }
 
-// What the world answers to the event; where memory is wanting it is asked again, but an abort, which needs none.
+// What the world answers to the event; if an allocation fails it is asked again, but an abort, which needs none.
 fn ask_again(world: &mut World, event: &Event) -> Told {
     let answer = tell(&world.step(event));
     match (answer, event) {
@@ -86,7 +86,7 @@ fn ask_again(world: &mut World, event: &Event) -> Told {
     }
 }
 
-/// What the world answers; the event is made again where memory was wanting for it.
+/// What the world answers; the event is made again if an allocation failed for it.
 pub(crate) fn answer(alloc: Global, world: &mut World, ask: Ask) -> Told {
     if let Ok(event) = event_of(alloc, ask) {
         return ask_again(world, &event);
@@ -112,7 +112,7 @@ pub(crate) fn first_wrong(
     None
 }
 
-/// Whether the store is right; where memory is wanting it is asked again.
+/// Whether the store is correct; if an allocation fails it is asked again.
 pub(crate) fn is_right(world: &World) -> Result<bool, Refusal> {
     match world.check() {
         Ok(is_right) => Ok(is_right),

@@ -1,4 +1,4 @@
-//! Parts that are joined, and laid on a base.
+//! Parts that are joined, and applied to a base.
 ghost use Rattle.std.specs.Prelude.{◌≤◌};
 
 use pc_part::{Base, Part, join, lay};
@@ -30,7 +30,7 @@ pub(crate) type Pair = (&'static [u8], &'static [u8]);
 
 const PAIRS: [Pair; 2] = [(b"b", b"0"), (b"c", b"0")];
 
-// These with the part of point 1 laid on them.
+// These with the part of point 1 applied to them.
 const LAID: [Pair; 3] = [(b"b", b"0"), (b"c", b"0"), (LONG, LONG)];
 
 // The part of a point of run 1 at which one key was taken.
@@ -67,7 +67,7 @@ fn text_of(alloc: Global, part: &Part) -> Result<Vec<u8>, Refusal> {
     Ok(out.into_inner())
 }
 
-/// Whether the part's text is this, written again where memory was wanting.
+/// Whether the part's text is this, written again if an allocation failed.
 pub(crate) fn has_text(alloc: Global, part: &Part, text: &[u8]) -> Result<bool, Refusal> {
     let found = match text_of(alloc, part) {
         Err(_) => text_of(alloc, part)?,
@@ -159,7 +159,7 @@ pub(crate) fn are_pairs(pairs: &[(Key, Value)], wanted: &[Pair]) -> bool {
     pairs.len() == wanted.len()
 }
 
-// What isn't as it should be once the part is laid on the base.
+// What isn't as it should be once the part is applied to the base.
 fn wrong_of_laying(alloc: Global) -> Result<&'static str, Refusal> {
     let base = base(alloc)?;
     let part = first(alloc)?;

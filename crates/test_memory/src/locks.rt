@@ -1,4 +1,4 @@
-//! Locks beside a twin: one growth of memory is refused, so at most one of the two is ever asked again for an event.
+//! Locks next to a twin: one growth of memory is refused, so at most one of the two is ever asked again for an event.
 
 use pc_types::{Mode, Outcome, SlotId, TxnNo};
 use std::alloc::{AllocError, Global};
@@ -31,7 +31,7 @@ const ROWS: [(LockEvent, &str); 29] = [
     ((1, 0, None), "released 0"),
     ((1, 0, None), "released 1"),
     ((1, 0, None), "nothing"),
-    // An upgrade beside another reader dies, and the shared lock stays.
+    // An upgrade while there is another reader dies, and the shared lock stays.
     ((1, 1, READ), "granted"),
     ((2, 1, READ), "granted"),
     ((1, 1, WRITE), "died"),
@@ -39,7 +39,7 @@ const ROWS: [(LockEvent, &str); 29] = [
     ((1, 1, None), "released 1"),
     ((2, 1, WRITE), "granted"),
     ((2, 1, None), "released 1"),
-    // Two that wait are granted in order; a reader behind a writer that waits stays where it is.
+    // Two that wait are granted in order; a reader after a writer that waits stays where it is.
     ((9, 0, WRITE), "granted"),
     ((8, 0, READ), "queued"),
     ((7, 0, WRITE), "queued"),
@@ -50,7 +50,7 @@ const ROWS: [(LockEvent, &str); 29] = [
     ((8, 0, None), "released 0"),
 ];
 
-// What comes of an event, where memory isn't wanting.
+// What comes of an event, if no allocation fails.
 fn done(locks: &mut LockSlots, event: LockEvent) -> Result<&'static str, AllocError> {
     let (number, slot, mode) = event;
     let transaction = TxnNo(number);
@@ -83,7 +83,7 @@ fn look_alike(one: &LockSlots, other: &LockSlots) -> bool {
     one.has_request(0) == other.has_request(0) && one.has_request(1) == other.has_request(1)
 }
 
-// What comes of an event. Where memory was wanting they are asked again, and have to look as the twin, which wasn't asked
+// The outcome of an event. If an allocation failed they are asked again, and have to look as the twin, which wasn't asked
 // for this event yet.
 fn done_again(
     locks: &mut LockSlots,
@@ -118,7 +118,7 @@ fn is_right(
     Ok(word == wanted && other == wanted && look_alike(locks, twin))
 }
 
-// Locks; where memory is wanting they are made again.
+// Locks; if an allocation fails they are made again.
 fn new_locks(alloc: Global) -> Result<LockSlots, AllocError> {
     match LockSlots::new(alloc) {
         Ok(locks) => Ok(locks),
@@ -166,7 +166,7 @@ fn leaver(n: u64) -> (LockEvent, &'static str) {
     ((transaction, 0, None), word)
 }
 
-// The nth event of the crowd: each comes, each releases, and then releases again, where nothing is left.
+// The nth event of the crowd: each comes, each releases, and then releases again, if nothing is left.
 fn crowd_row(n: u64) -> (LockEvent, &'static str) {
     if n < 64 {
         return comer(n);
@@ -188,7 +188,7 @@ fn first_wrong_of_crowd(alloc: Global) -> Result<Option<u64>, AllocError> {
     Ok(None)
 }
 
-// Whether the transaction 1 is granted to read the slot; it asks again where memory was wanting.
+// Whether the transaction 1 is granted to read the slot; it asks again if an allocation failed.
 fn reads(locks: &mut LockSlots, slot: u32) -> Result<bool, AllocError> {
     if let Ok(is_granted) = reads_once(locks, slot) {
         return Ok(is_granted);
@@ -221,7 +221,7 @@ fn releases_all(locks: &mut LockSlots) -> bool {
     locks.release_one(TxnNo(1)).is_none()
 }
 
-// Whether one transaction's long list of slots is right.
+// Whether one transaction's long list of slots is correct.
 fn is_long_list_right(alloc: Global) -> Result<bool, AllocError> {
     let mut locks = new_locks(alloc)?;
     Ok(reads_all(&mut locks)? && releases_all(&mut locks))
@@ -237,9 +237,9 @@ fn gives_back_and_reads(locks: &mut LockSlots) -> Result<bool, AllocError> {
     Ok(true)
 }
 
-// Whether requests with room are granted the first time: a transaction reads each of 16 slots, asking again where memory
-// was wanting, and then gives each back and reads it once more. Its list never becomes empty, and the place that it gave
-// back has its links, so that no growth is asked for and none can be refused.
+// Whether requests with room are granted the first time: a transaction reads each of 16 slots, asking again if an
+// allocation failed, and then gives each back and reads it once more. Its list never becomes empty, and the place that it
+// gave back has its links, so that no growth is asked for and none can be refused.
 fn reads_again_at_once(alloc: Global) -> Result<bool, AllocError> {
     let mut locks = new_locks(alloc)?;
     Ok(reads_all(&mut locks)? && gives_back_and_reads(&mut locks)?)

@@ -1,4 +1,4 @@
-//! What a base, parts and a log are worth after a crash.
+//! The state recovered from a base, parts and a log after a crash.
 
 use crate::files::{Pair, are_pairs};
 use pc_recover::{Recovered, recover};
@@ -73,8 +73,8 @@ const OLD_LOG: [u8; 47] = *b"PCALCL01\
 
 const LONG_KEY: &[u8] = b"0123456789abcdefg";
 
-// Parts and the first so many bytes of a log: the point and the entries that are found, the part that is skipped with its
-// place, the log's fault, and the pairs.
+// Parts and the given number of first bytes of a log: the point and the entries that are found, the part that is skipped
+// with its place, the log's fault, and the pairs.
 struct RecoveryRow {
     parts: &'static [&'static [u8]],
     log: &'static [u8],
@@ -300,7 +300,7 @@ fn wrong_of(alloc: Global, row: &RecoveryRow) -> Result<&'static str, Refusal> {
     Ok(wrong_in(&recovered, row))
 }
 
-// Whichever growth is refused, asked again the files are worth the same.
+// Whichever growth is refused, asked again the recovered state is the same.
 #[test]
 fn files_are_worth_the_same_at_each_refused_growth(rt: HostRuntime) -> Result<(), Fail> {
     for (i, row) in ROWS.iter().enumerate() {

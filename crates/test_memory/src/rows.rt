@@ -22,7 +22,7 @@ fn replayed(
     ended(alloc, &mut world, rows, files)
 }
 
-// A transaction that began before the point's seal and commits behind it, beside one that commits before it.
+// A transaction that began before the point's seal and commits after it, concurrently with one that commits before it.
 const COMMIT_BEHIND: [(Ask, Told); 18] = [
     (Ask::Begin(1), Told::Begun(1)),
     (Ask::Put(1, b"a", b"1"), Told::Ok),

@@ -1,4 +1,4 @@
-//! What a store shows beside its answers.
+//! What a store shows besides its answers.
 
 use crate::asked::{Told, answer, first_wrong, tell};
 use crate::files::{Pair, are_pairs};
@@ -12,7 +12,7 @@ use std::hash::RandomState;
 use std::test::Fail;
 use test_support::{Ask, events_of};
 
-// How many replies there are, and what the second one tells.
+// The number of replies, and the content of the second one.
 fn second_told(replies: &[Reply]) -> (usize, Told) {
     match replies.get(1) {
         Some(reply) => (replies.len(), tell(reply)),
@@ -20,7 +20,7 @@ fn second_told(replies: &[Reply]) -> (usize, Told) {
     }
 }
 
-// What two events are told, by a run over both.
+// The replies to two events, by a run over both.
 fn told_by_run(alloc: Global, seed: RandomState) -> Result<(usize, Told), Refusal> {
     let events = events_of(alloc, &[Ask::Begin(1), Ask::Commit(1)])?;
     let base = Base::start(1, Vec::new(alloc));
@@ -68,7 +68,7 @@ fn is_committed(world: &World, pairs: &[Pair]) -> Result<bool, Refusal> {
     Ok(is_base && are_pairs(&committed, pairs))
 }
 
-// An event, what it is told, and the log's length, the number of files and the committed pairs then.
+// An event, its reply, and the log's length, the number of files and the committed pairs then.
 type ShownRow = (Ask<'static>, Told, usize, usize, &'static [Pair]);
 
 const ROWS: [ShownRow; 9] = [
@@ -111,7 +111,7 @@ fn shows_what_it_holds(rt: HostRuntime) -> Result<(), Fail> {
     Ok(())
 }
 
-// How many entries a file has that was handed out before its store went.
+// The number of entries that a file has that was handed out before its store went.
 fn entries_of_handed(alloc: Global, seed: RandomState) -> Result<usize, Refusal> {
     let mut world = new_world(alloc, seed, PAIR, 1, 2)?;
     first_not_shown(alloc, &mut world)?;

@@ -42,10 +42,10 @@ fn first_wrong_file(alloc: Global, world: &World, files: &[StoredFile]) -> Resul
     Ok(0)
 }
 
-/// What comes of rows: the first wrong answer, whether the store is right then, and the first wrong file, or 0.
+/// What comes of rows: the first wrong answer, whether the store is correct then, and the first wrong file, or 0.
 pub(crate) type Ended = (Option<(usize, Told)>, bool, u32);
 
-/// Where all is right.
+/// Everything is correct.
 pub(crate) const RIGHT: Ended = (None, true, 0);
 
 /// Asks the rows of the store; what comes of them and of these files.
@@ -121,8 +121,8 @@ fn a_store_answers_the_same_at_each_refused_growth(rt: HostRuntime) -> Result<()
     Ok(())
 }
 
-// The first point, beside a commit that it waits for, one that comes after it, a death, and aborts of writers of keys that
-// are left to take.
+// The first point, concurrently with a commit that it waits for, one that comes after it, a death, and aborts of writers of
+// keys that are left to take.
 const FIRST_POINT: [(Ask, Told); 32] = [
     (Ask::Begin(1), Told::Begun(1)),
     (Ask::Put(1, A, ONE), Told::Ok),
@@ -197,7 +197,7 @@ const BOTH_FILE: [u8; 116] = *b"PCALCP02\
 
 const BOTH_FILES: [StoredFile; 3] = [(1, &FIRST_FILE), (3, &BOTH_FILE), (4, &BOTH_FILE)];
 
-// What comes of the first point, where that is wrong, or else of the second.
+// What comes of the first point, if that is wrong, or else of the second.
 fn both_points(alloc: Global, world: &mut World) -> Result<Ended, Refusal> {
     let first = ended(alloc, world, &FIRST_POINT, &[])?;
     if first != RIGHT {
@@ -220,7 +220,7 @@ fn points_are_the_same_at_each_refused_growth(rt: HostRuntime) -> Result<(), Fai
     Ok(())
 }
 
-// Adds of two transactions, of one that dies, and of two that commit behind the point, the later one first.
+// Adds of two transactions, of one that dies, and of two that commit after the point, the later one first.
 const ADDS: [(Ask, Told); 35] = [
     (Ask::Begin(1), Told::Begun(1)),
     (Ask::Add(1, A, 5), Told::Sum(5)),

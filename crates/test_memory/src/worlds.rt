@@ -29,7 +29,8 @@ fn base_of(alloc: Global, pair: Option<Pair>) -> Result<Base, Refusal>
     }
 }
 
-/// A store that starts from this pair in run 7, or from nothing in run 1, with this many sessions and room for so many keys.
+/// A store that starts from this pair in run 7, or from nothing in run 1, with this many sessions and room for the given
+/// number of keys.
 pub(crate) fn new_world(
     alloc: Global,
     seed: RandomState,
@@ -44,7 +45,7 @@ pub(crate) fn new_world(
     World::new(alloc, base, sessions, keys, seed)
 }
 
-/// One that has room for two keys; where memory is wanting it is made again.
+/// One that has room for two keys; if an allocation fails it is made again.
 pub(crate) fn world_again(
     alloc: Global,
     seed: RandomState,

@@ -1,4 +1,4 @@
-//! Tests of merges, by their public calls. They stand here and not beside the code, whose crate would be proved a second time for
+//! Tests of merges, by their public calls. They are here and not next to the code, whose crate would be proved a second time for
 //! them.
 #![tactic(auto)]
 

@@ -1,4 +1,4 @@
-//! Tests of merges, by tables and beside the join of files by twos.
+//! Tests of merges, by tables, and compared with the join of files by twos.
 
 use pc_merge::{Entries, EntryList, MOST_INPUTS, Merge, merge_all};
 use pc_part::{EntryText, Part, join};
@@ -11,7 +11,7 @@ use std::test::Fail;
 // An entry: its key, its point, and what the key had there.
 type Row = (&'static [u8], u16, Option<u8>);
 
-// Lists of entries, what their merge gives, and what it then refuses with; nothing, where it ends.
+// Lists of entries, what their merge gives, and what it then refuses with; nothing, if it ends.
 type Case = (&'static [&'static [Row]], &'static [Row], &'static str);
 
 const A: &[u8] = b"a";
@@ -117,7 +117,7 @@ impl<E> Model for Running<E> {
 }
 
 impl<E: Entries + Drop> Running<E> {
-    // The merge is opened; where that was refused, each call for an entry is.
+    // The merge is opened; if that was refused, each call for an entry is.
     fn new(alloc: Global, inputs: Vec<E>) -> Result<Running<E>, Refusal> {
         if inputs.len() > MOST_INPUTS {
             return Err(Refusal::Full);
@@ -173,7 +173,7 @@ fn merges_answer_by_the_table(rt: HostRuntime) -> Result<(), Fail> {
     Ok(())
 }
 
-// A list that is cut off by a failure of its device.
+// A list that is truncated by a failure of its device.
 #[derive(Drop)]
 struct CutList {
     entries: EntryList,
@@ -208,7 +208,7 @@ impl Entries for CutList {
     }
 }
 
-// Two lists, of which the first is cut off behind so many entries.
+// Two lists, of which the first is truncated after the given number of entries.
 fn cut_lists(alloc: Global, left: u8) -> Result<Vec<CutList>, Refusal> {
     let mut lists = Vec::new(alloc);
     lists.push(CutList {
@@ -226,7 +226,7 @@ fn cut_lists(alloc: Global, left: u8) -> Result<Vec<CutList>, Refusal> {
     Ok(lists)
 }
 
-// Whether an entry is given, or the end; None where it answers that the device has failed.
+// Whether an entry is given, or the end; `None` if it answers that the device has failed.
 fn has_given(merge: &mut Running<CutList>) -> Option<bool> {
     let answer = merge.next();
     match &answer {
@@ -316,7 +316,7 @@ fn is_same(one: &Triple, other: &Triple) -> bool {
     one.key.is(&other.key) && one.point == other.point && content
 }
 
-// Whether the merge of so many files' entries is their join by twos.
+// Whether the merge of the given number of files' entries is their join by twos.
 fn is_the_join(alloc: Global, files: u8) -> Result<bool, Refusal> {
     let mut lists = Vec::new(alloc);
     let mut joined = Part::decode(alloc, &text_of(alloc, 1)?)?;

@@ -1,4 +1,4 @@
--- Which refusal comes first, where an example would need 256 writes to show it.
+-- Which refusal comes first, if an example would need 256 writes to show it.
 use Rattle.std.proofs.Common.{◌≡◌, ℕ, List, [], ◌∷◌, ◌++◌, Bool, true, false, Option, Some, None, refl, ap, ◌∙◌}
 use Rattle.std.specs.Prelude.{if◌then◌else◌}
 use Rattle.pc_types.specs.declared.Event.TheVariants as asked
@@ -13,12 +13,12 @@ passed_by : (b : Bool) (r : Reply) (cs rest : List (Bool × Refusal)) (ys : Opti
 passed_by true r cs rest ys later e = cc
 passed_by false r cs rest ys later e = later e
 
--- where none of the first causes stands, the others decide
+-- if none of the first causes applies, the others decide
 pub then_the_others : (cs ys : List (Bool × Refusal)) → first_refusal cs ≡ None → first_refusal (cs ++ ys) ≡ first_refusal ys
 then_the_others [] ys none = refl
 then_the_others (c ∷ cs) ys none = passed_by c.0 (told.Refused c.1) cs (cs ++ ys) (first_refusal ys) (then_the_others cs ys) none
 
--- a 257th key is TooManyWrites, also where the store is full
+-- a 257th key is TooManyWrites, also if the store is full
 pub too_many_before_full : (st : Setting) (history : History) (s : ℕ) (key : List ℕ) → first_refusal (transaction_causes st s history) ≡ None → too_many s key history ≡ true → certain st history (asked.Del s key) ≡ Some (told.Refused why.TooManyWrites)
 too_many_before_full st history s key none many =
     then_the_others (transaction_causes st s history) ((too_many s key history, why.TooManyWrites) ∷ (is_full st key history, why.Full) ∷ []) none

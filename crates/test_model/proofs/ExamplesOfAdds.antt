@@ -1,4 +1,4 @@
--- Adds: the sums that they are told, what they are refused, and what a commit makes of them.
+-- Adds: the sums that they return, their refusals, and their effect on a commit.
 -- Made from the text of the worked examples.
 use Rattle.std.proofs.Common.{[], ◌∷◌, refl}
 use Rattle.pc_types.specs.Changes.{number_text, number_in, number_of}

@@ -1,4 +1,4 @@
--- The headline: where a Take carries another content than its key has at the point, the file isn't worth the state.
+-- The headline: if a Take carries another content than its key has at the point, the file doesn't give the state.
 use Rattle.std.proofs.Common.{[], ◌∷◌, reverse, take, refl, ap, Some, inl, arith}
 use mathlib.Core.Bool.{false≢true}
 use Rattle.pc_model.specs.Maps as map_of

@@ -1,4 +1,4 @@
--- Refusals: which one is answered where several could be.
+-- Refusals: which one is answered if several could be.
 -- Made from the text of the worked examples.
 use Rattle.std.proofs.Common.{refl}
 use Rattle.pc_model.specs.Maps as map_of

@@ -28,11 +28,11 @@ plain = record { run = 1; base = map_of.empty; sessions = 8; capacity = 1024 }
 abbrev pub holding : List ℕ → List ℕ → Setting → Setting
 holding key value st = record st { base = map_of.insert st.base key value }
 
--- the setting with room for so many keys
+-- the setting with room for that many keys
 abbrev pub with_room_for : ℕ → Setting → Setting
 with_room_for count st = record st { capacity = count }
 
--- the setting with so many sessions
+-- the setting with that many sessions
 abbrev pub with_sessions : ℕ → Setting → Setting
 with_sessions count st = record st { sessions = count }
 
@@ -44,7 +44,7 @@ has key point value = (key, record { point = point; content = Some value })
 abbrev pub lacks : List ℕ → ℕ → List ℕ × AtPoint
 lacks key point = (key, record { point = point; content = None })
 
--- a file as its points and its entries, each rising
+-- a file as its points and its entries, each ascending
 abbrev pub listed : File → List ℕ × List (List ℕ × AtPoint)
 listed file = (set.items file.points, file.triples.entries)
 
@@ -76,7 +76,7 @@ gap_of (Some file) = gap_above 0 file.points
 abbrev pub base_of : Setting → BaseFile
 base_of st = record { run = st.run; point = 0; pairs = st.base }
 
--- the file laid on the base, as a point and pairs
+-- the file applied to the base, as a point and pairs
 abbrev pub laid_from : Setting → Option File → Option (ℕ × List (List ℕ × List ℕ))
 laid_from st None = None
 laid_from st (Some file) = Some ((laid_file (base_of st) file).point, (laid_file (base_of st) file).pairs.entries)

@@ -1,4 +1,4 @@
--- Adds: the sums that they are told, what they are refused, and what a commit makes of them.
+-- Adds: the sums that they return, their refusals, and their effect on a commit.
 -- Made from the text of the worked examples.
 use Rattle.std.specs.Prelude.{List, [], ◌∷◌, Some, pos, negsuc}
 use Rattle.pc_types.specs.declared.Phase.TheVariants.{Rest, Prepare, Resolve, Capture}
@@ -11,7 +11,7 @@ use Rattle.pc_types.specs.declared.Change.TheVariants as does
 use Rattle.pc_model.specs.Database.{write_of}
 use Rattle.test_model.specs.Examples.{step, plain, holding, with_room_for, with_sessions, has, RunsTo, LaysTo, Lacks, HasLog, IsQuietRun, IsNoQuietRun, a, b, k, n, t, x, y, z, v1, v6, seven, nine}
 
--- Numbers are added up, also below 0, beside a value that is no number; the point has the numbers as values.
+-- Numbers are added up, also below 0, next to a value that is no number; the point has the numbers as values.
 abbrev pub adds_of_two_transactions : List Step
 adds_of_two_transactions = step (asked.Begin 1) (told.Begun 1)
     ∷ step (asked.Add 1 n (pos 5)) (told.Sum (pos 5))
@@ -74,7 +74,7 @@ deltas_past_the_ends = step (asked.Begin 1) (told.Begun 1)
     ∷ step (asked.Commit 1) (told.Committed 2)
     ∷ []
 
--- Adds behind a put or a removal set the key, adds behind one another are one, and puts and removals take their place.
+-- Adds after a put or a removal set the key, adds after one another are one, and puts and removals take their place.
 abbrev pub changes_of_one_transaction : List Step
 changes_of_one_transaction = step (asked.Begin 1) (told.Begun 1)
     ∷ step (asked.Put 1 a (0 ∷ 0 ∷ 0 ∷ 0 ∷ 0 ∷ 0 ∷ 0 ∷ 5 ∷ [])) told.Ok
@@ -95,7 +95,7 @@ changes_of_one_transaction = step (asked.Begin 1) (told.Begun 1)
     ∷ step (asked.Commit 1) (told.Committed 1)
     ∷ []
 
--- Behind an own put the put value counts; the sum of deltas is none there, and behind an own removal it begins with 0.
+-- After an own put the put value counts; the sum of deltas is none there, and after an own removal it begins with 0.
 abbrev pub set_sums_past_the_ends : List Step
 set_sums_past_the_ends = step (asked.Begin 1) (told.Begun 1)
     ∷ step (asked.Put 1 a (127 ∷ 255 ∷ 255 ∷ 255 ∷ 255 ∷ 255 ∷ 255 ∷ 255 ∷ [])) told.Ok
@@ -142,7 +142,7 @@ add_waits = step (asked.Begin 1) (told.Begun 1)
     ∷ step (asked.Commit 1) (told.Committed 2)
     ∷ []
 
--- An add that has to wait is not refused for the value that stands there; once it is granted it is.
+-- An add that has to wait is not refused for the key's value; once it is granted it is.
 abbrev pub add_waits_for_a_reader : List Step
 add_waits_for_a_reader = step (asked.Begin 1) (told.Begun 1)
     ∷ step (asked.Begin 2) (told.Begun 2)
@@ -153,7 +153,7 @@ add_waits_for_a_reader = step (asked.Begin 1) (told.Begun 1)
     ∷ step (asked.Abort 1) told.Aborted
     ∷ []
 
--- An add of a younger transaction dies, and so does one beside another reader, whatever value stands there.
+-- An add of a younger transaction dies, and so does one next to another reader, whatever the key's value.
 abbrev pub add_dies : List Step
 add_dies = step (asked.Begin 1) (told.Begun 1)
     ∷ step (asked.Begin 2) (told.Begun 2)
@@ -184,7 +184,7 @@ refused_add_makes_no_request = step (asked.Begin 1) (told.Begun 1)
     ∷ step (asked.Commit 1) (told.Committed 2)
     ∷ []
 
--- The causes of a put come first, then NotNumber, then OutOfRange, and want of memory is last.
+-- The causes of a put come first, then NotNumber, then OutOfRange, and a failed allocation is last.
 abbrev pub causes_of_adds : List Step
 causes_of_adds = step (asked.Add 3 k (pos 1)) (told.Refused why.NoSession)
     ∷ step (asked.Add 1 k (pos 1)) (told.Refused why.NoTransaction)
@@ -242,7 +242,7 @@ add_behind_a_later_one = step asked.StartPoint (told.Phase Prepare 1)
     ∷ step (asked.Join 1 2) (told.File 3 (1 ∷ 2 ∷ []) 1)
     ∷ []
 
--- Adds: the sums that they are told, what they are refused, and what a commit makes of them.
+-- Adds: the sums that they return, their refusals, and their effect on a commit.
 pub record ExamplesOfAdds : Type 0 where
   pub adds_of_two_transactions_runs : RunsTo plain adds_of_two_transactions ([]) ((n, (255 ∷ 255 ∷ 255 ∷ 255 ∷ 255 ∷ 255 ∷ 255 ∷ 255 ∷ [])) ∷ (t, x) ∷ [])
   pub adds_of_two_transactions_log : HasLog adds_of_two_transactions (Commit 1 (write_of n (does.Add (pos 3)) ∷ []) ∷ Commit 1 (write_of t (does.Set x) ∷ write_of n (does.Add (negsuc 3)) ∷ []) ∷ Token Prepare 1 ∷ Token Resolve 1 ∷ Token Capture 1 ∷ [])

@@ -1,4 +1,4 @@
--- The headline: where a Take carries another content than its key has at the point, the file isn't worth the state.
+-- The headline: if a Take carries another content than its key has at the point, the file doesn't give the state.
 use Rattle.std.specs.Prelude.{List, [], ◌∷◌, Some, reverse}
 use Rattle.pc_types.specs.declared.Phase.TheVariants.{Prepare, Resolve, Capture}
 use Rattle.pc_types.specs.declared.Event.TheVariants as asked
@@ -23,11 +23,11 @@ another_value_is_taken = step (asked.Begin 1) (told.Begun 1)
 
 -- The headline, of one history that has it and of one that hasn't.
 pub record ExamplesOfHeadlines : Type 0 where
-  -- Beside a transaction that is open over the point each Take carries what its key has at the point, so the file is worth it.
+  -- With a transaction that is open over the point each Take carries its key's content at the point, so the file gives the state.
   pub right_values : TakesPointValue plain.base (reverse commit_after_the_point)
   pub right_headline : HasHeadline plain (reverse commit_after_the_point)
   -- Legal replies leave open what a Take carries.
   pub another_value_is_legal : IsLegalHistory plain (reverse another_value_is_taken)
-  -- But it is not what the key has at the point, and the file isn't worth the state.
+  -- But it is not the key's content at the point, and the file doesn't give the state.
   pub another_value : ¬ TakesPointValue plain.base (reverse another_value_is_taken)
   pub no_headline : ¬ HasHeadline plain (reverse another_value_is_taken)

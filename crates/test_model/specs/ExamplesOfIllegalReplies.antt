@@ -17,15 +17,15 @@ use Rattle.test_model.specs.ExamplesOfTransactions.{aborted_writes_are_forgotten
 pub record ExamplesOfIllegalReplies : Type 0 where
   -- Seal waits for every transaction that began before the point was started.
   pub seal_over_an_open_transaction : IsIllegal plain (take 3 seal_waits_for_before) asked.Seal (told.Phase Resolve 1)
-  -- Want of memory is no answer where NotYet is one.
+  -- OutOfMemory is no answer if NotYet is one.
   pub memory_before_not_yet : IsIllegal plain (take 3 seal_waits_for_before) asked.Seal (told.Refused why.OutOfMemory)
-  -- Want of memory is no answer where another refusal is one.
+  -- OutOfMemory is no answer if another refusal is one.
   pub memory_before_wrong_phase : IsIllegal plain (take 0 seal_waits_for_before) asked.Seal (told.Refused why.OutOfMemory)
   -- Take takes the key that was written first.
   pub take_out_of_order : IsIllegal plain (take 12 commit_after_the_point) asked.Take (told.Took b (Some v9))
   -- A taken key is not taken again.
   pub taken_twice : IsIllegal plain (take 13 commit_after_the_point) asked.Take (told.Took a (Some v1))
-  -- NoneLeft is answered only where all keys are taken.
+  -- NoneLeft is answered only if all keys are taken.
   pub none_left_while_a_key_is_left : IsIllegal plain (take 12 commit_after_the_point) asked.Take told.NoneLeft
   -- Done waits until all keys are taken.
   pub done_while_a_key_is_left : IsIllegal plain (take 13 commit_after_the_point) asked.Done (told.PartDone 1 1 1)
@@ -45,7 +45,7 @@ pub record ExamplesOfIllegalReplies : Type 0 where
   pub older_dies : IsIllegal (holding k v5 plain) (take 3 older_waits) (asked.Get 1 k) told.Died
   -- A younger transaction dies and does not wait.
   pub younger_waits : IsIllegal (holding k v5 plain) (take 3 younger_dies) (asked.Get 2 k) told.Wait
-  -- An upgrade beside another shared lock is not granted: read locks stand until the end.
+  -- An upgrade next to another shared lock is not granted: read locks are held until the end.
   pub upgrade_over_a_reader : IsIllegal (holding k v5 plain) (take 4 upgrade_beside_another_reader_dies) (asked.Put 1 k v6) told.Ok
   -- What is not committed is read by no other transaction.
   pub read_of_an_uncommitted_write : IsIllegal (holding k v5 plain) (take 3 older_waits) (asked.Get 1 k) (told.Found v6)
@@ -61,21 +61,21 @@ pub record ExamplesOfIllegalReplies : Type 0 where
   pub point_number_skipped : IsIllegal plain (take 6 empty_part) asked.StartPoint (told.Phase Prepare 3)
   -- A value of seven bytes is no number, and none is added to it.
   pub add_to_seven_bytes : IsIllegal (holding y [] (holding x nine (holding k seven plain))) (take 1 values_that_are_no_numbers) (asked.Add 1 k (pos 1)) (told.Sum (pos 1))
-  -- Want of memory is no answer where an add is refused for what stands there.
+  -- OutOfMemory is no answer if an add is refused for the key's value.
   pub memory_before_not_number : IsIllegal (holding y [] (holding x nine (holding k seven plain))) (take 1 values_that_are_no_numbers) (asked.Add 1 k (pos 1)) (told.Refused why.OutOfMemory)
   -- A sum that leaves 64 bits is not answered, neither as it is nor from the other end.
   pub sum_past_the_greatest : IsIllegal (holding b (128 ∷ 0 ∷ 0 ∷ 0 ∷ 0 ∷ 0 ∷ 0 ∷ 0 ∷ []) (holding a (127 ∷ 255 ∷ 255 ∷ 255 ∷ 255 ∷ 255 ∷ 255 ∷ 255 ∷ []) plain)) (take 1 sums_past_the_ends) (asked.Add 1 a (pos 1)) (told.Sum (negsuc 9223372036854775807))
-  -- Nor is one where what the transaction adds to the key in all would leave them.
+  -- Nor is one if the total that the transaction adds to the key would leave them.
   pub delta_past_the_greatest : IsIllegal (holding a (128 ∷ 0 ∷ 0 ∷ 0 ∷ 0 ∷ 0 ∷ 0 ∷ 1 ∷ []) plain) (take 2 deltas_past_the_ends) (asked.Add 1 a (pos 9223372036854775807)) (told.Sum (pos 9223372036854775807))
-  -- Where there is no number nothing is out of range.
+  -- If there is no number nothing is out of range.
   pub out_of_range_before_not_number : IsIllegal (holding y [] (holding x nine (holding k seven plain))) (take 1 values_that_are_no_numbers) (asked.Add 1 k (pos 9223372036854775807)) (told.Refused why.OutOfRange)
   -- The sum has what the transaction has added before.
   pub sum_without_the_own_add : IsIllegal plain (take 2 adds_of_two_transactions) (asked.Add 1 n (negsuc 1)) (told.Sum (negsuc 1))
-  -- An add is told its sum.
+  -- An add returns its sum.
   pub add_that_is_told_ok : IsIllegal plain (take 1 adds_of_two_transactions) (asked.Add 1 n (pos 5)) told.Ok
   -- A read finds what the transaction has added.
   pub read_before_the_own_add : IsIllegal (holding a (0 ∷ 0 ∷ 0 ∷ 0 ∷ 0 ∷ 0 ∷ 0 ∷ 10 ∷ []) plain) (take 6 reads_over_open_adds) (asked.Get 1 b) told.Absent
-  -- An add that has to wait does, whatever stands there.
+  -- An add that has to wait does, whatever the key's value.
   pub not_number_before_the_lock : IsIllegal (holding k seven plain) (take 3 add_waits_for_a_reader) (asked.Add 1 k (pos 1)) (told.Refused why.NotNumber)
   -- And one that has to die does.
   pub not_number_of_one_that_dies : IsIllegal (holding x nine (holding k (0 ∷ 0 ∷ 0 ∷ 0 ∷ 0 ∷ 0 ∷ 0 ∷ 5 ∷ []) plain)) (take 9 add_dies) (asked.Add 1 x (pos 1)) (told.Refused why.NotNumber)

@@ -31,7 +31,7 @@ younger_dies = step (asked.Begin 1) (told.Begun 1)
     ∷ step (asked.Commit 1) (told.Committed 1)
     ∷ []
 
--- An upgrade beside another granted lock dies, also of the older transaction; the other then upgrades.
+-- An upgrade next to another granted lock dies, also of the older transaction; the other then upgrades.
 abbrev pub upgrade_beside_another_reader_dies : List Step
 upgrade_beside_another_reader_dies = step (asked.Begin 1) (told.Begun 1)
     ∷ step (asked.Begin 2) (told.Begun 2)
@@ -43,7 +43,7 @@ upgrade_beside_another_reader_dies = step (asked.Begin 1) (told.Begun 1)
     ∷ step (asked.Commit 2) (told.Committed 1)
     ∷ []
 
--- Two readers that wait are granted at once; then one's upgrade dies, and the other's is granted.
+-- Two readers that wait are granted together; then one's upgrade dies, and the other's is granted.
 abbrev pub waiting_readers_are_granted_together : List Step
 waiting_readers_are_granted_together = step (asked.Begin 1) (told.Begun 1)
     ∷ step (asked.Begin 2) (told.Begun 2)
@@ -112,7 +112,7 @@ several_wait = step (asked.Begin 1) (told.Begun 1)
     ∷ step (asked.Commit 1) (told.Committed 2)
     ∷ []
 
--- A lock of one key stands over reads and writes of others, and waits on one key hinder no other.
+-- A lock of one key is held over reads and writes of others, and waits on one key hinder no other.
 abbrev pub locks_stand_until_the_end : List Step
 locks_stand_until_the_end = step (asked.Begin 1) (told.Begun 1)
     ∷ step (asked.Begin 2) (told.Begun 2)
@@ -142,7 +142,7 @@ age_goes_by_begin = step (asked.Begin 2) (told.Begun 1)
     ∷ step (asked.Commit 2) (told.Committed 1)
     ∷ []
 
--- A request that died stands in no queue: once the lock is free, a younger transaction may have it.
+-- A request that died is in no queue: once the lock is free, a younger transaction may have it.
 abbrev pub death_leaves_no_request : List Step
 death_leaves_no_request = step (asked.Begin 1) (told.Begun 1)
     ∷ step (asked.Begin 2) (told.Begun 2)

@@ -30,7 +30,7 @@ commit_after_the_point = step (asked.Begin 1) (told.Begun 1)
     ∷ step asked.Rest (told.Phase Rest 1)
     ∷ []
 
--- The same where that transaction aborts: the file is the same.
+-- The same if that transaction aborts: the file is the same.
 abbrev pub abort_after_the_point : List Step
 abort_after_the_point = step (asked.Begin 1) (told.Begun 1)
     ∷ step (asked.Put 1 a v1) told.Ok
@@ -52,7 +52,7 @@ abort_after_the_point = step (asked.Begin 1) (told.Begun 1)
     ∷ step asked.Rest (told.Phase Rest 1)
     ∷ []
 
--- A key of space 7 is another one than that of space 0 with the same byte, and stands behind all keys of space 0.
+-- A key of space 7 is another one than that of space 0 with the same byte, and comes after all keys of space 0.
 abbrev pub keys_of_two_spaces : List Step
 keys_of_two_spaces = step (asked.Begin 1) (told.Begun 1)
     ∷ step (asked.Put 1 a v1) told.Ok

@@ -1,4 +1,4 @@
--- Refusals: which one is answered where several could be.
+-- Refusals: which one is answered if several could be.
 -- Made from the text of the worked examples.
 use Rattle.std.specs.Prelude.{List, [], ◌∷◌, Some}
 use Rattle.pc_types.specs.declared.Phase.TheVariants.{Rest, Prepare, Resolve, Capture}
@@ -55,7 +55,7 @@ order_of_refusals = step (asked.Begin 1) (told.Begun 1)
     ∷ step asked.Rest (told.Phase Rest 1)
     ∷ []
 
--- Want of memory uses up no number, no lock and no phase: what was refused is asked again.
+-- OutOfMemory uses up no number, no lock and no phase: the refused call is made again.
 abbrev pub memory_refuses_and_changes_nothing : List Step
 memory_refuses_and_changes_nothing = step (asked.Begin 1) (told.Refused why.OutOfMemory)
     ∷ step (asked.Begin 1) (told.Begun 1)
@@ -80,7 +80,7 @@ memory_refuses_and_changes_nothing = step (asked.Begin 1) (told.Refused why.OutO
     ∷ step asked.Rest (told.Phase Rest 1)
     ∷ []
 
--- Refusals: which one is answered where several could be.
+-- Refusals: which one is answered if several could be.
 pub record ExamplesOfRefusals : Type 0 where
   pub refusals_at_rest_runs : RunsTo plain refusals_at_rest ([]) ([])
   pub order_of_refusals_runs : RunsTo (with_sessions 2 plain) order_of_refusals ((1 ∷ [], has a 1 v1 ∷ []) ∷ (1 ∷ [], has a 1 v1 ∷ []) ∷ []) ((a, v1) ∷ [])

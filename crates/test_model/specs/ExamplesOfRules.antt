@@ -47,14 +47,14 @@ pub record LockRules : Type 0 where
   pub not_the_oldest_dies : outcome (shared 5 true ∷ shared 2 true ∷ []) 3 Exclusive ≡ Died
   -- an upgrade is granted beside a request that waits
   pub upgrade_beside_a_waiting_one : outcome (shared 5 true ∷ exclusive 3 false ∷ []) 5 Exclusive ≡ Granted
-  -- it dies beside another granted one
+  -- it dies next to another granted one
   pub upgrade_beside_a_granted_one : outcome (shared 5 true ∷ shared 6 true ∷ []) 5 Exclusive ≡ Died
   -- it takes the place of the shared request
   pub upgraded_in_place : queue_after (shared 5 true ∷ exclusive 3 false ∷ []) 5 Exclusive Granted ≡ exclusive 5 true ∷ exclusive 3 false ∷ []
-  -- requests are granted from the front, and none behind the first that doesn't fit
+  -- requests are granted from the front, and none after the first that doesn't fit
   pub granted_from_the_front : queue_without (exclusive 5 true ∷ shared 4 false ∷ shared 3 false ∷ exclusive 2 false ∷ shared 1 false ∷ []) 5
       ≡ shared 4 true ∷ shared 3 true ∷ exclusive 2 false ∷ shared 1 false ∷ []
-  -- also where one that fits stands behind it
+  -- also if one that fits comes after it
   pub none_is_overtaken : queue_without (shared 6 true ∷ shared 5 true ∷ exclusive 4 false ∷ []) 6 ≡ shared 5 true ∷ exclusive 4 false ∷ []
 
 -- the triples of one key

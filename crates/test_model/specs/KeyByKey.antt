@@ -1,5 +1,5 @@
--- What the definitions of parts, joins and layings come to of each key. They go over lists of entries, one after the other; these are
--- the same sentences key by key.
+-- What the definitions of parts, joins and layings come to of each key. They go over lists of entries, in order; these are the same
+-- sentences key by key.
 use Rattle.std.specs.Prelude.{◌≡◌, ℕ, List, Option, Some, None, if◌then◌else◌}
 use Rattle.pc_model.specs.Maps.{get}
 use Rattle.pc_model.specs.Database.{Database}

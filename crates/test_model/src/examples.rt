@@ -42,12 +42,12 @@ pub fn worked_examples_of_capacity()
     ensures { ExamplesOfCapacity }
 {}
 
-/// Refusals: which one is answered where several could be.
+/// Refusals: which one is answered if several could be.
 pub fn worked_examples_of_refusals()
     ensures { ExamplesOfRefusals }
 {}
 
-/// Adds: the sums that they are told, what they are refused, and what a commit makes of them.
+/// Adds: the sums that they return, why they are refused, and the effect of a commit.
 pub fn worked_examples_of_adds()
     ensures { ExamplesOfAdds }
 {}

@@ -6,10 +6,10 @@
 //! file is its point, `:`, and its triples: a key, a point's digit and a value each.
 //!
 //!     overlay PAIRS WRITES     the pairs written over in place, and by the plain form
-//!     replay PAIRS LOG         the pairs after the log, and before the tokens of the points 1 and 2, each with its place
-//!     lay PAIRS POINT TRIPLES  the pairs at the point with the triples laid on
-//!     first ENTRIES            the first entry of each key, rising
-//!     audit LOG FILE..         whether each file is right
+//!     replay PAIRS LOG         the pairs after the log, and before the tokens of the points 1 and 2, each with its place lay PAIRS
+//!     POINT TRIPLES  the pairs at the point with the triples applied
+//!     first ENTRIES            the first entry of each key, ascending
+//!     audit LOG FILE..         whether each file is correct
 //!     holds LOG PAIRS          whether the pairs are the log replayed
 #![tactic(auto)]
 

@@ -8,7 +8,7 @@ fn key_of(alloc: Global, byte: u8) -> Result<Key, Refusal> {
     Key::new(alloc, &[byte])
 }
 
-/// The value of a byte, which `-` stands for the absence of: a capital letter for the number of its place.
+/// The value of a byte; `-` represents its absence: a capital letter for the number of its place.
 pub fn content_of(alloc: Global, byte: u8) -> Result<Option<Value>, Refusal> {
     match byte {
         b'-' => Ok(None),
@@ -30,7 +30,7 @@ fn change_of(alloc: Global, byte: u8) -> Result<Change, Refusal> {
     }
 }
 
-/// The keys and what they have, in the order in which they stand.
+/// The keys and their contents, in their order.
 pub fn entries_of(alloc: Global, text: &[u8]) -> Result<Vec<(Key, Option<Value>)>, Refusal> {
     let mut entries = Vec::new(alloc);
     for i in 0..text.len() / 2 {
@@ -124,7 +124,7 @@ fn shown(value: &[u8]) -> &[u8] {
     }
 }
 
-/// The pairs as they are written; `.` where there is none.
+/// The pairs as they are written; `.` if there is none.
 pub fn text_of(alloc: Global, pairs: &[(Key, Value)]) -> Result<Vec<u8>, Refusal> {
     let mut text = Vec::new(alloc);
     for (key, value) in pairs {

@@ -16,7 +16,7 @@ pub struct FolderFile {
     fault: Option<Refusal>,
 }
 
-/// The files that the lines name; `None` where a line doesn't have a name and bytes or a fault.
+/// The files that the lines name; `None` if a line doesn't have a name and bytes or a fault.
 pub fn files_of(alloc: Global, lines: &[u8]) -> Result<Option<Vec<FolderFile>>, Refusal> {
     let mut files = Vec::new(alloc);
     for line in lines.lines() {
@@ -60,7 +60,7 @@ pub fn put_recovery<W: Write>(
     out.put(&text)
 }
 
-/// Prints the same for each beginning of the log, where it is another than that of the one before, behind its length.
+/// Prints the same for each prefix of the log, if it is another than that of the one before, after its length.
 pub fn put_cuts<W: Write>(
     alloc: Global,
     files: &[FolderFile],
@@ -87,7 +87,7 @@ fn len_of_log(files: &[FolderFile]) -> usize {
     }
 }
 
-// What a recovery prints, on either of its outputs, where the log is cut at the length; and what it did without, where it is strict.
+// What a recovery prints, on either of its outputs, if the log is cut at the length; and what it did without, if it is strict.
 fn recovered(
     alloc: Global,
     files: &[FolderFile],

@@ -18,7 +18,7 @@ pub enum RowHead {
 /// How a folder is recovered.
 #[derive(Clone, Copy)]
 pub struct FolderRow {
-    /// With each beginning of its log, and not with all of it alone.
+    /// With each prefix of its log, and not with all of it alone.
     pub has_cuts: bool,
     /// Strictly, and what is lacking is printed.
     pub is_strict: bool,
@@ -31,7 +31,7 @@ pub struct ScriptStep {
     pub is_bare: bool,
 }
 
-/// What the line says; `None` where it has a word that isn't known, or a number out of its range, or memory ran out.
+/// What the line says; `None` if it has a word that isn't known, or a number out of its range, or an allocation failed.
 pub fn head_of(alloc: Global, line: &[u8]) -> Option<RowHead> {
     let line = line.strip_suffix(b"\n").unwrap_or(line);
     let words: Vec<&[u8]> = line.split(|byte| *byte == b' ').collect(alloc).ok()?;
@@ -80,7 +80,7 @@ fn step_of(options: &[&[u8]]) -> Option<ScriptStep> {
     Some(ScriptStep { setup, is_bare })
 }
 
-// What comes behind the word; `None` behind an option that isn't known.
+// What comes after the word; `None` after an option that isn't known.
 fn after(next: Next, word: &[u8]) -> Option<Next> {
     if !matches!(next, Next::Option) {
         return Some(Next::Option);

@@ -6,7 +6,7 @@
 //! |---|---|---|
 //! | `step`, with `--sessions N`, `--capacity N`, `--run N` as for `pcalc step`, and `--bare` | a script; `--bare` drops its last byte, the end of its last line | what it prints against a store of its own |
 //! | `recover` | `FILE HEX`, a file of a folder with its bytes, or `FILE NoFile` and `FILE Device`, why it can't be opened; the folder itself is `.` | what a recovery of the folder prints |
-//! | `cuts` | the same | the same for each beginning of `log.pcl`, by its length, where it is another than that of the one before |
+//! | `cuts` | the same | the same for each prefix of `log.pcl`, by its length, if it is another than that of the one before |
 //! | either with `--strict` | the same | the same of a strict recovery, and before its status what it did without |
 #![tactic(auto)]
 
@@ -26,7 +26,7 @@ use std::io;
 use std::io::{BufWriter, Write};
 use std::process::ExitCode;
 
-// The status is 1 where memory, the input, the output or the draw of a seed failed.
+// The status is 1 if memory, the input, the output or the draw of a seed failed.
 fn main(rt: HostRuntime) -> ExitCode {
     match run_input(&rt) {
         Ok(()) => ExitCode::from(0),

@@ -7,12 +7,12 @@ use std::alloc::Global;
 use std::io;
 use std::io::{Error, ErrorKind, Read, Write};
 
-/// A log in memory. The call after `calls` more of them fails, and so do all behind it; an `append` that fails writes half of its bytes.
+/// A log in memory. The call after `calls` more of them fails, and so do all after it; an `append` that fails writes half of its bytes.
 #[derive(Drop)]
 pub struct MemoryLog {
     /// What was written.
     pub bytes: Vec<u8>,
-    /// How many bytes were written at each `sync` that succeeded.
+    /// The number of bytes written at each `sync` that succeeded.
     pub kept: Vec<usize>,
     /// How many calls succeed.
     pub calls: usize,
@@ -86,7 +86,7 @@ impl Write for Output {
     }
 }
 
-/// Gives its bytes, at most `step` of them at a read, and then ends.
+/// Returns its bytes, at most `step` of them at a read, and then ends.
 #[derive(Drop)]
 pub struct Pieces<'a> {
     /// What is still to be read.
@@ -105,7 +105,7 @@ impl<'a> Read for Pieces<'a> {
     }
 }
 
-/// Keeps the texts of the files of points, and refuses the one behind `room` of them.
+/// Keeps the texts of the files of points, and refuses the one after `room` of them.
 #[derive(Drop)]
 pub struct Files {
     /// Whose memory the texts take.

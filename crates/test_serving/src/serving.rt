@@ -17,7 +17,7 @@ const LINES: &[u8] =
 const ANSWERS: &[u8] =
     b"run 9\nbegun 1\nok\nbegun 2\nsum 5\ncommitted 1\n= 7\nbegun 3\nabsent\nwait\ncommitted 2\ngranted 2\ncommitted 3\nrefused WrongPhase\nentries=3 commits=3 points=0 open=0 bytes=71 pairs=2\nbad line\nrefused NoSession\n";
 
-// What stands first in the log of run 9.
+// The header of the log of run 9.
 const HEADER: &[u8] = b"PCALCL02\0\0\0\0\0\0\0\x09\0\0\0\0";
 
 // What a store that was served leaves.
@@ -100,13 +100,13 @@ fn answers_are_the_same_in_pieces_of_any_size(rt: HostRuntime) -> Result<(), Fai
         assert_eq!(rt; left.ended, Ok(Stopped::Ended));
         assert_eq!(rt; left.sent.as_slice(), ANSWERS);
         assert_eq!(rt; left.log.kept.last(), Some(&left.log.bytes.len()));
-        // `stats` has told how many bytes the log has then.
+        // `stats` has printed how many bytes the log has then.
         assert_eq!(rt; HEADER.len() + left.log.bytes.len(), 71);
     }
     Ok(())
 }
 
-// A line that was cut off is none, though what is there of it would be one.
+// A line that was truncated is none, though what is there of it would be one.
 #[test]
 fn line_without_its_end_is_not_asked(rt: HostRuntime) -> Result<(), Fail> {
     let lines = b"begin 1\nput 1 fig 7\ncommit 1\nbegin 1\ncommit 1";
@@ -129,7 +129,7 @@ fn line_without_its_end_is_not_asked(rt: HostRuntime) -> Result<(), Fail> {
     Ok(())
 }
 
-// A generation that is full leaves the rest of the input: here behind the third commit, where no transaction is open.
+// A generation that is full leaves the rest of the input: here after the third commit, if no transaction is open.
 #[test]
 fn filled_generation_leaves_the_rest(rt: HostRuntime) -> Result<(), Fail> {
     let left = served(&rt, Case { roll: 3, ..SOUND })?;
@@ -140,7 +140,7 @@ fn filled_generation_leaves_the_rest(rt: HostRuntime) -> Result<(), Fail> {
     Ok(())
 }
 
-// How many commits were answered.
+// The number of commits answered.
 fn commits_in(sent: &[u8]) -> usize {
     let mut commits = 0usize;
     for line in sent.split(|byte| *byte == b'\n') {
@@ -151,8 +151,8 @@ fn commits_in(sent: &[u8]) -> usize {
     commits
 }
 
-// The log's device fails at each of its calls in turn, an append and a sync for each commit: a beginning of the answers was sent, and
-// each commit that was answered is kept.
+// The log's device fails at each of its calls in turn, an append and a sync for each commit: a prefix of the answers was sent, and each
+// commit that was answered is kept.
 #[test]
 fn no_answer_goes_before_its_log(rt: HostRuntime) -> Result<(), Fail> {
     for calls in 0..6 {
@@ -175,7 +175,7 @@ fn no_answer_goes_before_its_log(rt: HostRuntime) -> Result<(), Fail> {
     Ok(())
 }
 
-// The output fails behind each of its bytes in turn: they are all that was sent, and each commit that was answered is kept.
+// The output fails after each of its bytes in turn: they are all that was sent, and each commit that was answered is kept.
 #[test]
 fn answers_are_cut_off_behind_their_log(rt: HostRuntime) -> Result<(), Fail> {
     for room in 0..ANSWERS.len() {
@@ -195,7 +195,8 @@ fn answers_are_cut_off_behind_their_log(rt: HostRuntime) -> Result<(), Fail> {
     Ok(())
 }
 
-// Three entries are as many as may not be kept, or one more. At the end all are to be, so that a log which takes none is told then.
+// Three entries are as many as may not be kept, or one more. At the end all must be kept, so that a log which takes none is reported
+// then.
 #[test]
 fn as_many_entries_as_the_lag_are_not_kept(rt: HostRuntime) -> Result<(), Fail> {
     let (step, calls) = (1, 0);
@@ -224,7 +225,8 @@ fn as_many_entries_as_the_lag_are_not_kept(rt: HostRuntime) -> Result<(), Fail> 
     Ok(())
 }
 
-// How many pairs the first commits of `LINES` leave, by how many they are: `fig` and `n` are written by the first one, and nothing else.
+// The number of pairs that the first commits of `LINES` leave, by how many they are: `fig` and `n` are written by the first one, and
+// nothing else.
 const PAIRS: [usize; 4] = [0, 2, 2, 2];
 
 // How many pairs are recovered of the base, the files of points, and of the log what was kept.
@@ -268,7 +270,7 @@ fn what_was_answered_is_recovered(rt: HostRuntime) -> Result<(), Fail> {
     Ok(())
 }
 
-// Points are taken between the lines, and each file is kept, or the refusal is told.
+// Points are taken between the lines, and each file is kept, or the refusal is returned.
 #[test]
 fn files_of_points_are_kept(rt: HostRuntime) -> Result<(), Fail> {
     let left = served(&rt, Case { every: 1, ..SOUND })?;

@@ -3,7 +3,7 @@ use pc_arena::Arena;
 use pc_types::{Refusal, SlotId};
 use std::test::Fail;
 
-// Takes a slot for the first number, puts the second in its place, and frees it: what stood there before and in the end.
+// Takes a slot for the first number, puts the second in its place, and frees it: the records before and in the end.
 fn changed(arena: &mut Arena<u32>, first: u32, second: u32) -> Result<(u32, u32), Refusal> {
     let id = arena.take_slot(first)?;
     let before = *arena.get(id);
@@ -11,7 +11,7 @@ fn changed(arena: &mut Arena<u32>, first: u32, second: u32) -> Result<(u32, u32)
     Ok((before, arena.free_slot(id)))
 }
 
-// How many of the numbers got a slot, and what the next one was told.
+// How many of the numbers got a slot, and the answer to the next one.
 fn taken(arena: &mut Arena<u32>, numbers: &[u32]) -> (u32, Option<Refusal>) {
     let mut count: u32 = 0;
     for number in numbers {
@@ -30,7 +30,7 @@ enum ArenaStep {
     Free(u32),
 }
 
-// The slot that was taken, or the number that stood in the one that was freed; None where nothing was done.
+// The slot that was taken, or the number that was in the one that was freed; `None` if nothing was done.
 fn done(arena: &mut Arena<u32>, step: ArenaStep) -> Option<u32> {
     match step {
         ArenaStep::Take(number) => match arena.take_slot(number) {

@@ -52,8 +52,8 @@ fn unlinked(alloc: Global, len: usize) -> Result<RowOfLinks, AllocError>
     })
 }
 
-// What two chains over one row give: the id behind 0 of the chain 0, 2; and what is taken from the front of that chain, three
-// times, once 2 was added again.
+// What two chains over one row give: the id after 0 of the chain 0, 2; and what is taken from the front of that chain, three times,
+// once 2 was added again.
 fn used(row: &mut RowOfLinks) -> (Option<usize>, [Option<usize>; 3])
     requires { 3 ≤ vec_len row.old.links }
 {
@@ -79,7 +79,7 @@ fn two_chains_over_one_row(rt: HostRuntime) -> Result<(), Fail> {
     Ok(())
 }
 
-// What stands first in a stack that 0, 1 and 2 came into: at once, once 1 has left and with it the id behind 2, and once 2 has left.
+// The first id of a stack that 0, 1 and 2 came into: immediately, once 1 has left and with it the id after 2, and once 2 has left.
 fn stacked(row: &mut RowOfLinks) -> [Option<usize>; 4]
     requires { 3 ≤ vec_len row.old.links }
 {

@@ -54,7 +54,7 @@ fn count(arena: &mut Arena<CountRow>, _index: &Index, id: SlotId) -> u64
     row.count
 }
 
-// How often the key was made since it has a record; 0 where it has none.
+// How often the key was made since it has a record; 0 if it has none.
 fn answer(
     alloc: Global,
     arena: &mut Arena<CountRow>,

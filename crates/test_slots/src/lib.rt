@@ -1,4 +1,4 @@
-//! Tests of the libraries that slots are made of, each by its public calls. They stand here and not beside the code, whose crates
+//! Tests of the libraries that slots are made of, each by its public calls. They are here and not next to the code, whose crates
 //! would be proved a second time for them.
 #![tactic(auto)]
 

@@ -16,7 +16,7 @@ enum Ask {
     Release(u64),
     IsFullFor(u8),
     IsWaiting(u64),
-    // How many keys have a value.
+    // The number of keys that have a value.
     Values,
 }
 
@@ -35,7 +35,7 @@ enum Told {
     Is(bool),
     // What a read found.
     Found(Option<u8>),
-    // What a look told, and found.
+    // The answer of a look, and the content found.
     Seen(Outcome, Option<u8>),
     Count(usize),
 }
@@ -160,7 +160,7 @@ const SLOTS: [(Ask, Told); 20] = [
     (IsWaiting(3), Is(false)),
 ];
 
-// Records of one pair, with room for so many.
+// Records of one pair, with room for the given number.
 fn records_of_one(alloc: Global, capacity: u32, seed: RandomState) -> Result<Records, Refusal>
     requires { (1 ≤ capacity) × (capacity ≤ 2) }
     ensures { IfOk result (λ records. records.pending ≡ []) }
@@ -193,7 +193,7 @@ fn remove(alloc: Global, records: &mut Records, key: u8) -> Result<Told, Refusal
     }
 }
 
-// A key without a record is removed, and where there is no room for it one with a record.
+// A key without a record is removed, and if there is no room for it one with a record.
 fn remove_both(alloc: Global, records: &mut Records) -> Result<(Told, Told), Refusal>
     requires { records.old.pending ≡ [] }
 {

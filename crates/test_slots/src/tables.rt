@@ -32,7 +32,7 @@ enum Ask {
     Sum,
 }
 
-// The slot of the key, which gets a row where it has none.
+// The slot of the key, which gets a row if it has none.
 fn slot_made(alloc: Global, table: &mut Table<CountOfTimes>, key: &Key) -> Result<SlotId, Refusal>
     ensures row { IfOk result (HasRow table.new.rows) }
     ensures changed { IfOk result (λ id. (x : CountOfTimes) → with_record table.new id x ≡ with_row table.old key.now id x) }
@@ -55,7 +55,7 @@ fn count(alloc: Global, table: &mut Table<CountOfTimes>, key: &Key) -> Result<u6
     Ok(times.count)
 }
 
-// How often the key was made since it has a row; 0 where it has none.
+// How often the key was made since it has a row; 0 if it has none.
 fn answer(
     alloc: Global,
     table: &mut Table<CountOfTimes>,

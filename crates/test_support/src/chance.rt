@@ -9,7 +9,7 @@ pub fn following(seed: u64) -> u64 {
         .wrapping_add(1_442_695_040_888_963_407)
 }
 
-/// A number below the bound, 0 where that is 0: the remainder of the 32 bits of the seed from this one on, counted from the
+/// A number below the bound, 0 if that is 0: the remainder of the 32 bits of the seed from this one on, counted from the
 /// lowest.
 pub fn drawn(seed: u64, shift: u32, bound: u32) -> u32 {
     let low = ((seed >> (shift % 64)) & 0xffff_ffff) as u32;

@@ -54,13 +54,13 @@ pub struct SumLine {
     pub sum: u64,
 }
 
-/// The replies of one run, told by kind in the order in which the kinds first came, and the checks.
+/// The replies of one run, counted by kind in the order in which the kinds first came, and the checks.
 ///
 /// The sum of a kind begins with 14,695,981,039,346,656,037; for each item of each of its replies, in their order, it
-/// becomes (sum xor item) times 1,099,511,628,211, modulo 2^64. The items of a reply are its number among all replies of
-/// the run, from 1; then its own numbers, one below 0 with 2^64 more, and a file's points between their count and the count
-/// of its entries; then, of its key's own bytes and of its value, the length and the bytes, where a tombstone is 2^64 - 1 in
-/// place of a value. A key's space is none of them.
+/// becomes (sum xor item) times 1,099,511,628,211, modulo 2^64. The items of a reply are its number among all replies of the
+/// run, from 1; then its own numbers, one below 0 with 2^64 more, and a file's points between their count and the count of
+/// its entries; then, of its key's own bytes and of its value, the length and the bytes, if a tombstone is 2^64 - 1 in place
+/// of a value. A key's space is none of them.
 #[derive(Drop)]
 pub struct Sums {
     lines: Vec<SumLine>,
@@ -177,7 +177,7 @@ impl Sums {
         Ok(())
     }
 
-    /// Counts a check of the store, and whether it found the store right.
+    /// Counts a check of the store, and whether it found the store correct.
     pub fn note_check(&mut self, is_right: bool) {
         self.checks = self.checks.wrapping_add(1);
         if is_right {
@@ -195,7 +195,7 @@ impl Sums {
         self.replies
     }
 
-    /// How many checks there were, and how many of them found the store right.
+    /// How many checks there were, and how many of them found the store correct.
     pub fn checks(&self) -> (u32, u32) {
         (self.checks, self.right)
     }

@@ -1,4 +1,4 @@
-//! The tickets' files beside the log.
+//! The tickets' files compared with the log.
 use crate::writers::Desk;
 use pc_part::Part;
 use pc_replay::{CompleteFile, audit};
@@ -37,7 +37,7 @@ fn join_tickets<N: StoreName>(
     a.join(b).map_err(|(why, _a, _b)| why)
 }
 
-/// How many of the tickets' files are of all points from the first on, where each of these is right by the log.
+/// How many of the tickets' files are of all points from the first on, if each of these is correct by the log.
 pub fn right_files<N: StoreName>(
     alloc: Global,
     closed: &Closed<N>,

@@ -1,5 +1,5 @@
-//! An example of the library: two sessions on threads of their own, a checkpointer and a collapser beside them, and a logger behind
-//! them, over one store from its opening to its close.
+//! An example of the library: two sessions on threads of their own, a concurrent checkpointer and collapser, and then a logger,
+//! over one store from its opening to its close.
 ghost use Rattle.std.specs.Prelude.{◌≡◌, ℕ, List, []};
 ghost use Rattle.pc_types.specs.declared.Phase.TheVariants.{Rest};
 ghost use Rattle.pc_model.specs.History.{phase_of};
@@ -17,21 +17,21 @@ use std::alloc::Global;
 use std::sync::Wait;
 use std::thread::{Threads, join};
 
-// How many points are taken beside the clients.
+// The number of points taken while the clients run.
 const POINTS: u32 = 3;
 
 /// What the threads leave.
 #[derive(Drop)]
 pub struct Example {
-    /// How many transactions were committed.
+    /// The number of transactions committed.
     pub commits: u64,
-    /// How many receipts the sessions have.
+    /// The number of receipts that the sessions have.
     pub receipts: usize,
-    /// How many entries the log has.
+    /// The number of entries that the log has.
     pub entries: usize,
-    /// How many parts there are.
+    /// The number of parts.
     pub parts: usize,
-    /// The last point of the first part, where that has all points from the first on; else 0.
+    /// The last point of the first part, if that has all points from the first on; otherwise 0.
     pub complete_to: u16,
     /// Whether every session is there.
     pub all: bool,
@@ -39,8 +39,8 @@ pub struct Example {
     pub is_logged: bool,
 }
 
-/// Two sessions commit on threads of their own, while points are taken on a third one and their files are joined on a fourth.
-/// Then the log is written, and one more transaction is committed behind the logger.
+/// Two sessions commit on threads of their own, while points are taken on a third one and their files are joined on a fourth. Then
+/// the log is written, and one more transaction is committed after the logger.
 pub fn use_store<N: StoreName + Send + Sync, R: Threads + Wait + Sync>(
     rt: &R,
     alloc: Global,
@@ -71,7 +71,7 @@ struct Done<N: StoreName> {
 }
 
 impl<'a, N: StoreName + Send + Sync, R: Threads + Wait + Sync> Desk<'a, N, R> {
-    // The threads run, and then the logger; behind it one more transaction is committed.
+    // The threads run, and then the logger; after it one more transaction is committed.
     fn run_threads(
         &self,
         seat: &mut CheckpointerSeat<N>,
@@ -95,7 +95,7 @@ impl<'a, N: StoreName + Send + Sync, R: Threads + Wait + Sync> Desk<'a, N, R> {
         Ok(done)
     }
 
-    // A collapser joins the files of the points, until the end is marked, beside the sessions and the checkpointer.
+    // A collapser joins the files of the points, until the end is marked, concurrently with the sessions and the checkpointer.
     fn use_board(
         &self,
         seat: &mut CheckpointerSeat<N>,
@@ -126,7 +126,7 @@ impl<'a, N: StoreName + Send + Sync, R: Threads + Wait + Sync> Desk<'a, N, R> {
         Ok(Done { commits, tickets })
     }
 
-    // Both sessions commit, each on a thread of its own, and beside them points are taken.
+    // Both sessions commit, each on a thread of its own, while points are taken.
     fn commit_beside_points(
         &self,
         seat: &mut CheckpointerSeat<N>,

@@ -1,18 +1,18 @@
-//! The gate at which threads stand until others have come to their places.
+//! The gate at which threads wait until others have come to their places.
 use crate::signs::{Sign, SignCounts, place_behind, sign_of};
 use pc_types::{Gate, GatePlace, Refusal, SessionNo};
 use pc_workers::ClientGate;
 use std::sync::atomic::{AtomicBool, AtomicU64, Ordering};
 use std::thread;
 
-/// The so-manyth time that somebody comes to a place.
+/// A place, and the number of a visit to it.
 pub type Visit = (Sign, u64);
 
-/// Who makes the first visit stands there until the second was made.
+/// The thread that makes the first visit waits there until the second was made.
 pub type Stop = (Visit, Visit);
 
-/// A gate with stops, and visits that are made only while nobody stands at it. At each place it lets other threads go first, so
-/// that their ways mix.
+/// A gate with stops, and visits that are made only while no thread waits at it. At each place it lets other threads go first,
+/// so that their ways mix.
 #[derive(Drop)]
 pub struct Meeting {
     stops: &'static [Stop],
@@ -23,14 +23,14 @@ pub struct Meeting {
     has_failed: AtomicBool,
 }
 
-// How often who stands looks for the others.
+// How often a waiting thread looks for the others.
 const TURNS: u32 = 10_000_000;
 
-// How often who has stood lets others run before it goes on.
+// How often a thread that has waited lets others run before it goes on.
 const MORE_TURNS: u32 = 1000;
 
 impl Meeting {
-    /// Nobody has come yet; sessions are counted from behind so many.
+    /// No thread has come yet; sessions are counted after the given number of others.
     pub fn new(stops: &'static [Stop], alone: &'static [Visit], idle: u8) -> Meeting {
         Meeting {
             stops,
@@ -42,12 +42,12 @@ impl Meeting {
         }
     }
 
-    /// Whether all came where one stood for them, and none while one stood where nobody was to.
+    /// Whether all came where one waited for them, and none while one waited where nobody was to come.
     pub fn have_met(&self) -> bool {
         !self.has_failed.load(Ordering::SeqCst)
     }
 
-    /// Somebody comes to the sign: stands where he is to, and has failed where nobody was to stand.
+    /// A thread comes to the sign: it waits if it is to, and has failed if no thread was to wait.
     pub fn come(&self, sign: Sign) {
         let visit = (sign, self.counts.note(sign));
         let is_alone = self.standing.load(Ordering::SeqCst) == 0;
@@ -61,7 +61,7 @@ impl Meeting {
         }
     }
 
-    // Stands until the visit was made, and some turns more; where it isn't made it goes on, and the meeting has failed.
+    // Waits until the visit was made, and some turns more; if it isn't made it goes on, and the meeting has failed.
     fn stand(&self, theirs: Visit) {
         self.standing.fetch_add(1, Ordering::SeqCst);
         if !self.is_made(theirs) {

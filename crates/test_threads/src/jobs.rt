@@ -19,7 +19,8 @@ pub type Asks = &'static [Ask<'static>];
 pub enum Work {
     /// Of each session its transactions.
     Listed(&'static [&'static [Asks]]),
-    /// So many sessions, so many transactions each: one put of a key that no other transaction has.
+    /// The given number of sessions, with the given number of transactions each: one put of a key that no other
+    /// transaction has.
     Apart(u8, u16),
     /// The same, of a read and two puts of three of ten keys, in an order that is the transaction's own.
     Crowded(u8, u16),
@@ -28,7 +29,7 @@ pub enum Work {
 }
 
 impl Work {
-    /// How many sessions there are.
+    /// The number of sessions.
     pub fn sessions(&self) -> u8 {
         match *self {
             Work::Listed(sessions) => u8::try_from(sessions.len()).unwrap_or(u8::MAX),
@@ -37,7 +38,7 @@ impl Work {
         }
     }
 
-    /// The jobs of each session, so many of which have none before the first one that has some.
+    /// The jobs of each session; the given number of first ones have none.
     pub fn jobs(&self, alloc: Global, idle: u8) -> Result<Vec<Vec<Job>>, Refusal> {
         let mut all = Vec::new(alloc);
         for _ in 0..idle {

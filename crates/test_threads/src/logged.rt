@@ -28,7 +28,6 @@ impl<N: StoreName> Model for TextOfLog<N> {
 }
 
 impl<N: StoreName> TextOfLog<N> {
-    /// Nothing yet.
     pub fn new(alloc: Global) -> TextOfLog<N>
         requires { (text : List ℕ) → N.out text }
     {

@@ -1,5 +1,6 @@
-//! Sessions on threads of their own over one store, beside a checkpointer, a collapser and a logger: first an example of the library, and then
-//! meetings, in which some stand at gates until others have come to theirs. It prints what each of them leaves, which is the same in every run.
+//! Sessions on threads of their own over one store, with a concurrent checkpointer, collapser and logger: first an example of the
+//! library, and then meetings, in which some wait at gates until others have come to theirs. It prints what each of them leaves,
+//! which is the same in every run.
 #![tactic(auto)]
 
 mod audits;
@@ -27,14 +28,14 @@ use std::process::ExitCode;
 use std::sync::Wait;
 use std::thread::Threads;
 
-// How many keys a store has room for.
+// The number of keys that a store has room for.
 const CAPACITY: u32 = 8192;
 
-// How many sessions the example has.
+// The number of sessions that the example has.
 const EXAMPLE_SESSIONS: u8 = 2;
 
-// The status is 1 where memory, the output or the draw of a seed failed, or in a meeting threads missed one another, a job was given
-// up or the logger left something, after which no more meetings are run.
+// The status is 1 if memory, the output or the draw of a seed failed, or in a meeting threads missed one another, a job was given up
+// or the logger left something, after which no more meetings are run.
 fn main(rt: HostRuntime) -> ExitCode {
     match run(&rt, &rt) {
         Ok(()) => ExitCode::from(0),

@@ -25,16 +25,16 @@ use std::thread::{self, Threads, join};
 /// What the threads leave.
 #[derive(Drop)]
 pub struct Left {
-    /// Whether all came where one stood for them.
+    /// Whether all came where one waited for them.
     pub have_met: bool,
-    /// How many jobs were committed, and how many were given up.
+    /// The number of jobs committed, and how many were given up.
     pub commits: u64,
     pub given_up: u64,
-    /// How many receipts the sessions have, and how many reads and adds these.
+    /// The number of receipts that the sessions have, and how many reads and adds these.
     pub receipts: usize,
     pub reads: usize,
     pub adds: usize,
-    /// How many commits the log has, and how many tokens.
+    /// The number of commits that the log has, and how many tokens.
     pub entries: usize,
     pub tokens: usize,
     /// How many of the log's entries the logger was handed before the end.
@@ -45,26 +45,26 @@ pub struct Left {
     pub is_written: bool,
     /// Whether the receipts are exact.
     pub are_exact: bool,
-    /// How many files of all points from the first on there are, where they are right.
+    /// How many files of all points from the first on there are, if they are correct.
     pub right_files: Option<usize>,
 }
 
 impl Left {
-    /// Whether all that stood met the others, no job was given up, and the logger has written each entry that there was.
+    /// Whether all that waited met the others, no job was given up, and the logger has written each entry that there was.
     pub fn went_on(&self) -> bool {
         let entries = self.entries.saturating_add(self.tokens);
         self.have_met && self.given_up == 0 && self.logged == entries
     }
 }
 
-// How many jobs all clients committed, and how many they gave up.
+// The number of jobs that all clients committed, and how many they gave up.
 #[derive(Drop)]
 struct Done {
     commits: AtomicU64,
     given_up: AtomicU64,
 }
 
-// What the threads have, beside what is their own.
+// What the threads share.
 #[derive(Clone, Copy)]
 struct Room<'a, N: StoreName, R: Wait> {
     desk: Desk<'a, N, R>,
@@ -112,8 +112,8 @@ impl<'a, N: StoreName + Send + Sync, R: Threads + Wait + Sync> Room<'a, N, R> {
         );
     }
 
-    // The end is marked, by which a collapser that waits for more points than there are is to be woken. Where he sleeps on, a
-    // change of the phase wakes him, so that the program comes to its end.
+    // The end is marked, by which a collapser that waits for more points than there are is to be woken. If he sleeps on, a change
+    // of the phase wakes him, so that the program comes to its end.
     fn end(&self, seat: &mut CheckpointerSeat<N>) {
         self.desk.mark_end();
         self.gate.come(Sign::EndIsMarked);
@@ -124,7 +124,7 @@ impl<'a, N: StoreName + Send + Sync, R: Threads + Wait + Sync> Room<'a, N, R> {
         drop(reply);
     }
 
-    // The collapser, where the plan has one, and the tickets that it is left with.
+    // The collapser, if the plan has one, and the tickets that it is left with.
     fn collapse(&self, board: &Board, pass: &mut BoardPass) -> Result<Vec<PartTicket<N>>, Refusal>
         requires { IsOfBoard pass.old board.now }
     {
@@ -136,7 +136,7 @@ impl<'a, N: StoreName + Send + Sync, R: Threads + Wait + Sync> Room<'a, N, R> {
         held
     }
 
-    // The logger, and beside it the collapser.
+    // The logger, and concurrently the collapser.
     fn log_beside_collapser(
         &self,
         board: &Board,
@@ -161,8 +161,8 @@ impl<'a, N: StoreName + Send + Sync, R: Threads + Wait + Sync> Room<'a, N, R> {
         held
     }
 
-    // The clients and the checkpointer, and beside them the logger and the collapser, whose tickets these are. Once the first are
-    // through, the end is marked.
+    // The clients and the checkpointer, and concurrently the logger and the collapser, whose tickets these are. Once the first
+    // are through, the end is marked.
     fn run_on(
         &self,
         board: &Board,
@@ -234,7 +234,7 @@ impl<'a, N: StoreName + Send + Sync, R: Threads + Wait + Sync> Room<'a, N, R> {
     }
 }
 
-/// Opens no store, but runs this one to its close by the plan, and tells what it leaves.
+/// Opens no store, but runs this one to its close by the plan, and returns what it leaves.
 pub fn meet<N: StoreName + Send + Sync, R: Threads + Wait + Sync>(
     rt: &R,
     alloc: Global,

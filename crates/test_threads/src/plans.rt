@@ -1,29 +1,28 @@
-//! What is to be done in each meeting.
+//! The jobs of each meeting.
 use crate::gate::{Stop, Visit};
 use crate::jobs::Ask::*;
 use crate::jobs::{Asks, Work};
 use crate::signs::Sign::*;
 
-/// What is to be done in a store, and who stands where for whom.
+/// The jobs in a store, and which thread waits where for which.
 #[derive(Clone, Copy)]
 pub struct Plan {
     /// Under which its line is printed.
     pub name: &'static str,
     pub points: u32,
-    /// Up to which point a collapser joins files beside all others, 0 where there is none; where it is to join more points than are
-    /// taken, it waits for the end.
+    /// The last point whose files a collapser joins concurrently with all other threads, 0 if there is none; if it is to join more
+    /// points than are taken, it waits for the end.
     pub joins: u32,
     pub work: Work,
-    /// How many sessions do nothing: the work is that of those behind them, and signs count from there.
+    /// How many sessions do nothing: the work is that of those after them, and signs count from there.
     pub idle: u8,
-    /// How many entries a client may leave unwritten behind its commit; where none is given it never waits for the log.
+    /// The number of entries that a client may leave unwritten after its commit; if none is given it never waits for the log.
     pub lag: Option<u32>,
     pub stops: &'static [Stop],
-    /// The visits that are made while nobody stands.
+    /// The visits that are made while no thread waits.
     pub alone: &'static [Visit],
 }
 
-// Nobody does anything.
 const IDLE: Plan = Plan {
     name: "",
     points: 0,
@@ -36,7 +35,7 @@ const IDLE: Plan = Plan {
 };
 
 impl Plan {
-    /// How many sessions there are.
+    /// The number of sessions.
     pub fn sessions(&self) -> u8 {
         self.work.sessions().saturating_add(self.idle)
     }
@@ -53,8 +52,8 @@ const SIXTY_ADDS: [Asks; 60] = [&[Add(b"c", 3)]; 60];
 
 /// All of them.
 pub const PLANS: [Plan; 17] = [
-    // Session 2 commits c before the point is begun. Session 1 begins once the phase is resolve, and stands with a locked until
-    // session 2, which begins again only then, has committed b, and a key of the point was taken.
+    // Session 2 commits c before the point is begun. Session 1 begins once the phase is resolve, and waits with a locked until session
+    // 2, which begins again only then, has committed b, and a key of the point was taken.
     Plan {
         name: "beside a point",
         points: 1,
@@ -68,8 +67,8 @@ pub const PLANS: [Plan; 17] = [
         ],
         ..IDLE
     },
-    // Session 2 commits a hundred keys before the point is begun. Session 1 begins once the phase is resolve, and stands with its
-    // first transaction open until all of them were taken and the point's part was done; the keys may be taken only once it is open.
+    // Session 2 commits a hundred keys before the point is begun. Session 1 begins once the phase is resolve, and waits with its first
+    // transaction open until all of them were taken and the point's part was done; the keys may be taken only once it is open.
     Plan {
         name: "a capture goes on",
         points: 1,
@@ -83,8 +82,8 @@ pub const PLANS: [Plan; 17] = [
         ],
         ..IDLE
     },
-    // Session 1 begins in the third point's phase resolve, and stands with a locked until the collapser holds two of the files. The
-    // end is marked only after session 1, so a collapser that joins nothing before then lets it stand in vain.
+    // Session 1 begins in the third point's phase resolve, and waits with a locked until the collapser holds two of the files. The end
+    // is marked only after session 1, so a collapser that joins nothing before then lets it wait in vain.
     Plan {
         name: "collapse beside",
         points: 3,
@@ -116,7 +115,7 @@ pub const PLANS: [Plan; 17] = [
         stops: &[((FirstStarts, 1), (SecondCommits, 1))],
         ..IDLE
     },
-    // Each session stands with a key of its own locked until the other one does.
+    // Each session waits with a key of its own locked until the other one does.
     Plan {
         name: "sessions meet",
         work: Work::Listed(&[&[&[Put(b"a", 1)]], &[&[Put(b"b", 1)]]]),
@@ -219,8 +218,8 @@ pub const PLANS: [Plan; 17] = [
         ],
         ..IDLE
     },
-    // Session 1 commits twice and may leave no entry unwritten. The logger stands before it writes until session 1 waits for it;
-    // session 1 goes on from its first commit only once the logger has gone on.
+    // Session 1 commits twice and may leave no entry unwritten. The logger waits before it writes until session 1 waits for it; session
+    // 1 goes on from its first commit only once the logger has gone on.
     Plan {
         name: "the log holds each commit",
         work: Work::Listed(&[&[&[Put(b"a", 1)], &[Put(b"a", 2)]]]),
@@ -229,8 +228,8 @@ pub const PLANS: [Plan; 17] = [
         alone: &[(FirstCommits, 1)],
         ..IDLE
     },
-    // Session 1 commits three times and may leave one entry unwritten. The logger stands before it writes until session 1 waits for
-    // it; session 1 commits for the second time only once the logger has gone on.
+    // Session 1 commits three times and may leave one entry unwritten. The logger waits before it writes until session 1 waits for it;
+    // session 1 commits for the second time only once the logger has gone on.
     Plan {
         name: "the log holds a client",
         work: Work::Listed(&[&[&[Put(b"a", 1)], &[Put(b"a", 2)], &[Put(b"a", 3)]]]),
@@ -245,7 +244,7 @@ pub const PLANS: [Plan; 17] = [
         work: Work::Apart(4, 1000),
         ..IDLE
     },
-    // As many sessions as there may be, over ten keys, beside points.
+    // As many sessions as there may be, over ten keys, while points are taken.
     Plan {
         name: "a crowd over ten keys",
         points: 8,

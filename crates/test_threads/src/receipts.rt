@@ -1,4 +1,4 @@
-//! Receipts beside the log.
+//! Receipts compared with the log.
 use pc_kept_log::{LentChange, LentWrite, LentWrites};
 use pc_replay::{Pairs, apply};
 use pc_shared::{Closed, LentReceipt, Session};
@@ -27,7 +27,7 @@ pub fn are_exact<N: StoreName>(alloc: Global, closed: &Closed<N>) -> Result<bool
     Ok(commits == count_of(&closed.receipts))
 }
 
-/// How many receipts the sessions have.
+/// The number of receipts that the sessions have.
 pub fn count_of<N: StoreName>(sessions: &[Session<N>]) -> usize {
     let mut count = 0usize;
     for session in sessions {
@@ -36,7 +36,7 @@ pub fn count_of<N: StoreName>(sessions: &[Session<N>]) -> usize {
     count
 }
 
-/// How many reads the sessions' receipts have.
+/// The number of reads that the sessions' receipts have.
 pub fn reads_of<N: StoreName>(closed: &Closed<N>) -> usize {
     let mut count = 0usize;
     for session in 0..closed.receipts.len() {
@@ -71,7 +71,7 @@ fn adds_among(writes: LentWrites<'_>) -> usize {
         .count()
 }
 
-// How many reads the receipts of the session at the place have.
+// The number of reads that the receipts of the session at the place have.
 fn reads_in<N: StoreName>(closed: &Closed<N>, session: usize) -> usize {
     let mut count = 0usize;
     for place in 0..commits_of(closed, session) {
@@ -82,7 +82,7 @@ fn reads_in<N: StoreName>(closed: &Closed<N>, session: usize) -> usize {
     count
 }
 
-// How many commits the session at the place has.
+// The number of commits that the session at the place has.
 fn commits_of<N: StoreName>(closed: &Closed<N>, session: usize) -> usize {
     match closed.receipts.get(session) {
         Some(session) => session.commits().len(),

@@ -31,12 +31,12 @@ pub enum Sign {
     EndIsMarked,
 }
 
-// The number of a session, counted from behind so many others; 0 or more than there are where it is one of these.
+// The number of a session, counted after the given number of others; 0 or more than there are if it is one of these.
 fn behind(idle: u8, session: SessionNo) -> SessionNo {
     SessionNo(session.0.wrapping_sub(u32::from(idle)))
 }
 
-/// The place, where sessions are counted from behind so many.
+/// The place, if sessions are counted after the given number of others.
 pub fn place_behind(idle: u8, place: GatePlace) -> GatePlace {
     match place {
         GatePlace::Start(session) => GatePlace::Start(behind(idle, session)),
@@ -47,7 +47,7 @@ pub fn place_behind(idle: u8, place: GatePlace) -> GatePlace {
     }
 }
 
-/// The sign of the place, where it is counted.
+/// The sign of the place, if it is counted.
 pub fn sign_of(place: GatePlace) -> Option<Sign> {
     Some(match place {
         GatePlace::Start(SessionNo(1)) => Sign::FirstStarts,
@@ -90,7 +90,7 @@ impl SignCounts {
         &self.counts[sign as usize]
     }
 
-    /// Counts the sign once more, and gives its count.
+    /// Counts the sign once more, and returns its count.
     pub fn note(&self, sign: Sign) -> u64 {
         self.of(sign).fetch_add(1, Ordering::SeqCst).wrapping_add(1)
     }

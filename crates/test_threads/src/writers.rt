@@ -10,7 +10,7 @@ use pc_workers::{client_loop, collapse_loop};
 use std::alloc::Global;
 use std::sync::Wait;
 
-// How many transactions a client commits.
+// The number of transactions that a client commits.
 const COMMITS: u64 = 1000;
 
 /// A store, with what calls of it take.
@@ -60,7 +60,7 @@ impl<'a, N: StoreName, R: Wait> Desk<'a, N, R> {
         let _marked = self.shared.mark_end(self.rt, &mut witness);
     }
 
-    /// Takes the files of so many points as they are published, and joins them.
+    /// Takes the files of the given number of points as they are published, and joins them.
     pub fn collapse<G: Gate>(
         &self,
         board: &Board,

@@ -64,7 +64,7 @@ fn numbers(alloc: Global, board: &Board, mut pass: BoardPass) -> Result<Vec<u64>
     Ok(numbers)
 }
 
-// What two threads claimed beside each other, in order.
+// What two threads claimed concurrently, in order.
 fn claims_beside<R: Threads + Sync>(
     rt: &R,
     alloc: Global,

@@ -35,7 +35,7 @@ fn remove(alloc: Global, set: &mut WriteSet) -> Result<(), Refusal> {
     Ok(())
 }
 
-// Adds to the key where that can be kept; whether it can.
+// Adds to the key if that can be kept; whether it can.
 fn add(alloc: Global, set: &mut WriteSet, delta: i64) -> Result<bool, Refusal> {
     let key = key_of(alloc)?;
     set.reserve()?;
@@ -103,20 +103,20 @@ const GREATEST: &[u8] = b"\x7f\xff\xff\xff\xff\xff\xff\xff";
 const LEAST: &[u8] = b"\x80\0\0\0\0\0\0\0";
 
 const ROWS: [Row; 26] = [
-    // An add behind a set number sets the sum, and behind a removal what it adds.
+    // An add after a set number sets the sum, and after a removal what it adds.
     (Put(FIVE), Added(-3), true, Put(TWO)),
     (Put(FIVE), Added(-6), true, Put(MINUS_ONE)),
     (Put(LEAST), Added(i64::MAX), true, Put(MINUS_ONE)),
     (Removed, Added(5), true, Put(FIVE)),
     (Removed, Added(0), true, Put(b"\0\0\0\0\0\0\0\0")),
     (Removed, Added(i64::MIN), true, Put(LEAST)),
-    // Behind what is no number, and where the sum leaves 64 bits, the value stays.
+    // After what is no number, and if the sum leaves 64 bits, the value stays.
     (Put(SEVEN), Added(1), true, Put(SEVEN)),
     (Put(NINE), Added(1), true, Put(NINE)),
     (Put(b""), Added(1), true, Put(b"")),
     (Put(GREATEST), Added(1), true, Put(GREATEST)),
     (Put(LEAST), Added(-1), true, Put(LEAST)),
-    // Two adds are one of their sum, where that has 64 bits; else the first one stays.
+    // Two adds are one of their sum, if that has 64 bits; otherwise the first one stays.
     (Added(2), Added(3), true, Added(5)),
     (Added(2), Added(-2), true, Added(0)),
     (Added(i64::MAX), Added(0), true, Added(i64::MAX)),

@@ -52,7 +52,7 @@ fn part_of(alloc: Global, run: u64, point: u32, keys: u32, value: u8) -> Result<
     Part::decode(alloc, &text)
 }
 
-// The parts of so many points of a run. The value of a point is its number.
+// The parts of the given number of points of a run. The value of a point is its number.
 fn parts_of(alloc: Global, points: u8, keys: u32) -> Result<Vec<Part>, Refusal> {
     let mut parts = Vec::new(alloc);
     for number in 0..points {
@@ -78,7 +78,6 @@ fn joined_text(alloc: Global) -> Result<Vec<u8>, AllocError> {
     Ok(text)
 }
 
-// The part's text.
 fn text_of(part: &Part, alloc: Global) -> Result<Vec<u8>, Refusal> {
     let mut out = Tally::new(Vec::new(alloc));
     part.encode(&mut out)?;
@@ -129,7 +128,7 @@ fn join_owned<R: Threads + Wait + Sync>(
     }
 }
 
-// Whether the call gives this text, with the parts lent and with the parts handed over.
+// Whether the call gives this text, with the parts borrowed and with the parts handed over.
 fn gives<R: Threads + Wait + Sync>(
     rt: &R,
     alloc: Global,
@@ -213,7 +212,7 @@ fn empty_gate() -> Meeting {
     }
 }
 
-// Both collapsers stood at the gate, in rounds and over the bag.
+// Both collapsers waited at the gate, in rounds and over the bag.
 #[test]
 fn collapsers_overlap(rt: HostRuntime) -> Result<(), Fail> {
     let alloc = rt.alloc();
@@ -241,7 +240,7 @@ const REFUSED: [(&[(u64, u32, u8)], Option<Refusal>); 6] = [
     (&[(1, 3, 7), (1, 3, 8), (2, 6, 7)], Some(Refusal::OtherRun)),
 ];
 
-// Why the call refuses the parts, if it does, lent or handed over.
+// Why the call refuses the parts, if it does, borrowed or handed over.
 fn refusals<R: Threads + Wait + Sync>(
     rt: &R,
     alloc: Global,

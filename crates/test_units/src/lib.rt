@@ -1,4 +1,4 @@
-//! Tests of single libraries, each by its public calls. They stand here and not beside the code, whose crate would be proved a
+//! Tests of single libraries, each by its public calls. They are here and not next to the code, whose crate would be proved a
 //! second time for them.
 #![tactic(auto)]
 

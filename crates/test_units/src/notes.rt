@@ -6,7 +6,7 @@ use pc_types::{Change, Key, Refusal, Value, Write};
 use std::alloc::Global;
 use std::test::Fail;
 
-// The key of a number: 20 bytes, which lie in memory. Keys rise with their numbers.
+// The key of a number: 20 bytes, which lie in memory. Keys ascend with their numbers.
 fn key_of(alloc: Global, number: u16) -> Result<Key, Refusal> {
     let mut bytes = Vec::new(alloc);
     bytes.extend_from_slice(b"a key in memory..:")?;
@@ -111,7 +111,7 @@ fn noted(reads: &mut ReadSet, own: bool, key: Key) -> Option<usize>
     }
 }
 
-// A read is noted where it is not of an own write, and the key was not read.
+// A read is noted if it is not of an own write, and the key was not read.
 #[test]
 fn notes_first_reads(rt: HostRuntime) -> Result<(), Fail> {
     let alloc = rt.alloc();

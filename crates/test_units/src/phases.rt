@@ -12,7 +12,7 @@ const CYCLE: [Change; 5] = [
     Change::Rest,
 ];
 
-// A transaction begins, if one more may be active, and its class is told.
+// A transaction begins, if one more may be active; returns its class.
 fn begun(phases: &mut Phases) -> Option<Class> {
     let before = phases.active(Class::Before);
     let during = phases.active(Class::During);
@@ -23,7 +23,8 @@ fn begun(phases: &mut Phases) -> Option<Class> {
     Some(phases.enter())
 }
 
-// So many changes after the start. Where it is busy, a transaction has begun in the phase, and one in the phase before.
+// The given number of changes after the start. If it is busy, a transaction has begun in the phase, and one in the
+// phase before.
 fn standing(changes: usize, busy: bool) -> Phases {
     let mut phases = Phases::new();
     for (done, change) in CYCLE.iter().enumerate() {
@@ -37,7 +38,7 @@ fn standing(changes: usize, busy: bool) -> Phases {
     phases
 }
 
-// What comes of the change after so many changes. Where it is busy, one key is left to take.
+// The outcome of the change after the given number of changes. If it is busy, one key is left to take.
 fn outcome(changes: usize, busy: bool, change: Change) -> Result<Phase, Held> {
     let mut phases = standing(changes, busy);
     let left = u32::from(busy);
@@ -63,8 +64,8 @@ const WRONG: Result<Phase, Held> = Err(Held::WrongPhase);
 
 const LATER: Result<Phase, Held> = Err(Held::NotYet(1));
 
-// Each phase, and what comes of each change in it where no transaction is active and no key left, and where one of each
-// class that may be active is, and one key left.
+// Each phase, and what comes of each change in it if no transaction is active and no key left, and if one of each class
+// that may be active is, and one key left.
 const TABLE: [(Phase, [Result<Phase, Held>; 5], [Result<Phase, Held>; 5]); 5] = [
     (
         Phase::Rest,
@@ -103,7 +104,7 @@ fn table_of_changes(rt: HostRuntime) -> Result<(), Fail> {
     Ok(())
 }
 
-// Goes once round the cycle, and gives the point of each phase on the way.
+// Goes once round the cycle, and returns the point of each phase on the way.
 fn cycled(phases: &mut Phases) -> Result<[u16; 5], Held> {
     let mut points = [0; 5];
     for (place, change) in CYCLE.iter().enumerate() {

@@ -1,4 +1,4 @@
-//! Tests of the two sets: worked rows, and a walk beside plain lists, over a row of links.
+//! Tests of the two sets: worked rows, and a walk compared with plain lists, over a row of links.
 ghost use Rattle.std.specs.Prelude.{◌≡◌, ◌≢◌, ◌<◌, ◌≤◌, IfOk, OnOk, IsTrue, length};
 ghost use Rattle.pc_chain.specs.Chains.{Avoids};
 ghost use Rattle.pc_dirty.specs.declared.side.SideSlot.{SideSlot};
@@ -271,10 +271,10 @@ fn sets_over_one_row(rt: HostRuntime) -> Result<(), Fail> {
     Ok(())
 }
 
-// How many requests the walk has.
+// The number of requests that the walk has.
 const STEPS: u32 = 5000;
 
-// A request by chance: most add or take, and a close is asked for about as often as the closed set is empty.
+// A random request: most add or take, and a close is asked for about as often as the closed set is empty.
 fn drawn_ask(seed: u64) -> Ask {
     match drawn(seed, 33, 18) {
         0..=6 => Add(drawn(seed, 37, 13)),
@@ -286,7 +286,7 @@ fn drawn_ask(seed: u64) -> Ask {
     }
 }
 
-// How many slots there are.
+// The number of slots.
 fn count_of(slots: &[u32]) -> u32 {
     let mut count = 0u32;
     for _ in slots {
@@ -361,7 +361,7 @@ fn note(tally: &mut AnswerCounts, told: Told) {
     tally[place] = tally[place].saturating_add(1);
 }
 
-// The number of the first request that lists answer otherwise; nothing where none is, and each answer came often.
+// The number of the first request that lists answer otherwise; nothing if none is, and each answer came often.
 fn first_other(kept: &mut KeptSets, lists: &mut PlainSets) -> Result<Option<u32>, AllocError>
     requires { AreKept kept.old.row.first.items kept.old.row.second.items kept.old.sets kept.old.opened.items }
 {

@@ -4,7 +4,7 @@ use pc_types::{Key, Point, Refusal, Value};
 use std::alloc::Global;
 use std::test::Fail;
 
-// Keys of one byte that are put, and what each has, where it isn't 0; with the keys then and what they have, by key.
+// Keys of one byte that are put, and what each has, if it isn't 0; with the keys then and what they have, by key.
 const CASES: [(&[(u8, u8)], &[(u8, u8)]); 6] = [
     (&[], &[]),
     (&[(1, 11), (2, 0), (7, 17)], &[(1, 11), (2, 0), (7, 17)]),
@@ -20,7 +20,7 @@ const CASES: [(&[(u8, u8)], &[(u8, u8)]); 6] = [
     ),
 ];
 
-// What a number stands for: a value of that byte, or nothing.
+// The meaning of a number: a value of that byte, or nothing.
 fn content_of(alloc: Global, number: u8) -> Result<Option<Value>, Refusal> {
     if number == 0 {
         return Ok(None);
@@ -57,7 +57,7 @@ fn are_told(entries: &Entries, rows: &[(u8, u8)]) -> bool {
             && told(&triple) == Some(*row))
 }
 
-// Whether what is put so is gone over so, where it stands and in a copy, and nothing is left where it was.
+// Whether what is put so is gone over so, in place and in a copy, and nothing is left where it was.
 fn is_moved(alloc: Global, puts: &[(u8, u8)], rows: &[(u8, u8)]) -> Result<bool, Refusal> {
     let mut taken = taken_of(alloc, puts)?;
     let is_counted = taken.len() == rows.len();

@@ -11,11 +11,11 @@ use std::alloc::{AllocError, Global};
 pub struct Found {
     /// How many lengths of logs there were.
     pub cuts: u64,
-    /// How many choices of parts there were beside them.
+    /// How many choices of parts there were with them.
     pub choices: u64,
-    /// How many of the choices were recovered right.
+    /// How many of the choices were recovered correctly.
     pub right: u64,
-    /// The length of the log and the number of the choice that were first not recovered right.
+    /// The length of the log and the number of the choice that were first not recovered correctly.
     pub wrong: Option<(usize, usize)>,
 }
 
@@ -63,7 +63,7 @@ fn reached(choice: Choice, parts: usize) -> usize {
     parts.min(length)
 }
 
-// How many entries are whole in so many bytes.
+// How many entries are whole in the given number of bytes.
 fn whole_in(ends: &[usize], length: usize) -> usize {
     let mut count = 0usize;
     for end in ends {
@@ -79,7 +79,7 @@ fn whole_in(ends: &[usize], length: usize) -> usize {
 struct Said {
     // The database after each number of entries, from none to all, by the slow form.
     states: Vec<Pairs>,
-    // How many entries stand before the token of each of the points 0 to 3: none before that of 0, which is the start.
+    // How many entries are before the token of each of the points 0 to 3: none before that of 0, which is the start.
     fronts: [usize; 4],
 }
 
@@ -113,7 +113,7 @@ fn said_by(alloc: Global, world: &World) -> Result<Said, Refusal> {
     })
 }
 
-// Whether the pairs are the database after so many entries.
+// Whether the pairs are the database after the given number of entries.
 fn are_after(pairs: &[(Key, Value)], said: &Said, count: usize) -> bool {
     match said.states.get(count) {
         Some(wanted) => are_same(pairs, wanted.as_slice()),
@@ -137,7 +137,7 @@ fn are_same(one: &[(Key, Value)], other: &[(Key, Value)]) -> bool {
     true
 }
 
-// Whether so many parts were skipped, each for the lack of the point behind the recovered one.
+// Whether the given number of parts were skipped, each for the lack of the point after the recovered one.
 fn are_skipped(recovered: &Recovered, count: usize) -> bool {
     for skipped in &recovered.skipped {
         if skipped.reason != Refusal::Gap(Point(recovered.point.0.wrapping_add(1))) {
@@ -147,7 +147,7 @@ fn are_skipped(recovered: &Recovered, count: usize) -> bool {
     recovered.skipped.len() == count
 }
 
-// What is wrong with the bytes behind the whole entries.
+// What is wrong with the bytes after the whole entries.
 fn fault_in(ends: &[usize], length: usize) -> Option<Refusal> {
     if length <= 20 || ends.contains(&length) {
         return None;
@@ -155,7 +155,8 @@ fn fault_in(ends: &[usize], length: usize) -> Option<Refusal> {
     Some(Refusal::Short)
 }
 
-// Whether the texts with the log cut to the length, and these parts, are worth what the store's log says.
+// Whether the state recovered from the texts with the log cut to the length, and from these parts, is that of the
+// store's log.
 fn is_right(
     alloc: Global,
     said: &Said,
@@ -178,7 +179,7 @@ fn is_right(
     )
 }
 
-// Whether there are so many parts as the choice asks for.
+// Whether there are as many parts as the choice asks for.
 fn is_of(choice: Choice, parts: usize) -> bool {
     match choice {
         [_, _, true] => parts > 2,
@@ -206,7 +207,6 @@ fn recover_cut(
     Ok(())
 }
 
-// Counts a choice.
 fn note_choice(found: &mut Found, is_right: bool, length: usize, choice: usize) {
     found.choices = found.choices.saturating_add(1);
     if is_right {

@@ -1,5 +1,5 @@
-//! Recovers what stores write: the logs of walks by chance, cut at every place, with each choice of their parts, and compares
-//! what is recovered with a slow replay. It prints how much was tried, and how much was recovered right.
+//! Recovers what stores write: the logs of random walks, cut at every place, with each choice of their parts, and compares
+//! what is recovered with a slow replay. It prints how much was tried, and how much was recovered correctly.
 #![tactic(auto)]
 
 mod cuts;
@@ -16,7 +16,7 @@ use test_support::following;
 use texts::texts_of;
 use walk::walked;
 
-// How many walks there are.
+// The number of walks.
 const WALKS: u64 = 200;
 
 // What was tried, and what came of it.
@@ -44,8 +44,8 @@ fn main(rt: HostRuntime) -> ExitCode {
     }
 }
 
-// One walk after the other; all their stores hash keys under one seed. The status is 1 where memory ran out, or the output or
-// the draw of that seed failed.
+// One walk after the other; all their stores hash keys under one seed. The status is 1 if an allocation failed, or the output
+// or the draw of that seed failed.
 fn run_walks(rt: &HostRuntime) -> io::Result<u8> {
     let hash_seed = RandomState::new(rt)?;
     let mut sum = Sum {
@@ -93,7 +93,7 @@ fn with(sum: Sum, told: Told) -> Sum {
     }
 }
 
-// Tells what was first not recovered right of a walk, if there is such.
+// Prints what was first not recovered correctly of a walk, if anything.
 fn tell_wrong(rt: &HostRuntime, walk: u64, found: Found) -> io::Result<()> {
     match found.wrong {
         Some((length, choice)) => println!(rt;

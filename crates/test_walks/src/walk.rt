@@ -1,4 +1,4 @@
-//! Walks by chance of three sessions beside the checkpointer.
+//! Random walks of three sessions and the checkpointer.
 ghost use Rattle.std.specs.Prelude.{◌≡◌, IfOk};
 
 use pc_engine::World;
@@ -8,7 +8,7 @@ use std::alloc::Global;
 use std::hash::RandomState;
 use test_support::{drawn, drawn_value, following};
 
-// How many steps a walk has.
+// The number of steps that a walk has.
 const STEPS: u32 = 250;
 
 const LETTERS: [u8; 5] = *b"abcde";
@@ -18,7 +18,8 @@ fn key_of(seed: u64) -> &'static [u8] {
     &LETTERS[i.min(4)..i.min(4) + 1]
 }
 
-// Where the cycle is, whether a key may be left to take, how many parts there are, and the session that must abort, or 0.
+// The state of the cycle, whether a key may be left to take, how many parts there are, and the session that must abort, or
+// 0.
 #[derive(Clone, Copy)]
 struct Walk {
     seed: u64,

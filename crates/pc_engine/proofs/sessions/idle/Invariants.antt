@@ -2,6 +2,6 @@ use Rattle.std.proofs.Common.{◌≡◌, None, replicate}
 use Rattle.pc_engine.specs.Sessions.{actives_of}
 use Rattle.pc_engine.proofs.sessions.idle.Given as goal
 
--- so many lanes so far
+-- that many lanes so far
 abbrev pub invariant-loop : goal.invariant-loop
 invariant-loop l = (actives_of l.lanes.items ≡ replicate l.counter None)

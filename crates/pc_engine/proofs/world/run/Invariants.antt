@@ -4,7 +4,7 @@ use Rattle.pc_engine.specs.Runs.{starting, history_after}
 use Rattle.pc_engine.specs.Stands.{Stands}
 use Rattle.pc_engine.proofs.world.run.Given as goal
 
--- each event so far was answered, and the world stands after them
+-- each event so far was answered, and the world represents them
 abbrev pub invariant-loop-event : goal.invariant-loop-event
 invariant-loop-event l = record {
   answered : length l.replies.items ≡ length (take l.event-index l.events);

@@ -5,7 +5,7 @@ use Rattle.pc_log.specs.Texts.{write_text, IsWrite}
 use Rattle.pc_kept_log.specs.Placing.{ArePut}
 use Rattle.pc_kept_log.proofs.placing.put_writes.Given as goal
 
--- so many of them were put
+-- that many of them were put
 abbrev pub invariant-loop-write : goal.invariant-loop-write
 invariant-loop-write l = record {
   put : ArePut l.fn.room l.room l.at (flat_map write_text (take l.write-index l.writes)) l.end;

@@ -4,7 +4,7 @@ use Rattle.std.specs.Io.KnownBytes.{Appends}
 use Rattle.pc_log.specs.Texts.{entry_text}
 use Rattle.pc_log.proofs.encoding.put_entries.Given as goal
 
--- so many of them went out
+-- that many of them went out
 abbrev pub invariant-loop-entry : goal.invariant-loop-entry
 invariant-loop-entry g l =
     let contents = g.W.Write.contents in

@@ -4,7 +4,7 @@ use Rattle.std.specs.Io.KnownBytes.{Appends}
 use Rattle.pc_log.specs.Texts.{write_text}
 use Rattle.pc_log.proofs.encoding.put_writes.Given as goal
 
--- so many of them went out
+-- that many of them went out
 abbrev pub invariant-loop-write : goal.invariant-loop-write
 invariant-loop-write g l =
     let contents = g.W.Write.contents in

@@ -3,7 +3,7 @@ use Rattle.std.specs.List.{flat_map}
 use Rattle.pc_log.specs.Texts.{write_text}
 use Rattle.pc_log.proofs.encoding.writes_size.Given as goal
 
--- the size of so many writes
+-- the size of that many writes
 abbrev pub invariant-loop-write : goal.invariant-loop-write
 invariant-loop-write l = record {
   size : l.size ≡ length (flat_map write_text (take l.write-index l.writes));

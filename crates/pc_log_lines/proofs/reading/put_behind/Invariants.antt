@@ -5,7 +5,7 @@ use Rattle.pc_log.specs.Reading.{all_at}
 use Rattle.pc_log_lines.specs.Lines.{lines_behind, rest_found}
 use Rattle.pc_log_lines.proofs.reading.put_behind.Given as goal
 
--- the lines of the entries that were read went out, those behind them are still to come, and no fewer bytes were read than entries
+-- the lines of the entries that were read went out, those after them are still to come, and no fewer bytes were read than entries
 abbrev pub invariant-loop-rest : goal.invariant-loop-rest
 invariant-loop-rest g l =
     let contents = g.W.Write.contents in

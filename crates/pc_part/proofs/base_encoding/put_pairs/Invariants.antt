@@ -5,7 +5,7 @@ use Rattle.pc_part.specs.Lawful.{IsPair}
 use Rattle.pc_part.specs.Texts.{pair_text}
 use Rattle.pc_part.proofs.base_encoding.put_pairs.Given as goal
 
--- so many of them went out
+-- that many of them went out
 abbrev pub invariant-loop-key : goal.invariant-loop-key
 invariant-loop-key g l =
     let contents = g.W.Write.contents in

@@ -4,7 +4,7 @@ use Rattle.std.specs.Io.KnownBytes.{Appends}
 use Rattle.pc_part.specs.Texts.{bounds_text}
 use Rattle.pc_part.proofs.encoding.put_ranges.Given as goal
 
--- so many of them went out
+-- that many of them went out
 abbrev pub invariant-loop-range : goal.invariant-loop-range
 invariant-loop-range g l =
     let contents = g.W.Write.contents in

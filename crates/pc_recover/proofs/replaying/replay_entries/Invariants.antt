@@ -5,7 +5,7 @@ use Rattle.pc_recover.specs.Replaying.{found_replay}
 use Rattle.pc_recover.proofs.EntryReplays.{to_come}
 use Rattle.pc_recover.proofs.replaying.replay_entries.Given as goal
 
--- what is still to come makes of it what all of the entries do
+-- the entries still to come have the effect of all of them
 abbrev pub invariant-loop-rest : goal.invariant-loop-rest
 invariant-loop-rest l = record {
   replay : to_come l.is_behind l.fn.point l.database l.entries (all_at l.format l.last l.rest) ≡ found_replay l.fn.point l.fn.database (all_at l.format no_token l.bytes);

@@ -2,7 +2,7 @@ use Rattle.std.proofs.Common.{◌≡◌, ◌≤◌, length}
 use Rattle.pc_stream_join.specs.Steps.{Begun, IsJoining}
 use Rattle.pc_stream_join.proofs.join.write_entries.Given as goal
 
--- a join that was on its way is, so many entries later
+-- a join that was on its way still is, this many entries later
 abbrev pub invariant-loop : goal.invariant-loop
 invariant-loop g l = record {
   together : length l.inputs ≡ length l.merge.firsts;

@@ -6,7 +6,7 @@ use Rattle.pc_workers.specs.Checkpointing.{HasCycled}
 use Rattle.pc_threads.specs.Files.{HasWritten}
 use Rattle.pc_threads.proofs.points.take_points.Given as goal
 
--- the points so far are taken, and written where there is a folder
+-- the points so far are taken, and written if there is a folder
 abbrev pub invariant-loop-others : goal.invariant-loop-others
 invariant-loop-others g l = record {
   there : is_some l.checkpointer.folder ≡ is_some l.fn.checkpointer.folder;

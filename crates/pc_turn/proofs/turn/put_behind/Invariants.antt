@@ -6,7 +6,7 @@ use Rattle.pc_log.specs.Texts.{entry_text}
 use Rattle.pc_turn.specs.Turns.{IsAppended}
 use Rattle.pc_turn.proofs.turn.put_behind.Given as goal
 
--- so many of them were appended
+-- that many of them were appended
 abbrev pub invariant-loop-done : goal.invariant-loop-done
 invariant-loop-done g l = record {
   sent : IsAppended g.L.LogDevice.written g.L.LogDevice.kept (flat_map entry_text (slice_range (entries_of l.kept) l.written l.done)) l.fn.log l.log true;

@@ -4,7 +4,7 @@ use Rattle.pc_workers.specs.Clients.{HasTried}
 use Rattle.pc_workers.specs.Waits.{AreHeld}
 use Rattle.pc_workers.proofs.clients.client_loop.Given as goal
 
--- the jobs so far were tried, so many of them were committed, and each was counted once; behind each commit the client has waited
+-- the jobs so far were tried, this many of them were committed, and each was counted once; after each commit the client has waited
 abbrev pub invariant-loop-job : goal.invariant-loop-job
 invariant-loop-job g l = record {
   tried : HasTried g.N.StoreName.name.setting (take l.job-index l.jobs) l.count.commits l.fn.session l.session;

@@ -3,7 +3,7 @@ use Rattle.pc_workers.specs.Attempts.{AreMade}
 use Rattle.pc_workers.specs.Clients.{HasCommitted, written_by, wrote_all}
 use Rattle.pc_workers.proofs.clients.make_all.Given as goal
 
--- nothing was committed, the operations so far were made, and the transaction has written what they write
+-- nothing was committed, the operations so far were made, and the transaction has their writes
 abbrev pub invariant-loop-op : goal.invariant-loop-op
 invariant-loop-op g l = record {
   committed : HasCommitted [] l.fn.session l.session;

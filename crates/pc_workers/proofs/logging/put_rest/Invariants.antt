@@ -6,7 +6,7 @@ use Rattle.pc_kept_log.specs.Logs.{entries_of}
 use Rattle.pc_log.specs.Texts.{entry_text}
 use Rattle.pc_workers.proofs.logging.put_rest.Given as goal
 
--- so many of them went out
+-- this many of them went out
 abbrev pub invariant-loop-done : goal.invariant-loop-done
 invariant-loop-done g l = record {
   sent : Puts g.W.Write.contents l.fn.out l.out (Ok tt) (flat_map entry_text (slice_range (entries_of l.log) l.closed.logged l.done));

@@ -5,7 +5,7 @@ use Rattle.pc_kept_log.specs.Logs.{entries_of}
 use Rattle.pc_log.specs.Texts.{entry_text}
 use Rattle.pc_kept_log.proofs.log.Log.copied_texts.Given as goal
 
--- so many of them were gathered
+-- that many of them were gathered
 abbrev pub invariant-loop-done : goal.invariant-loop-done
 invariant-loop-done l = record {
   so_far : l.bytes.items ≡ flat_map entry_text (slice_range (entries_of l.self) l.from (l.from + l.done));

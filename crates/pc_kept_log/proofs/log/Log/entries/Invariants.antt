@@ -3,7 +3,7 @@ use Rattle.std.specs.Vec.{vec_len, vec_capacity}
 use Rattle.pc_kept_log.specs.Logs.{entries_of}
 use Rattle.pc_kept_log.proofs.log.Log.entries.Given as goal
 
--- so many were read, and there is room for the others
+-- that many were read, and there is room for the others
 abbrev pub invariant-loop-place : goal.invariant-loop-place
 invariant-loop-place l = record {
   so_far : l.entries.items ≡ take l.place (entries_of l.self);

@@ -11,7 +11,7 @@ use Rattle.pc_locks.specs.Keepers.{KeptRequests, ids_along, queue_along, queues_
 use Rattle.pc_locks.proofs.Upgrades.{own_is}
 use Rattle.pc_locks.proofs.locks.Locks.outcome.Goals as goal
 
--- what is told of the queue along the slot's ends is told of the slot's queue
+-- the answer about the queue along the slot's ends is that about the slot's queue
 module _ (ends : ℕ → Chain ℕ) (kept now : KeptRequests) (queue : Chain ℕ) (slot t : ℕ) (mode : Mode) (answer : Outcome) (at : queue ≡ ends slot) (same : kept ≡ now) where
   told_at : answer ≡ outcome (queue_along kept queue) t mode → answer ≡ outcome (queue_at (queues_of ends now) slot) t mode
   told_at told = told ∙ ap (λ (q : Chain ℕ). outcome (queue_along kept q) t mode) at ∙ ap (λ (k : KeptRequests). outcome (queue_at (queues_of ends k) slot) t mode) same

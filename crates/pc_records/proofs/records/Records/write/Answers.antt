@@ -34,7 +34,7 @@ put_granted-requires-clause-there c =
     ap (λ (f : Floor). has_spot f.spots c.in-Some.id) (c.in_ok-outcome-in-Some.ensures.asked ∙ ap (with_spot (asked c.args.transaction Exclusive c.in_ok-outcome-in-Some.outcome) c.in-Some.id) c.room.ensures.same)
     ∙ has_same (asked c.args.transaction Exclusive c.in_ok-outcome-in-Some.outcome) (λ s. refl) c.in-Some.id c.in-Some.id c.self.inside.slots.spots ∙ c.in-Some.ensures.there
 
--- the request was answered by what stood there before the box was taken out
+-- the request was answered by the content there before the box was taken out
 told : (c : After-put_granted) → c.in_ok-outcome-in-Some.outcome ≡ outcome (queue_of c.self.inside.slots.spots c.in-Some.id) c.args.transaction Exclusive
 told c =
     c.in_ok-outcome-in-Some.ensures.told ∙ ap (λ (f : Floor). outcome (queue_of f.spots c.in-Some.id) c.args.transaction Exclusive) c.room.ensures.same

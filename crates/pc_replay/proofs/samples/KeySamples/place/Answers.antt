@@ -2,7 +2,7 @@ use Rattle.std.proofs.Common.{length, ltb-true, sym}
 use Rattle.pc_model.proofs.SearchLaws.{hit_by}
 use Rattle.pc_replay.proofs.samples.KeySamples.place.Goals as goal
 
--- the guess is right where the key is there
+-- the guess is correct if the key is there
 pub returns-in-Some-clause-at : goal.returns-in-Some-clause-at
 returns-in-Some-clause-at c =
     let there = c.in-Some.ensures.lookup in

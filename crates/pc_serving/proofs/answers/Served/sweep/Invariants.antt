@@ -4,7 +4,7 @@ use Rattle.pc_sessions.specs.SessionSets.{has_session}
 use Rattle.pc_serving.specs.Sweeps.{swept_to, waits_now}
 use Rattle.pc_serving.proofs.answers.Served.sweep.Given as goal
 
--- so many sessions were looked at
+-- that many sessions were looked at
 abbrev pub invariant-loop-place : goal.invariant-loop-place
 invariant-loop-place g l = record {
   world : l.self.world ≡ l.fn.self.world;
