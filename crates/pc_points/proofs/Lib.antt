@@ -1,0 +1,2 @@
+mod EntrySteps
+mod PointSteps

@@ -1,0 +1,8 @@
+//! The states of points: the database after what was committed before a point's token, from a base, part files and a log.
+#![tactic(auto)]
+
+mod parts;
+mod replaying;
+mod states;
+
+pub use states::point_state;
