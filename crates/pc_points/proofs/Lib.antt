@@ -1,2 +1,3 @@
 mod EntrySteps
+mod FolderFiles
 mod PointSteps
