@@ -1,3 +1,4 @@
 mod EntrySteps
 mod FolderFiles
 mod PointSteps
+mod WholeLogs

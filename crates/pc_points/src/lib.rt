@@ -2,9 +2,11 @@
 #![tactic(auto)]
 
 mod folders;
+mod laws;
 mod parts;
 mod replaying;
 mod states;
 
 pub use folders::read_point;
+pub use laws::logs_give_states;
 pub use states::point_state;
