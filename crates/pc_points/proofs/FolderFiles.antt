@@ -10,18 +10,18 @@ use Rattle.pc_texts.specs.Files.{IsUnread, HoldsBytes, AreOpened}
 use Rattle.pc_restore.specs.declared.recovery.Lost.{Lost}
 use Rattle.pc_restore.specs.declared.recovery.Lost.TheVariants.{Part}
 use Rattle.pc_restore.specs.Recoveries.{HoldEach, IsEachLost}
-use Rattle.pc_points.specs.Folders.{bytes_of}
+use Rattle.pc_points.specs.Folders.{bytes_of_each}
 
 -- what all files hold is what was read and what the files left hold
 abbrev pub HoldTheRest : {R : Type 0} → (R → Option (List ℕ)) → List (NamedFile R) → List (NamedFile R) → List (Vec ℕ) → Type 0
 HoldTheRest remaining files left read =
-    (names parts : List (List ℕ)) → HoldEach remaining files names parts → (ns : List (List ℕ)) × (ps : List (List ℕ)) × HoldEach remaining left ns ps × (parts ≡ bytes_of read ++ ps)
+    (names parts : List (List ℕ)) → HoldEach remaining files names parts → (ns : List (List ℕ)) × (ps : List (List ℕ)) × HoldEach remaining left ns ps × (parts ≡ bytes_of_each read ++ ps)
 
 -- the files left are the last ones, and those before them were opened
 abbrev pub AreLeft : {R : Type 0} → List (NamedFile R) → List (NamedFile R) → Type 0
 AreLeft {R} files left = (done : List (NamedFile R)) × (files ≡ done ++ left) × AreOpened done
 
-pushed : (read : List (Vec ℕ)) (part : Vec ℕ) (more : List (List ℕ)) → bytes_of (read ++ part ∷ []) ++ more ≡ bytes_of read ++ part.items ∷ more
+pushed : (read : List (Vec ℕ)) (part : Vec ℕ) (more : List (List ℕ)) → bytes_of_each (read ++ part ∷ []) ++ more ≡ bytes_of_each read ++ part.items ∷ more
 pushed [] part more = refl
 pushed (x ∷ xs) part more = ap (λ ys. x.items ∷ ys) (pushed xs part more)
 
@@ -37,18 +37,18 @@ module _ {R : Type 0} (remaining : R → Option (List ℕ)) (files : List (Named
       let so_far = rest names parts hold in
       by so_far.0 so_far.1 so_far.2 so_far.3
     where
-      by : (ns ps : List (List ℕ)) → HoldEach remaining (file ∷ left) ns ps → parts ≡ bytes_of read ++ ps
-          → (ns' : List (List ℕ)) × (ps' : List (List ℕ)) × HoldEach remaining left ns' ps' × (parts ≡ bytes_of (read ++ part ∷ []) ++ ps')
+      by : (ns ps : List (List ℕ)) → HoldEach remaining (file ∷ left) ns ps → parts ≡ bytes_of_each read ++ ps
+          → (ns' : List (List ℕ)) × (ps' : List (List ℕ)) × HoldEach remaining left ns' ps' × (parts ≡ bytes_of_each (read ++ part ∷ []) ++ ps')
       by [] ps none parts_are = absurd none
       by (n ∷ ns) [] none parts_are = absurd none
-      by (n ∷ ns) (p ∷ ps) each parts_are = (ns, ps, each.2, parts_are ∙ ap (λ x. bytes_of read ++ x ∷ ps) (sym (is p each.1)) ∙ sym (pushed read part ps))
+      by (n ∷ ns) (p ∷ ps) each parts_are = (ns, ps, each.2, parts_are ∙ ap (λ x. bytes_of_each read ++ x ∷ ps) (sym (is p each.1)) ∙ sym (pushed read part ps))
 
   -- once none is left all is read
-  pub all_read : (read : List (Vec ℕ)) → HoldTheRest remaining files [] read → (names parts : List (List ℕ)) → HoldEach remaining files names parts → bytes_of read ≡ parts
+  pub all_read : (read : List (Vec ℕ)) → HoldTheRest remaining files [] read → (names parts : List (List ℕ)) → HoldEach remaining files names parts → bytes_of_each read ≡ parts
   all_read read rest names parts hold = let so_far = rest names parts hold in by so_far.0 so_far.1 so_far.2 so_far.3
     where
-      by : (ns ps : List (List ℕ)) → HoldEach remaining [] ns ps → parts ≡ bytes_of read ++ ps → bytes_of read ≡ parts
-      by [] [] none parts_are = sym (parts_are ∙ append-nil (bytes_of read))
+      by : (ns ps : List (List ℕ)) → HoldEach remaining [] ns ps → parts ≡ bytes_of_each read ++ ps → bytes_of_each read ≡ parts
+      by [] [] none parts_are = sym (parts_are ∙ append-nil (bytes_of_each read))
       by [] (p ∷ ps) none parts_are = absurd none
       by (n ∷ ns) ps none parts_are = absurd none
 

@@ -11,8 +11,8 @@ use Rattle.pc_texts.specs.Files.{IsUnread}
 use Rattle.pc_points.specs.Points.{found_database, point_state}
 
 -- the bytes of each, in their order
-abbrev pub bytes_of : List (Vec ℕ) → List (List ℕ)
-bytes_of parts = map (λ (part : Vec ℕ). part.items) parts
+abbrev pub bytes_of_each : List (Vec ℕ) → List (List ℕ)
+bytes_of_each parts = map (λ (part : Vec ℕ). part.items) parts
 
 -- the pairs, if any, are the state of n that the folder's files have; said for known bytes of the files
 abbrev pub HasState : {R : Type 0} → (R → Option (List ℕ)) → Folder R → ℕ → Option (Vec (List ℕ × List ℕ)) → Type 0

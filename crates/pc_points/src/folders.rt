@@ -6,7 +6,7 @@ ghost use Rattle.pc_restore.specs.declared.recovery.Lost.{Lost};
 ghost use Rattle.pc_restore.specs.Recoveries.{AreAllOpened, ArePartsOpened, HoldEach, HoldParts, HoldsAll, HoldsLog, IsEachLost, IsListLost, IsLogFault, IsLogOpened};
 ghost use Rattle.pc_texts.specs.Files.{AreOpened, HoldsBytes, IsUnread};
 ghost use Rattle.pc_texts.specs.declared.files.Unread.{Unread};
-ghost use Rattle.pc_points.specs.Folders.{HasState, IsFolderUnread, IsPointLost, bytes_of};
+ghost use Rattle.pc_points.specs.Folders.{HasState, IsFolderUnread, IsPointLost, bytes_of_each};
 ghost use Rattle.pc_points.specs.Points.{found_database, point_state};
 
 use crate::states::point_state;
@@ -52,7 +52,7 @@ fn state_of(
     files: &FolderBytes,
     point: Point,
 ) -> Result<Option<Vec<(Key, Value)>>, Refusal>
-    ensures rules { Gives found_database result (point_state point files.now.base.items (bytes_of files.now.parts.items) files.now.log.items) }
+    ensures rules { Gives found_database result (point_state point files.now.base.items (bytes_of_each files.now.parts.items) files.now.log.items) }
     ensures rise { IfOk result (λ found. IfSome found (λ pairs. KeysRise pairs.items)) }
 {
     let parts = slices_of(alloc, &files.parts)?;
@@ -61,7 +61,7 @@ fn state_of(
 
 // The bytes of the parts, in their order.
 fn slices_of<'a>(alloc: Global, parts: &'a [Vec<u8>]) -> Result<Vec<&'a [u8]>, AllocError>
-    ensures { IfOk result (λ slices. map (λ slice. slice.now) slices.items ≡ bytes_of parts.now) }
+    ensures { IfOk result (λ slices. map (λ slice. slice.now) slices.items ≡ bytes_of_each parts.now) }
 {
     let mut slices = Vec::new(alloc);
     for part in parts {
@@ -73,7 +73,7 @@ fn slices_of<'a>(alloc: Global, parts: &'a [Vec<u8>]) -> Result<Vec<&'a [u8]>, A
 // The base first, then the parts, and the log last.
 fn read_folder<R: Read + Drop>(alloc: Global, folder: Folder<R>) -> Result<FolderBytes, Lost<R>>
     ensures held { (base : List ℕ) (names parts : List (List ℕ)) (log : List ℕ) → HoldsAll R.remaining folder base names parts log → IfOk result (λ files.
-        (files.base.items ≡ base) × (bytes_of files.parts.items ≡ parts) × (files.log.items ≡ log)) }
+        (files.base.items ≡ base) × (bytes_of_each files.parts.items ≡ parts) × (files.log.items ≡ log)) }
     ensures opened { OnOk result (AreAllOpened folder) }
     ensures cause { IfErr result (IsFolderUnread folder) }
 {
@@ -106,7 +106,7 @@ fn read_listed<R: Read + Drop>(
     alloc: Global,
     listed: Result<Vec<NamedFile<R>>, Refusal>,
 ) -> Result<Vec<Vec<u8>>, Lost<R>>
-    ensures held { (names parts : List (List ℕ)) → HoldParts R.remaining listed names parts → IfOk result (λ read. bytes_of read.items ≡ parts) }
+    ensures held { (names parts : List (List ℕ)) → HoldParts R.remaining listed names parts → IfOk result (λ read. bytes_of_each read.items ≡ parts) }
     ensures opened { OnOk result (ArePartsOpened listed) }
     ensures cause { IfErr result (IsListLost listed) }
 {
@@ -120,7 +120,7 @@ fn read_parts<R: Read + Drop>(
     alloc: Global,
     files: Vec<NamedFile<R>>,
 ) -> Result<Vec<Vec<u8>>, Lost<R>>
-    ensures held { (names parts : List (List ℕ)) → HoldEach R.remaining files.items names parts → IfOk result (λ read. bytes_of read.items ≡ parts) }
+    ensures held { (names parts : List (List ℕ)) → HoldEach R.remaining files.items names parts → IfOk result (λ read. bytes_of_each read.items ≡ parts) }
     ensures opened { OnOk result (AreOpened files.items) }
     ensures cause { IfErr result (IsEachLost files.items) }
 {
