@@ -55,7 +55,7 @@ def dump_cases(folder):
     os.remove(os.path.join(folder, "logged", "log.pcl"))
     yield Case("a dump without its log", ("dump", "logged"), 1, err=b"pcalc: logged: Damaged\n")
     yield Case("a dump without its log that is wanted", ("dump", "logged", "--damaged"), 0, b"a 1\nb 2\n")
-    yield Case("dump --help", ("dump", "--help"), 0, parts=[b"<DIR>", b"--space <N>", b"--prefix <WORD>", b"--json", b"--damaged"])
+    yield Case("dump --help", ("dump", "--help"), 0, parts=[b"<DIR>", b"--space <N>", b"--prefix <WORD>", b"--json", b"--point <N>", b"--damaged"])
 
 
 def hostile_cases(folder):
@@ -76,6 +76,122 @@ def hostile_cases(folder):
         told = [b"pcalc: hostile: Damaged\n"] if is_damaged else b""
         yield Case(f"a dump of a hostile folder, {number}", ("dump", "hostile"), 1 if is_damaged else 0, b"" if is_damaged else lines_of(found.pairs), told)
         yield Case(f"the same where damage is accepted, {number}", ("dump", "hostile", "--damaged"), 0, lines_of(found.pairs), [])
+
+
+def pointed_run(points):
+    """The base of a run at point 0, its parts by point, and its log: there are commits before each token, and behind the last."""
+    base = plain_files.Base(1, 0, {**keyed({b"a": b"0", b"b": b"0", b"gone": b"0"}), (7, b"a"): b"0"})
+    log, state, before, parts = plain_files.Log(1), dict(base.pairs), dict(base.pairs), {}
+
+    def committed(word_of):
+        entry = ("commit", 1, [*keyed({b"a": word_of, b"k" + word_of: word_of, b"gone": None}).items(), ((7, b"n"), len(log.entries))])
+        log.entries.append(entry)
+        for key, change in entry[2]:
+            plain_files.apply(state, key, change)
+
+    for point in range(1, points + 1):
+        for phase in ("prepare", "resolve", "capture", "complete", "rest"):
+            committed(b"%d%s" % (point, phase[:2].encode()))
+            if phase == "resolve":
+                touched = {key for key in {*state, *before} if state.get(key) != before.get(key)}
+                parts[point] = plain_files.Part(1, [(point, point)], {key: (point, state.get(key)) for key in touched})
+                before = dict(state)
+            log.entries.append(("token", phase, point))
+    committed(b"end")
+    return base, parts, log
+
+
+def point_state(point, base_text, parts, log_text):
+    """The pairs of the point's state, or None where the parts (names with texts) and the log don't reach it."""
+    base = plain_files.read_base(base_text)
+    kept = [(name, text) for name, text in parts if not is_above(point, text)]
+    found = plain_files.recover(base_text, kept, b"")
+    if found.point == point:
+        return found.pairs
+    log = plain_files.Log(base.run) if len(log_text) < 20 else plain_files.read_log(log_text)
+    if log.run != base.run:
+        raise plain_files.Refused("OtherRun")
+    token = ("token", "resolve", point)
+    start = log.entries.index(("token", "resolve", found.point)) + 1 if found.point and ("token", "resolve", found.point) in log.entries else 0
+    if (found.point and not start) or token not in log.entries[start:]:
+        return None
+    for entry in log.entries[start : log.entries.index(token, start)]:
+        for key, change in entry[2] if entry[0] == "commit" else ():
+            plain_files.apply(found.pairs, key, change)
+    return found.pairs
+
+
+def is_above(point, text):
+    try:
+        return plain_files.read_part(text).greatest() > point
+    except plain_files.Refused:
+        return False
+
+
+def pointed_folders():
+    """By name the texts of a base, of parts by name, and of a log, or None."""
+    base, parts, log = pointed_run(4)
+    texts = [(b"%d.pcp" % point, parts[point].text()) for point in sorted(parts)]
+    two_three = (b"2-3.pcp", plain_files.join(parts[2], parts[3]).text())
+    one_three = (b"1,3.pcp", plain_files.join(parts[1], parts[3]).text())
+    collapsed = plain_files.lay(base, plain_files.join(parts[1], parts[2]))
+    damaged = (b"2.pcp", parts[2].text()[:-9])
+    foreign = (b"3.pcp", plain_files.Part(2, [(3, 3)], {}).text())
+    other_log = plain_files.Log(2).text()
+    whole, bare = log.text(), base.text()
+    yield "both", (bare, texts, whole)
+    yield "first format", (plain_files.Base(1, 0, keyed({b"a": b"0"})).text(plain_files.FIRST), [], whole)
+    yield "parts alone", (bare, texts, None)
+    yield "log alone", (bare, [], whole)
+    yield "a part of two points", (bare, [texts[0], two_three, texts[3]], whole)
+    yield "the same alone", (bare, [texts[0], two_three, texts[3]], None)
+    yield "a part of points apart", (bare, [one_three, texts[1]], whole)
+    yield "the same alone, apart", (bare, [one_three, texts[1]], None)
+    yield "a base of point 2", (collapsed.text(), texts[2:], whole)
+    yield "a base of point 2, without its log", (collapsed.text(), texts, None)
+    yield "a damaged part", (bare, [texts[0], damaged, texts[2]], whole)
+    yield "a damaged part alone", (bare, [texts[0], damaged, texts[2]], None)
+    yield "a foreign part", (bare, [*texts[:2], foreign], whole)
+    yield "a log of another run", (bare, texts[:2], other_log)
+    yield "a log of no kind", (bare, texts[:2], b"PCALCL99" + whole[8:])
+    yield "a log that isn't at its start", (bare, texts[:1], whole[:20])
+    for size in range(0, len(whole), 41):
+        yield f"a log of {size} bytes", (bare, texts[:1], whole[:size])
+    yield "parts in conflict", (bare, [*texts[:2], (b"2b.pcp", plain_files.Part(1, [(2, 2)], {key: (2, b"other") for key in parts[2].entries}).text())], whole)
+
+
+def point_cases(folder):
+    """The states of points of folders."""
+    for number, (name, (base, parts, log)) in enumerate(pointed_folders()):
+        dir_name = f"pointed{number}"
+        for file, text in [(b"base.pcb", base), *parts, *([(b"log.pcl", log)] if log is not None else [])]:
+            written(folder, os.path.join(dir_name, file.decode()), text)
+        for point in (1, 2, 3, 4, 5, 65_535):
+            words = ("dump", dir_name, "--point", str(point))
+            try:
+                pairs = point_state(point, base, parts, log or b"")
+            except plain_files.Refused as fault:
+                yield Case(f"point {point} of {name}", words, 1, err=b"pcalc: %s: %s\n" % (dir_name.encode(), fault.name.encode()))
+                continue
+            if pairs is None:
+                yield Case(f"point {point} of {name}", words, 1, err=b"pcalc: %s: NoPoint\n" % dir_name.encode())
+                continue
+            yield Case(f"point {point} of {name}", words, 0, lines_of(pairs))
+    base, parts, log = pointed_run(4)
+    pairs = point_state(2, base.text(), [], log.text())
+    words = ("dump", "pointed0", "--point=2")
+    yield Case("a point in a space", (*words, "--space", "7"), 0, lines_of({key: pairs[key] for key in pairs if key[0] == 7}))
+    yield Case("a point of a prefix", (*words, "--prefix", "k1"), 0, lines_of({key: pairs[key] for key in pairs if key[1].startswith(b"k1")}))
+    yield Case("a point in JSON", (*words, "--json"), 0, json_cases.json_lines(pairs))
+    yield Case("a point to a full output", words, 1, output=FULL)
+    yield Case("a point of no folder", ("dump", "nowhere", "--point", "1"), 1, err=b"pcalc: base.pcb: NoFile\n")
+    yield Case("point 0", ("dump", "pointed0", "--point", "0"), 2, err=[b"error: invalid value '0' for '--point <N>': 0 is not in 1..=65535\n"])
+    yield Case("a point of a damaged folder", (*words, "--damaged"), 2, err=[b"cannot be used with"])
+    served = os.path.join("pointed_served", "gen-0000001")
+    for file, text in (("base.pcb", base.text()), ("1.pcp", parts[1].text()), ("log.pcl", log.text())):
+        written(folder, os.path.join(served, file), text)
+    yield Case("a point of a served folder", ("dump", "pointed_served", "--point", "2"), 0, lines_of(pairs), [])
+    yield Case("a point that a served folder lacks", ("dump", "pointed_served", "--point", "9"), 1, err=[b"pcalc: pointed_served/gen-0000001: NoPoint\n"])
 
 
 def foreign_cases(folder):
@@ -183,6 +299,7 @@ def load_cases(folder):
 def cases(folder):
     """Each case, whose files are written into the folder right before it."""
     yield from dump_cases(folder)
+    yield from point_cases(folder)
     yield from load_cases(folder)
     yield from json_cases.cases(folder, odd_pairs())
     yield from hostile_cases(folder)

@@ -1,4 +1,5 @@
 mod DumpLaws
 mod LoadLaws
+mod PointDumpLaws
 mod PrintedLines
 mod PrintedWords

@@ -1,2 +1,3 @@
 pub mod Dumps
 pub mod Loads
+pub mod PointDumps

@@ -3,11 +3,14 @@ ghost use Rattle.std.specs.Prelude.{◌≡◌, filter};
 ghost use Rattle.pc_pairs.specs.Dumps.{chosen, is_chosen, is_in_space};
 
 use crate::form::Form;
-use pc_types::{Key, Value};
+use pc_types::{Key, Point, Value};
 
-/// Which pairs are written, and how: those whose key is of this space, where one is given, and has own bytes that begin with these.
+/// Which pairs are written, and how: those of this point's state, if one is given, and otherwise all that is recovered; of them those
+/// whose key is of this space, if one is given, and has own bytes that begin with these.
 #[derive(Clone, Copy, Debug)]
 pub struct Choice<'a> {
+    /// The point; `None` chooses all that is recovered.
+    pub point: Option<Point>,
     /// The space; `None` chooses the keys of all spaces.
     pub space: Option<u16>,
     /// The bytes with which a key's own bytes begin. No bytes choose all.

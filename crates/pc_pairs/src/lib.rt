@@ -10,7 +10,7 @@ mod loading;
 mod reading;
 
 pub use choice::Choice;
-pub use dumping::run_dump;
+pub use dumping::{Undumped, run_dump};
 pub use form::Form;
 pub use loading::{Unloaded, load_base};
 pub use reading::Fault;

@@ -3,11 +3,11 @@ use pc_disk::{Causes, FoundFolder, ReadFolder, open_folder, output_before, tell_
 use pc_explanations::{About, Explained, Explainer, explain_output, is_explained};
 use pc_lines::text_of;
 use pc_options::DumpOptions;
-use pc_pairs::{Choice, Form, run_dump};
-use pc_restore::tell_lost;
+use pc_pairs::{Choice, Form, Undumped, run_dump};
+use pc_restore::{tell_lost, tell_reason};
 use pc_serve::RecoveredFolder;
 use pc_texts::report_words;
-use pc_types::Tally;
+use pc_types::{Point, Tally};
 use std::borrow::CowSlice;
 use std::io;
 use std::io::Write;
@@ -71,6 +71,7 @@ fn dump<E: Write>(
     let mut out = Tally::new(output_before(rt, causes, io::writer(rt))?);
     let dir = ReadFolder { rt, path, causes };
     let choice = Choice {
+        point: options.point.map(|point| Point(point)),
         space: options.space,
         prefix: prefix.as_slice(),
         form: form_of(options.is_json),
@@ -95,9 +96,19 @@ fn dump_to<W: Write, E: Write>(
     let alloc = dir.rt.alloc();
     match run_dump(alloc, folder, choice, accepts_damage, out, errors) {
         None => Ok(0),
-        Some(lost) => {
-            tell_lost(dir.path.as_bytes(), &lost, errors);
+        Some(undumped) => {
+            tell_undumped(dir.path.as_bytes(), &undumped, errors);
             Ok(FAILED)
+        }
+    }
+}
+
+// Writes the line that says why not all lines of the folder of this name were written.
+fn tell_undumped<R, E: Write>(dir: &[u8], undumped: &Undumped<R>, errors: &mut Tally<E>) {
+    match undumped {
+        Undumped::Lost(lost) => tell_lost(dir, lost, errors),
+        Undumped::NoPoint => {
+            let _ = tell_reason(dir, b"NoPoint", errors);
         }
     }
 }

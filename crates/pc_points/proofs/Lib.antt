@@ -1,0 +1,4 @@
+mod EntrySteps
+mod FolderFiles
+mod PointSteps
+mod WholeLogs
