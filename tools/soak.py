@@ -5,7 +5,7 @@
 
     scripts      lines of each kind, with points, joins, states and texts, beside plain_store.py
     recoveries   a base, parts and a log, with bytes changed, cut off, put in, and files left out, beside plain_files.py; and a dump of the same, which is
-                 loaded and dumped again
+                 loaded and dumped again, and once more as JSON
     collapses    parts that overlap, are damaged, of other runs or differ, beside plain_files.py
     serves       lines asked of a store that is served, and killed, beside plain_serving.py and what each line leaves
     runs         workloads on threads, each into a folder; what the log has of each client; and the folder recovered with its log cut anywhere and without
@@ -193,7 +193,7 @@ def damage(chance):
 
 
 def dumped_twice(folder, place, recovered):
-    """What differs in a dump of a folder, by what is recovered of it, and in a dump of what is loaded of that."""
+    """What differs in a dump of a folder, by what is recovered of it, and in dumps of what is loaded of that, as words and then as JSON."""
     status, text, _ = recovered
     lines = text[text.index(b"\n", text.index(b"pairs ")) + 1 :] if status == 0 else b""
     told = ran(folder, "dump", place, "--damaged")
@@ -201,11 +201,16 @@ def dumped_twice(folder, place, recovered):
         return [f"recovered {recovered}", f"dumped {told}"]
     if status:
         return []
-    again = tempfile.mkdtemp(dir=folder)
-    written(folder, "lines", lines)
-    loaded = ran(folder, "load", again, "lines")
-    told = ran(folder, "dump", again)
-    return [] if (loaded, told) == ((0, b"", b""), (0, lines, b"")) else [f"dumped {lines}", f"loaded {loaded}", f"dumped again {told}"]
+    for text, options in ((lines, ()), (None, ("--json",))):
+        if text is None:
+            _, text, _ = ran(folder, "dump", again, *options)
+        again = tempfile.mkdtemp(dir=folder)
+        written(folder, "lines", text)
+        loaded = ran(folder, "load", again, "lines", *options)
+        told = ran(folder, "dump", again)
+        if (loaded, told) != ((0, b"", b""), (0, lines, b"")):
+            return [f"dumped {text}", f"loaded {loaded}", f"dumped again {told}"]
+    return []
 
 
 class Recoveries:

@@ -9,6 +9,7 @@ from unittest import mock
 
 from support import InFolder
 
+import json_cases
 import pair_cases
 import plain_files
 import plain_serving
@@ -40,12 +41,13 @@ def recover(place):
 def dump(place, *options):
     """A damaged folder is never refused here: the cases accept damage."""
     status, out, err = recover(place)
-    return status, out[out.index(b"\n", out.index(b"pairs ")) + 1 :] if status == 0 else b"", err
+    lines = out[out.index(b"\n", out.index(b"pairs ")) + 1 :] if status == 0 else b""
+    return status, json_cases.json_lines(pair_cases.loaded(lines)[0]) if "--json" in options else lines, err
 
 
-def load(place, name):
+def load(place, name, *options):
     with open(name, "rb") as it:
-        pairs, _ = pair_cases.loaded(it.read())
+        pairs, _ = (json_cases if options else pair_cases).loaded(it.read())
     for file, text in (("base.pcb", plain_files.Base(1, 0, pairs).text()), ("log.pcl", plain_files.Log(1).text())):
         with open(os.path.join(place, file), "wb") as it:
             it.write(text)
