@@ -276,7 +276,7 @@ def left_at(path):
 
 
 class Collapses:
-    """Pieces are the texts of the inputs; the setting is a number of threads, which changes nothing."""
+    """Pieces are the texts of the inputs; there is no setting."""
 
     name = "collapses"
 
@@ -294,49 +294,49 @@ class Collapses:
                 part.entries[key] = (part.entries[key][0], b"another")
             text = drawn_text(chance, part, part.entries)
             texts.append(damaged(text, damage(chance)) if chance.random() < 0.05 else text)
-        return chance.randint(1, 5), texts
+        return None, texts
 
     def wanted(self, texts):
-        """What may be told: a part, or the name of a refusal, with whether a file was made, which then is Short."""
+        """What may be told: a part, or the name of a refusal."""
         read = [plain_files.read_as_far(text) for text in texts]
         for part, fault in read:
             if part is None:
-                return [(fault.name, False)]
+                return [fault.name]
         parts, faults = [part for part, _ in read], [fault for _, fault in read if fault]
         if len({part.run for part in parts}) > 1:
-            return [("OtherRun", False)]
+            return ["OtherRun"]
         is_plain, is_any = clashes(parts)
-        allowed = [(fault.name, True) for fault in faults] + [("Conflict", True)] * is_any
+        allowed = [fault.name for fault in faults] + ["Conflict"] * is_any
         if not is_plain and not faults:
             latest = collections.ChainMap(*[{(entry[0], key): entry for key, entry in part.entries.items()} for part in parts])
             entries = {key: latest[place, key] for place, key in sorted(latest)}
-            allowed.append((plain_files.Part(parts[0].run, plain_files.ranges_of(set().union(*map(plain_files.points_of, parts))), entries), True))
+            allowed.append(plain_files.Part(parts[0].run, plain_files.ranges_of(set().union(*map(plain_files.points_of, parts))), entries))
         return allowed
 
-    def differences(self, folder, threads, texts):
+    def differences(self, folder, _, texts):
         if not texts:
             return []
         place = tempfile.mkdtemp(dir=folder)
         names = [written(place, f"{number}.pcp", text) for number, text in enumerate(texts)]
         out = os.path.join(place, "out.pcp")
-        told = ran(folder, "collapse", f"--collapsers={threads}", out, *names)
+        told = ran(folder, "collapse", out, *names)
         wanted = self.wanted(texts)
-        for right, is_made in wanted:
+        for right in wanted:
             if isinstance(right, str):
-                is_right = told == (1, b"", b"pcalc: %s: %s\n" % (out.encode(), right.encode())) and left_at(out) == ("Short" if is_made else None)
+                is_right = told == (1, b"", b"pcalc: %s: %s\n" % (out.encode(), right.encode())) and left_at(out) is None
             else:
                 line = b"points %s entries %d\n" % (plain_store.points_text(plain_files.points_of(right)), len(right.entries))
                 with open(out if os.path.exists(out) else os.devnull, "rb") as it:
                     is_right = told == (0, line, b"") and it.read() == right.text()
             if is_right:
                 return []
-        return [f"told {told}, left {left_at(out)}, where it may be {[it if isinstance(it, str) else it.text().hex() for it, _ in wanted]}"]
+        return [f"told {told}, left {left_at(out)}, where it may be {[it if isinstance(it, str) else it.text().hex() for it in wanted]}"]
 
     def tried(self, texts):
         return {"inputs": len(texts)}
 
-    def shown(self, threads, texts):
-        return [f"{threads} threads", *[text.hex() for text in texts]]
+    def shown(self, _, texts):
+        return [text.hex() for text in texts]
 
 
 def replayed(base, entries):

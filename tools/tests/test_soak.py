@@ -54,7 +54,7 @@ def load(place, name, *options):
     return 0, b"", b""
 
 
-def collapse(option, out, *names):
+def collapse(out, *names):
     read = []
     for name in names:
         with open(name, "rb") as it:
@@ -65,11 +65,11 @@ def collapse(option, out, *names):
                 raise fault
         if len({part.run for part, _ in read}) > 1:
             raise plain_files.Refused("OtherRun")
+        for _, fault in read:
+            if fault:
+                raise fault
+        joined = plain_files.all_joined([part for part, _ in read])
         with open(out, "wb") as it:
-            for _, fault in read:
-                if fault:
-                    raise fault
-            joined = plain_files.all_joined([part for part, _ in read])
             it.write(joined.text())
     except plain_files.Refused as fault:
         return 1, b"", b"pcalc: %s: %s\n" % (out.encode(), fault.name.encode())
@@ -250,9 +250,9 @@ class Soaks(InFolder):
             self.assertIn("recoveries", self.found(soak.Recoveries())[0])
 
     def test_a_collapse_that_drops_tombstones(self):
-        def wrong(option, out, *names):
+        def wrong(out, *names):
             with mock.patch.object(plain_files, "join", lambda first, second: without_tombstones(first, second)):
-                return collapse(option, out, *names)
+                return collapse(out, *names)
 
         join = plain_files.join
 
@@ -263,7 +263,7 @@ class Soaks(InFolder):
 
         with mock.patch.dict(COMMANDS, collapse=wrong):
             lines = self.found(soak.Collapses())
-        self.assertEqual((lines[0].split(" ")[0], len(lines)), ("collapses", 5), "two inputs are enough")
+        self.assertEqual((lines[0].split(" ")[0], len(lines)), ("collapses", 4), "two inputs are enough")
 
     def test_a_run_whose_log_leaves_out_an_empty_commit(self):
         self.without_points()
