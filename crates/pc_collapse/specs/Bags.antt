@@ -9,7 +9,7 @@ use Rattle.crossbeam_queue.specs.Passes.{view, IsPassOf}
 use Rattle.crossbeam_queue.specs.declared.array_queue.Doing.{Doing}
 use Rattle.crossbeam_queue.specs.declared.array_queue.Slotted.{Slotted}
 use Rattle.pc_collapse.specs.Worth.{AreWorth, IsCauseFor}
-use Rattle.pc_collapse.specs.declared.limits.TheConstants.{MOST_COLLAPSERS}
+use Rattle.pc_types.specs.declared.limits.TheConstants.{MOST_COLLAPSERS}
 use Rattle.pc_collapse.specs.declared.bag.BagCollapser.{BagCollapser}
 use Rattle.pc_collapse.specs.declared.rule.Hand.{Hand}
 

@@ -6,11 +6,10 @@ ghost use Rattle.pc_merge.specs.Folds.{Folds};
 ghost use Rattle.pc_collapse.specs.Worth.{AreWorth, IsCauseFor, JoinsToOne};
 
 use crate::folding::{check_runs, fold_pieces, join_pieces, pieces_of};
-use crate::limits::MOST_COLLAPSERS;
 use crate::piece::{Given, Piece};
 use crate::rule::{Bag, BagPass, Drains, PutsBack, PutsFile, Shares, TakesFile};
 use pc_part::Part;
-use pc_types::{Gate, GatePlace, Refusal};
+use pc_types::{Gate, GatePlace, MOST_COLLAPSERS, Refusal};
 use std::alloc::{AllocError, Global};
 use std::marker::Brand;
 use std::sync::Wait;

@@ -4,7 +4,6 @@
 mod bag;
 mod folding;
 mod laws;
-mod limits;
 mod merging;
 mod piece;
 mod rounds;
@@ -13,5 +12,4 @@ mod rule;
 pub use bag::{collapse_bag, collapse_bag_owned};
 pub use folding::{fold, fold_owned};
 pub use laws::{files_fold_well, folds_are_states};
-pub use limits::MOST_COLLAPSERS;
 pub use rounds::{collapse_rounds, collapse_rounds_owned};

@@ -6,10 +6,9 @@ ghost use Rattle.pc_collapse.specs.Rounds.{AllBecome, Become, EachBecomes, dealt
 ghost use Rattle.pc_collapse.specs.Worth.{AreWorth, JoinsToOne};
 
 use crate::folding::{check_runs, fold_pieces, join_pieces, pieces_of};
-use crate::limits::MOST_COLLAPSERS;
 use crate::piece::{Given, Piece};
 use pc_part::Part;
-use pc_types::{Gate, GatePlace, Refusal};
+use pc_types::{Gate, GatePlace, MOST_COLLAPSERS, Refusal};
 use std::alloc::{AllocError, Global};
 use std::marker::Brand;
 use std::sync::Wait;

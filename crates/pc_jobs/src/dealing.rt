@@ -6,9 +6,6 @@ use crate::works::Client;
 use pc_types::Items;
 use std::alloc::{AllocError, Global};
 
-/// The greatest number of workers to which the clients of a run are dealt.
-pub const MOST_WORKERS: u8 = 64;
-
 // The given number of workers without clients.
 fn idle_workers(alloc: Global, count: u8) -> Result<Vec<Items<Client>>, AllocError>
     ensures { IfOk result (λ workers. workers.items ≡ replicate count []) }

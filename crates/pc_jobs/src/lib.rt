@@ -8,7 +8,7 @@ mod prefixes;
 mod workloads;
 mod works;
 
-pub use dealing::{MOST_WORKERS, deal};
+pub use dealing::deal;
 pub use fills::FillJob;
 pub use phrases::{MOST_FILL, MOST_RUN_POINTS, Phrase};
 pub use prefixes::Prefix;

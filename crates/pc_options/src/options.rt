@@ -1,8 +1,6 @@
 //! The command line.
 ghost use Rattle.std.specs.Prelude.{◌≤◌};
-ghost use Rattle.pc_types.specs.declared.limits.TheConstants.{MOST_KEYS, MOST_SESSIONS};
-ghost use Rattle.pc_collapse.specs.declared.limits.TheConstants.{MOST_COLLAPSERS};
-ghost use Rattle.pc_jobs.specs.declared.dealing.TheConstants.{MOST_WORKERS};
+ghost use Rattle.pc_types.specs.declared.limits.TheConstants.{MOST_COLLAPSERS, MOST_KEYS, MOST_SESSIONS, MOST_WORKERS};
 
 use crate::looking::{
     LogOptions, VerifyOptions, log_command, log_options_of, verify_command, verify_options_of,
@@ -13,9 +11,7 @@ use crate::moving::{
 use crate::said::{Said, command_of};
 use clap::error::ErrorKind;
 use clap::{ArgMatches, Command, Error};
-use pc_collapse::MOST_COLLAPSERS;
-use pc_jobs::MOST_WORKERS;
-use pc_types::{MOST_KEYS, MOST_SESSIONS};
+use pc_types::{MOST_COLLAPSERS, MOST_KEYS, MOST_SESSIONS, MOST_WORKERS};
 use std::alloc::{AllocError, Global};
 
 /// The text that `pcalc --version` prints after the program's name.

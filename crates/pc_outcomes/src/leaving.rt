@@ -5,7 +5,7 @@ ghost use Rattle.pc_model.specs.Maps.{len};
 ghost use Rattle.pc_model.specs.History.{History};
 ghost use Rattle.pc_model.specs.LaidFiles.{laid_file};
 ghost use Rattle.pc_model.specs.Replies.{Setting};
-ghost use Rattle.pc_collapse.specs.declared.limits.TheConstants.{MOST_COLLAPSERS};
+ghost use Rattle.pc_types.specs.declared.limits.TheConstants.{MOST_COLLAPSERS};
 ghost use Rattle.pc_kept_log.specs.Logs.{entries_of};
 ghost use Rattle.pc_outcomes.specs.Leaving.{is_commit, commits_in, summary_if_any, summary_of, with_file, Folded, AreLeftAfter, IsStoreReport, IsLegacy, IsUnfolded, IsUnlaid, IsReportUntold, IsUntoldAfter};
 

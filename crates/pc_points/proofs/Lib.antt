@@ -1,4 +1,3 @@
 mod EntrySteps
-mod FolderFiles
 mod PointSteps
 mod WholeLogs

@@ -52,3 +52,17 @@ module _ (n : ℕ) (base : List ℕ) (parts : List (List ℕ)) (log : List ℕ) 
 pub same_parts : (base : List ℕ) (n : ℕ) (parts : List (List ℕ)) (lent kept : List (Bor (List ℕ))) (r : Result Recovery Refusal) → lent ≡ kept → map (λ part. part.now) kept ≡ parts_to n parts
     → recovery base (map (λ part. part.now) lent) [] ≡ r → recovery base (parts_to n parts) [] ≡ r
 same_parts base n parts lent kept r same is recovered = ap (λ ps. recovery base ps []) (sym (ap (λ (ps : List (Bor (List ℕ))). map (λ part. part.now) ps) same ∙ is)) ∙ recovered
+
+-- ---- what it is refused with
+
+rules_if : {X : Type 0} (test : Bool) (a b : Result X Refusal) → IsOfRules a → IsOfRules b → IsOfRules (cond test a b)
+rules_if true a b is or = is
+rules_if false a b is or = or
+
+rules_state : (n : ℕ) (base : List ℕ) (parts : List (List ℕ)) (log : List ℕ) → IsOfRules (point_state n base parts log)
+unfolding point_state
+rules_state n base parts log = rules_then _ _ (rules_base base) (λ first. rules_then _ _ (rules_recovery base (parts_to n parts) []) (λ found. rules_if _ _ _ tt (rules_then _ _ (rules_log_of first.run log) (λ read. tt))))
+
+-- the rules of recovery refuse with nothing else
+pub state_refused : (n : ℕ) (base : List ℕ) (parts : List (List ℕ)) (log : List ℕ) (why : Refusal) → point_state n base parts log ≡ Err why → IsRulesRefusal why
+state_refused n base parts log why is = of_rules (point_state n base parts log) why (rules_state n base parts log) is

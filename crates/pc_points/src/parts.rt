@@ -1,9 +1,9 @@
 //! The parts up to a point.
 ghost use Rattle.std.specs.Prelude.{◌≡◌, map, IfOk, IfErr};
-ghost use Rattle.pc_model.specs.LaidFiles.{greatest};
 ghost use Rattle.pc_points.specs.Points.{is_above, parts_to};
 
 use pc_part::Part;
+use pc_recover::greatest_point;
 use pc_types::{Point, Refusal};
 use std::alloc::Global;
 
@@ -35,15 +35,5 @@ fn is_above(alloc: Global, point: Point, bytes: &[u8]) -> Result<bool, Refusal>
         Ok(part) => Ok(point.0 < greatest_point(&part).0),
         Err(Refusal::OutOfMemory) => Err(Refusal::OutOfMemory),
         Err(_) => Ok(false),
-    }
-}
-
-// The greatest point of the part.
-fn greatest_point(part: &Part) -> Point
-    ensures { result ≡ greatest part.now.points }
-{
-    match part.ranges().last() {
-        Some(range) => range.high,
-        None => Point(0),
     }
 }

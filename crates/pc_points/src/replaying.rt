@@ -1,17 +1,17 @@
 //! What the log has up to a point's token, read and applied entry by entry.
-ghost use Rattle.std.specs.Prelude.{◌≡◌, ◌≢◌, ◌∷◌, [], false, IfOk, IfErr, MatchOption, Ok};
+ghost use Rattle.std.specs.Prelude.{◌≡◌, ◌≢◌, [], false, IfOk, IfErr, MatchOption, Ok};
 ghost use Rattle.pc_types.specs.Fields.{Gives};
-ghost use Rattle.pc_model.specs.Log.{after, behind};
+ghost use Rattle.pc_model.specs.Log.{behind};
 ghost use Rattle.pc_log.specs.Orders.{no_token};
 ghost use Rattle.pc_log.specs.Reading.{all_at};
 ghost use Rattle.pc_recover.specs.Recovery.{entries_after};
-ghost use Rattle.pc_recover.specs.Replaying.{is_point_token};
 ghost use Rattle.pc_points.specs.Points.{log_state, state_before};
 
 use pc_log::{LastToken, read_entry, read_header};
+use pc_recover::{is_token_of, with_entry};
 use pc_replay::Overlay;
-use pc_types::{Entry, Format, Phase, Point, Refusal};
-use std::alloc::{AllocError, Global};
+use pc_types::{Format, Point, Refusal};
+use std::alloc::Global;
 
 // A log's text begins with a header of this length.
 const HEADER: usize = 20;
@@ -152,24 +152,4 @@ fn is_for_memory(fault: Refusal) -> bool
     ensures { result ≡ false → fault ≢ Refusal.OutOfMemory }
 {
     fault == Refusal::OutOfMemory
-}
-
-// The database once the entry is applied, if it is a commit.
-fn with_entry(alloc: Global, database: Overlay, entry: Entry) -> Result<Overlay, AllocError>
-    ensures { IfOk result (λ after_it. after_it ≡ after database (entry ∷ [])) }
-{
-    match entry {
-        Entry::Commit(_, writes) => database.with_writes(alloc, writes),
-        Entry::Token(_, _) => Ok(database),
-    }
-}
-
-// Whether the entry is the token of the point.
-fn is_token_of(point: Point, entry: &Entry) -> bool
-    ensures { result ≡ is_point_token point entry.now }
-{
-    match entry {
-        Entry::Token(Phase::Resolve, n) => *n == point,
-        _ => false,
-    }
 }

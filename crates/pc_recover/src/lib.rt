@@ -12,5 +12,7 @@ mod state;
 mod unused;
 
 pub use laws::{every_cut_is_recovered, every_cut_of_a_run_is_recovered};
+pub use reach::greatest_point;
 pub use recovered::{Recovered, Skipped};
 pub use recovering::recover;
+pub use replaying::{is_token_of, with_entry};

@@ -135,7 +135,7 @@ fn lesser(other: Option<Point>, top: Point) -> Option<Point>
 }
 
 /// The greatest point of the part.
-pub(crate) fn greatest_point(part: &Part) -> Point
+pub fn greatest_point(part: &Part) -> Point
     ensures { result ≡ greatest part.now.points }
 {
     match part.ranges().last() {

@@ -119,8 +119,8 @@ fn replay_entry(
     Ok((database, is_token_of(point, &entry)))
 }
 
-// The database once the entry is applied, if it is a commit.
-fn with_entry(alloc: Global, database: Overlay, entry: Entry) -> Result<Overlay, AllocError>
+/// The database once the entry is applied, if it is a commit. Fails only if an allocation fails.
+pub fn with_entry(alloc: Global, database: Overlay, entry: Entry) -> Result<Overlay, AllocError>
     ensures { IfOk result (λ after_it. after_it ≡ after database (entry ∷ [])) }
 {
     match entry {
@@ -129,8 +129,8 @@ fn with_entry(alloc: Global, database: Overlay, entry: Entry) -> Result<Overlay,
     }
 }
 
-// Whether the entry is the token of the point.
-fn is_token_of(point: Point, entry: &Entry) -> bool
+/// Whether the entry is the token of the point: the one that its cycle appends at its point of consistency.
+pub fn is_token_of(point: Point, entry: &Entry) -> bool
     ensures { result ≡ is_point_token point entry.now }
 {
     match entry {

@@ -4,7 +4,7 @@ use Rattle.std.specs.Prelude.{map, IsOk}
 use Rattle.std.proofs.lemmas.List.{append-nil}
 use Rattle.std.proofs.lemmas.List.Elements.{All-nil, All-push}
 use Rattle.pc_texts.specs.declared.files.NamedFile.{NamedFile}
-use Rattle.pc_restore.specs.declared.recovery.PartBytes.{PartBytes}
+use Rattle.pc_restore.specs.declared.reading.PartBytes.{PartBytes}
 use Rattle.pc_restore.specs.declared.recovery.Lost.{Lost}
 use Rattle.pc_restore.specs.declared.recovery.Lost.TheVariants.{Part}
 use Rattle.pc_texts.specs.Files.{IsUnread, HoldsBytes, AreOpened}

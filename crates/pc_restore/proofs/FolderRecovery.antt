@@ -9,7 +9,7 @@ use Rattle.pc_restore.specs.Lacks.{lacks_of}
 use Rattle.pc_restore.specs.declared.recovery.Folder.{Folder}
 use Rattle.pc_restore.specs.declared.recovery.Lost.{Lost}
 use Rattle.pc_restore.specs.declared.recovery.Lost.TheVariants as lost
-use Rattle.pc_restore.specs.Recoveries.{GoesOutUnrecovered}
+use Rattle.pc_restore.specs.Recoveries.{GoesOutUnrecovered, IsFolderUnread, IsLost}
 
 -- a refusal is a failed allocation, or it isn't
 pub memory_or : (refusal : Refusal) → (refusal ≡ why.OutOfMemory) ⊎ (refusal ≢ why.OutOfMemory)
@@ -33,3 +33,12 @@ nothing_out remaining contents folder out (lost.Log why) other = refl
 nothing_out remaining contents folder out (lost.Folder why) other = refl
 nothing_out remaining contents folder out lost.Damaged other = refl
 nothing_out remaining contents folder out lost.Output other = absurd (other refl)
+
+-- if not all files were read, nothing was recovered, and no output failed
+pub unread_is_lost : {R : Type 0} (remaining : R → Option (List ℕ)) (folder : Folder R) (cause : Lost R) → IsFolderUnread folder cause → IsLost remaining folder cause × (cause ≢ lost.Output)
+unread_is_lost remaining folder (lost.Base why) is = (is, λ e. cc)
+unread_is_lost remaining folder (lost.Part name why) is = (is, λ e. cc)
+unread_is_lost remaining folder (lost.Log why) is = (is, λ e. cc)
+unread_is_lost remaining folder (lost.Folder why) is = (inl is, λ e. cc)
+unread_is_lost remaining folder lost.Damaged is = absurd is
+unread_is_lost remaining folder lost.Output is = absurd is

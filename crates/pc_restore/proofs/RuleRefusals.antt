@@ -1,4 +1,4 @@
--- The rules of recovery refuse no bytes because of a device.
+-- What the rules of recovery refuse bytes with.
 use Rattle.std.proofs.Common.{◌≡◌, ◌≢◌, ℕ, zero, suc, ◌+◌, Bool, true, false, cond, eqb, ltb, nat_eq, List, [], ◌∷◌, ◌++◌, Option, Some, None, Result, Ok, Err, length, take, drop, sym, subst, ◌∙◌}
 use Rattle.std.specs.Prelude.{nat_le, ◌&&◌, ⊤}
 use Rattle.std.specs.Ordering.{is_lt}
@@ -19,119 +19,120 @@ use Rattle.pc_part.specs.Reading.{items_at, next_key_at, pair_at, pairs_at, base
 use Rattle.pc_part.specs.Texts.{base_magic}
 use Rattle.pc_log.specs.Reading as log_text
 use Rattle.pc_log.specs.Texts.{log_magic}
+use Rattle.pc_restore.specs.Recoveries.{IsRulesRefusal}
 use Rattle.pc_recover.specs.Recovery.{files_of, files_to, folded, log_of_run, read_files, recovered_point, recovery, unless, with_files}
 
--- a refusal here is because of no device
-abbrev IsOfNoDevice : {X : Type 0} → Result X Refusal → Type 0
-IsOfNoDevice (Ok x) = ⊤
-IsOfNoDevice (Err e) = e ≢ why.Device
+-- a refusal here is one of the rules
+abbrev pub IsOfRules : {X : Type 0} → Result X Refusal → Type 0
+IsOfRules (Ok x) = ⊤
+IsOfRules (Err e) = IsRulesRefusal e
 
-none_then : {X Y : Type 0} (r : Result X Refusal) (f : X → Result Y Refusal) → IsOfNoDevice r → ((x : X) → IsOfNoDevice (f x)) → IsOfNoDevice (r >>= f)
-none_then (Ok x) f h k = k x
-none_then (Err e) f h k = h
+pub rules_then : {X Y : Type 0} (r : Result X Refusal) (f : X → Result Y Refusal) → IsOfRules r → ((x : X) → IsOfRules (f x)) → IsOfRules (r >>= f)
+rules_then (Ok x) f h k = k x
+rules_then (Err e) f h k = h
 
-none_where : {X : Type 0} (test : Bool) (fault : Refusal) (x : X) → fault ≢ why.Device → IsOfNoDevice (where_true test fault x)
-none_where true fault x h = tt
-none_where false fault x h = h
+rules_where : {X : Type 0} (test : Bool) (fault : Refusal) (x : X) → IsRulesRefusal fault → IsOfRules (where_true test fault x)
+rules_where true fault x h = tt
+rules_where false fault x h = h
 
 -- ---- the fields of a text
 
-none_counted : {X : Type 0} (test : Bool) (x : X) → IsOfNoDevice (cond test (Err why.Short) (Ok x))
-none_counted true x = λ e. cc
-none_counted false x = tt
+rules_counted : {X : Type 0} (test : Bool) (x : X) → IsOfRules (cond test (Err why.Short) (Ok x))
+rules_counted true x = tt
+rules_counted false x = tt
 
-none_number : (w : Width) (bytes : List ℕ) → IsOfNoDevice (number_at why.Short w bytes)
-none_number w bytes = none_counted (ltb (length bytes) (byte_len w)) (from_be_bytes w (take (byte_len w) bytes), drop (byte_len w) bytes)
+rules_number : (w : Width) (bytes : List ℕ) → IsOfRules (number_at why.Short w bytes)
+rules_number w bytes = rules_counted (ltb (length bytes) (byte_len w)) (from_be_bytes w (take (byte_len w) bytes), drop (byte_len w) bytes)
 
-none_bytes : (count : ℕ) (bytes : List ℕ) → IsOfNoDevice (bytes_at why.Short count bytes)
-none_bytes count bytes = none_counted (ltb (length bytes) count) (take count bytes, drop count bytes)
+rules_bytes : (count : ℕ) (bytes : List ℕ) → IsOfRules (bytes_at why.Short count bytes)
+rules_bytes count bytes = rules_counted (ltb (length bytes) count) (take count bytes, drop count bytes)
 
-none_told : (first second magic : List ℕ) → IsOfNoDevice (format_told first second magic)
-none_told first second magic = by (pointwise nat_eq magic second)
+rules_told : (first second magic : List ℕ) → IsOfRules (format_told first second magic)
+rules_told first second magic = by (pointwise nat_eq magic second)
   where
-    by : (t : Bool) → IsOfNoDevice {X = Format} (cond t (Ok Second) (where_true (pointwise nat_eq magic first) why.BadMagic First))
+    by : (t : Bool) → IsOfRules {X = Format} (cond t (Ok Second) (where_true (pointwise nat_eq magic first) why.BadMagic First))
     by true = tt
-    by false = none_where (pointwise nat_eq magic first) why.BadMagic First (λ e. cc)
+    by false = rules_where (pointwise nat_eq magic first) why.BadMagic First tt
 
-none_magic : (first second bytes : List ℕ) → IsOfNoDevice (magic_at first second bytes)
+rules_magic : (first second bytes : List ℕ) → IsOfRules (magic_at first second bytes)
 unfolding magic_at
-none_magic first second bytes = none_then _ _ (none_bytes 8 bytes) (λ magic. none_then _ _ (none_told first second magic.0) (λ format. tt))
+rules_magic first second bytes = rules_then _ _ (rules_bytes 8 bytes) (λ magic. rules_then _ _ (rules_told first second magic.0) (λ format. tt))
 
-none_key : (format : Format) (last : List ℕ) (count : ℕ) (bytes : List ℕ) → IsOfNoDevice (next_key_at format last count bytes)
+rules_key : (format : Format) (last : List ℕ) (count : ℕ) (bytes : List ℕ) → IsOfRules (next_key_at format last count bytes)
 unfolding next_key_at sized_key_at
-none_key format last count bytes =
-    none_then _ _ (none_then _ _ (none_where (nat_le 1 count && nat_le count 255) why.BadLength count (λ e. cc)) (λ lawful. none_then _ _ (none_bytes (lawful + space_bytes format) bytes) (λ text. tt)))
-    (λ key. none_where (is_lt (key_cmp last key.0)) why.KeyOrder key (λ e. cc))
+rules_key format last count bytes =
+    rules_then _ _ (rules_then _ _ (rules_where (nat_le 1 count && nat_le count 255) why.BadLength count tt) (λ lawful. rules_then _ _ (rules_bytes (lawful + space_bytes format) bytes) (λ text. tt)))
+    (λ key. rules_where (is_lt (key_cmp last key.0)) why.KeyOrder key tt)
 
-none_value : (bytes : List ℕ) → IsOfNoDevice (value_at why.Short bytes)
+rules_value : (bytes : List ℕ) → IsOfRules (value_at why.Short bytes)
 unfolding value_at
-none_value bytes = none_then _ _ (none_number w32 bytes) (λ count. none_then _ _ (none_where (nat_le count.0 65535) why.BadLength count.0 (λ e. cc)) (λ lawful. none_bytes lawful count.1))
+rules_value bytes = rules_then _ _ (rules_number w32 bytes) (λ count. rules_then _ _ (rules_where (nat_le count.0 65535) why.BadLength count.0 tt) (λ lawful. rules_bytes lawful count.1))
 
 -- ---- a base
 
-none_pair : (format : Format) (last bytes : List ℕ) → IsOfNoDevice (pair_at format last bytes)
+rules_pair : (format : Format) (last bytes : List ℕ) → IsOfRules (pair_at format last bytes)
 unfolding pair_at
-none_pair format last bytes = none_then _ _ (none_number w16 bytes) (λ count. none_then _ _ (none_key format last count.0 count.1) (λ key. none_then _ _ (none_value key.1) (λ value. tt)))
+rules_pair format last bytes = rules_then _ _ (rules_number w16 bytes) (λ count. rules_then _ _ (rules_key format last count.0 count.1) (λ key. rules_then _ _ (rules_value key.1) (λ value. tt)))
 
-none_pairs : (format : Format) (count : ℕ) (last bytes : List ℕ) → IsOfNoDevice (pairs_at format count last bytes)
+rules_pairs : (format : Format) (count : ℕ) (last bytes : List ℕ) → IsOfRules (pairs_at format count last bytes)
 unfolding items_at
-none_pairs format zero last bytes = tt
-none_pairs format (suc count) last bytes = none_then _ _ (none_pair format last bytes) (λ first. none_then _ _ (none_pairs format count first.0.0 first.1) (λ others. tt))
+rules_pairs format zero last bytes = tt
+rules_pairs format (suc count) last bytes = rules_then _ _ (rules_pair format last bytes) (λ first. rules_then _ _ (rules_pairs format count first.0.0 first.1) (λ others. tt))
 
-none_base : (bytes : List ℕ) → IsOfNoDevice (base_at bytes)
+pub rules_base : (bytes : List ℕ) → IsOfRules (base_at bytes)
 unfolding base_fields_at
-none_base bytes = none_then _ _ (none_then _ _ (none_magic (base_magic First) (base_magic Second) bytes) (λ start. none_then _ _ (none_number w64 start.1) (λ run. none_then _ _ (none_number w32 run.1)
-    (λ point. none_then _ _ (none_where (nat_le point.0 65535) why.BadRanges point.0 (λ e. cc)) (λ lawful. none_then _ _ (none_number w32 point.1) (λ count. none_then _ _ (none_pairs start.0 count.0 [] count.1)
-    (λ pairs. none_where (eqb (length pairs.1) 0) why.Trailing _ (λ e. cc)))))))) (λ base. tt)
+rules_base bytes = rules_then _ _ (rules_then _ _ (rules_magic (base_magic First) (base_magic Second) bytes) (λ start. rules_then _ _ (rules_number w64 start.1) (λ run. rules_then _ _ (rules_number w32 run.1)
+    (λ point. rules_then _ _ (rules_where (nat_le point.0 65535) why.BadRanges point.0 tt) (λ lawful. rules_then _ _ (rules_number w32 point.1) (λ count. rules_then _ _ (rules_pairs start.0 count.0 [] count.1)
+    (λ pairs. rules_where (eqb (length pairs.1) 0) why.Trailing _ tt))))))) (λ base. tt)
 
 -- ---- the files, and the log
 
--- causes of which none is a device's
-abbrev AreOfNoDevice : List (Bool × Refusal) → Type 0
-AreOfNoDevice [] = ⊤
-AreOfNoDevice (c ∷ causes) = (c.1 ≢ why.Device) × AreOfNoDevice causes
+-- causes that are all of the rules
+abbrev AreOfRules : List (Bool × Refusal) → Type 0
+AreOfRules [] = ⊤
+AreOfRules (c ∷ causes) = IsRulesRefusal c.1 × AreOfRules causes
 
-none_unless : {X : Type 0} (causes : List (Bool × Refusal)) (x : X) → AreOfNoDevice causes → IsOfNoDevice (unless (first_cause causes) x)
-none_unless [] x h = tt
-none_unless ((true, e) ∷ causes) x h = h.0
-none_unless ((false, e) ∷ causes) x h = none_unless causes x h.1
+rules_unless : {X : Type 0} (causes : List (Bool × Refusal)) (x : X) → AreOfRules causes → IsOfRules (unless (first_cause causes) x)
+rules_unless [] x h = tt
+rules_unless ((true, e) ∷ causes) x h = h.0
+rules_unless ((false, e) ∷ causes) x h = rules_unless causes x h.1
 
-none_folded : (file : File) (files : List File) → IsOfNoDevice (folded file files)
-none_folded file [] = tt
-none_folded file (next ∷ files) = none_then _ _ (none_unless (join_causes (Some file) (Some next)) (joined_file file next) ((λ e. cc), ((λ e. cc), ((λ e. cc), tt)))) (λ joined. none_folded joined files)
+rules_folded : (file : File) (files : List File) → IsOfRules (folded file files)
+rules_folded file [] = tt
+rules_folded file (next ∷ files) = rules_then _ _ (rules_unless (join_causes (Some file) (Some next)) (joined_file file next) (tt, (tt, (tt, tt)))) (λ joined. rules_folded joined files)
 
-none_laid : (base : BaseFile) (joined : File) → IsOfNoDevice (unless (first_cause (lay_causes base joined)) (laid_file base joined))
-none_laid base joined = none_unless (lay_causes base joined) (laid_file base joined) ((λ e. cc), by (gap_above base.point joined.points))
+rules_laid : (base : BaseFile) (joined : File) → IsOfRules (unless (first_cause (lay_causes base joined)) (laid_file base joined))
+rules_laid base joined = rules_unless (lay_causes base joined) (laid_file base joined) (tt, by (gap_above base.point joined.points))
   where
-    by : (gap : Option ℕ) → AreOfNoDevice (gap_causes gap ++ limit_causes base.pairs base.point joined.triples)
-    by None = ((λ e. cc), tt)
-    by (Some point) = ((λ e. cc), ((λ e. cc), tt))
+    by : (gap : Option ℕ) → AreOfRules (gap_causes gap ++ limit_causes base.pairs base.point joined.triples)
+    by None = (tt, tt)
+    by (Some point) = (tt, (tt, tt))
 
-none_with_files : (base : BaseFile) (files : List File) → IsOfNoDevice (with_files base files)
-none_with_files base [] = tt
-none_with_files base (file ∷ files) = none_then _ _ (none_folded file files) (λ joined. none_laid base joined)
+rules_with_files : (base : BaseFile) (files : List File) → IsOfRules (with_files base files)
+rules_with_files base [] = tt
+rules_with_files base (file ∷ files) = rules_then _ _ (rules_folded file files) (λ joined. rules_laid base joined)
 
-none_log : (bytes : List ℕ) → IsOfNoDevice (log_text.log_at bytes)
+rules_log : (bytes : List ℕ) → IsOfRules (log_text.log_at bytes)
 unfolding log_text.log_at log_text.header_at
-none_log bytes = none_then _ _ (none_then _ _ (none_magic (log_magic First) (log_magic Second) bytes) (λ start. none_then _ _ (none_number w64 start.1) (λ run. none_then _ _ (none_number w32 run.1)
-    (λ base. none_where (eqb base.0 0) why.BadRanges _ (λ e. cc))))) (λ header. tt)
+rules_log bytes = rules_then _ _ (rules_then _ _ (rules_magic (log_magic First) (log_magic Second) bytes) (λ start. rules_then _ _ (rules_number w64 start.1) (λ run. rules_then _ _ (rules_number w32 run.1)
+    (λ base. rules_where (eqb base.0 0) why.BadRanges _ tt)))) (λ header. tt)
 
-none_log_of : (run : ℕ) (bytes : List ℕ) → IsOfNoDevice (log_of_run run bytes)
-none_log_of run bytes = by (ltb (length bytes) 20)
+pub rules_log_of : (run : ℕ) (bytes : List ℕ) → IsOfRules (log_of_run run bytes)
+rules_log_of run bytes = by (ltb (length bytes) 20)
   where
-    by : (t : Bool) → IsOfNoDevice {X = log_text.LogRead} (cond t (Ok (record { run = run; entries = []; rest = length bytes; fault = None })) (log_text.log_at bytes >>= λ log. where_true (eqb log.run run) why.OtherRun log))
+    by : (t : Bool) → IsOfRules {X = log_text.LogRead} (cond t (Ok (record { run = run; entries = []; rest = length bytes; fault = None })) (log_text.log_at bytes >>= λ log. where_true (eqb log.run run) why.OtherRun log))
     by true = tt
-    by false = none_then _ _ (none_log bytes) (λ log. none_where (eqb log.run run) why.OtherRun log (λ e. cc))
+    by false = rules_then _ _ (rules_log bytes) (λ log. rules_where (eqb log.run run) why.OtherRun log tt)
 
-none_recovery : (base : List ℕ) (parts : List (List ℕ)) (log : List ℕ) → IsOfNoDevice (recovery base parts log)
+pub rules_recovery : (base : List ℕ) (parts : List (List ℕ)) (log : List ℕ) → IsOfRules (recovery base parts log)
 unfolding recovery
-none_recovery base parts log = none_then _ _ (none_base base)
-    (λ first. none_then _ _ (none_with_files first (files_to (recovered_point first.point (read_files (files_of first.run parts))) (read_files (files_of first.run parts)))) (λ laid. none_then _ _ (none_log_of first.run log) (λ read. tt)))
+rules_recovery base parts log = rules_then _ _ (rules_base base)
+    (λ first. rules_then _ _ (rules_with_files first (files_to (recovered_point first.point (read_files (files_of first.run parts))) (read_files (files_of first.run parts)))) (λ laid. rules_then _ _ (rules_log_of first.run log) (λ read. tt)))
 
-is_of_none : {X : Type 0} (r : Result X Refusal) (e : Refusal) → IsOfNoDevice r → r ≡ Err e → e ≢ why.Device
-is_of_none (Ok x) e h is = absurd (let no : Ok x ≡ Err e = is in cc)
-is_of_none (Err d) e h is = let same : d ≡ e = cc in subst (λ f. f ≢ why.Device) same h
+pub of_rules : {X : Type 0} (r : Result X Refusal) (e : Refusal) → IsOfRules r → r ≡ Err e → IsRulesRefusal e
+of_rules (Ok x) e h is = absurd (let no : Ok x ≡ Err e = is in cc)
+of_rules (Err d) e h is = let same : d ≡ e = cc in subst IsRulesRefusal same h
 
--- so their refusal, unless an allocation failed, is no device's
-pub rules_refuse : (base : List ℕ) (parts : List (List ℕ)) (log : List ℕ) (e : Refusal) → (e ≢ why.OutOfMemory → recovery base parts log ≡ Err e) → e ≢ why.Device
-rules_refuse base parts log e is = λ device. is_of_none (recovery base parts log) e (none_recovery base parts log) (is (λ memory. let bad : why.OutOfMemory ≡ why.Device = sym memory ∙ device in cc)) device
+-- so their refusal is in the list
+pub rules_refuse : (base : List ℕ) (parts : List (List ℕ)) (log : List ℕ) (e : Refusal) → recovery base parts log ≡ Err e → IsRulesRefusal e
+rules_refuse base parts log e is = of_rules (recovery base parts log) e (rules_recovery base parts log) is

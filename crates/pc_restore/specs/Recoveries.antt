@@ -4,14 +4,15 @@ use Rattle.std.specs.declared.result.Result.{Result}
 use Rattle.std.specs.Global.{Vec}
 use Rattle.std.specs.Io.KnownBytes.{Appends}
 use Rattle.pc_types.specs.declared.refusal.Refusal.{Refusal}
-use Rattle.pc_types.specs.declared.refusal.Refusal.TheVariants.{OutOfMemory, NoFile, Device}
+use Rattle.pc_types.specs.declared.refusal.Refusal.TheVariants as refusal
+use Rattle.pc_types.specs.declared.refusal.Refusal.TheVariants.{OutOfMemory, NoFile}
 use Rattle.pc_types.specs.Counted.{HasRisen, AppendsBeginning}
 use Rattle.pc_types.specs.Tallies.{Puts, inner_of, failures_of}
 use Rattle.pc_types.specs.declared.tally.Tally.{Tally}
 use Rattle.pc_recover.specs.Recovery.{Recovery, recovery}
 use Rattle.pc_restore.specs.declared.recovery.Folder.{Folder}
 use Rattle.pc_texts.specs.declared.files.NamedFile.{NamedFile}
-use Rattle.pc_restore.specs.declared.recovery.PartBytes.{PartBytes}
+use Rattle.pc_restore.specs.declared.reading.PartBytes.{PartBytes}
 use Rattle.pc_restore.specs.declared.recovery.Lost.{Lost}
 use Rattle.pc_restore.specs.declared.recovery.Lost.TheVariants as lost
 use Rattle.pc_restore.specs.declared.lacks.Lacks.{Lacks}
@@ -85,21 +86,41 @@ abbrev pub IsListLost : {R : Type 0} → Result (Vec (NamedFile R)) Refusal → 
 IsListLost (Ok files) cause = IsEachLost files.items cause
 IsListLost (Err why) cause = cause ≡ lost.Folder why
 
--- the rules refuse the files' bytes, never because of a device, or an allocation failed
+-- Why not all files of the folder were read. A fault is the cause only if all files before it were opened: first of the base, then
+-- of the list of the parts or of one of them, and last of the log.
+abbrev pub IsFolderUnread : {R : Type 0} → Folder R → Lost R → Type 0
+IsFolderUnread folder (lost.Base why) = IsUnread folder.base why
+IsFolderUnread folder (lost.Part name why) = IsOk folder.base × IsListLost folder.parts (lost.Part name why)
+IsFolderUnread folder (lost.Log why) = IsOk folder.base × ArePartsOpened folder.parts × IsLogFault folder.log why
+IsFolderUnread folder (lost.Folder why) = IsOk folder.base × IsListLost folder.parts (lost.Folder why)
+IsFolderUnread folder other = ⊥
+
+-- The refusals of the rules of recovery: a fault of a base's bytes or of a log's header; a log of another run; or parts that can't
+-- be joined, or applied to the base.
+abbrev pub IsRulesRefusal : Refusal → Type 0
+IsRulesRefusal refusal.Short = ⊤
+IsRulesRefusal refusal.BadMagic = ⊤
+IsRulesRefusal refusal.BadRanges = ⊤
+IsRulesRefusal refusal.BadLength = ⊤
+IsRulesRefusal refusal.KeyOrder = ⊤
+IsRulesRefusal refusal.Trailing = ⊤
+IsRulesRefusal refusal.OtherRun = ⊤
+IsRulesRefusal refusal.Conflict = ⊤
+IsRulesRefusal refusal.Full = ⊤
+IsRulesRefusal (refusal.Gap point) = ⊤
+IsRulesRefusal other = ⊥
+
+-- the rules refuse the files' bytes, or an allocation failed
 abbrev pub IsRecoveryRefused : {R : Type 0} → (R → Option (List ℕ)) → Folder R → Refusal → Type 0
 IsRecoveryRefused remaining folder why =
-    (why ≡ OutOfMemory) ⊎ ((why ≢ Device) × ((base : List ℕ) (names parts : List (List ℕ)) (log : List ℕ) → HoldsAll remaining folder base names parts log → recovery base parts log ≡ Err why))
+    (why ≡ OutOfMemory) ⊎ (IsRulesRefusal why × ((base : List ℕ) (names parts : List (List ℕ)) (log : List ℕ) → HoldsAll remaining folder base names parts log → recovery base parts log ≡ Err why))
 
--- Why nothing was recovered. The files are read in order, and a fault is reported only if all before it were opened: first the base
--- can't be read; then the parts can't be listed, or one of them can't be read; then the log; then the rules refuse the bytes of all
--- of them; and last the output fails. Damage of the folder prevents no recovery.
+-- Why nothing was recovered: not all files were read; or they were, and the rules refuse their bytes; or last the output failed.
+-- Damage of the folder prevents no recovery.
 abbrev pub IsLost : {R : Type 0} → (R → Option (List ℕ)) → Folder R → Lost R → Type 0
-IsLost remaining folder (lost.Base why) = IsUnread folder.base why
-IsLost remaining folder (lost.Part name why) = IsOk folder.base × IsListLost folder.parts (lost.Part name why)
-IsLost remaining folder (lost.Log why) = IsOk folder.base × ArePartsOpened folder.parts × IsLogFault folder.log why
-IsLost remaining folder (lost.Folder why) = (IsOk folder.base × IsListLost folder.parts (lost.Folder why)) ⊎ (AreAllOpened folder × IsRecoveryRefused remaining folder why)
+IsLost remaining folder (lost.Folder why) = IsFolderUnread folder (lost.Folder why) ⊎ (AreAllOpened folder × IsRecoveryRefused remaining folder why)
 IsLost remaining folder lost.Output = AreAllOpened folder
-IsLost remaining folder lost.Damaged = ⊥
+IsLost remaining folder other = IsFolderUnread folder other
 
 -- the recovered state of the folder was printed: all of it went out; said if the files' bytes are known
 abbrev pub PrintsAll : {R T : Type 0} → (R → Option (List ℕ)) → (T → Option (List ℕ)) → Folder R → Tally T → Tally T → Type 0

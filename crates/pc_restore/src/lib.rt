@@ -3,9 +3,11 @@
 
 mod bases;
 mod lacks;
+mod reading;
 mod recovery;
 mod reports;
 
 pub use bases::recover_base;
 pub use lacks::{Lacks, LogHeader};
+pub use reading::{FolderBytes, PartBytes, part_slices, read_folder};
 pub use recovery::{EndedRecovery, Folder, Lost, run_recover, tell_lost, tell_reason};

@@ -1,5 +1,5 @@
 //! A recovery of a folder, from its readers to its end.
-ghost use Rattle.std.specs.Prelude.{◌≡◌, ◌≢◌, ◌⊎◌, ◌++◌, [], ◌∷◌, ℕ, List, Some, map, is_ok, IsOk, IfOk, IfErr, IfSome, MatchOption, OnOk};
+ghost use Rattle.std.specs.Prelude.{◌≡◌, ◌≢◌, ◌⊎◌, ℕ, List, Some, is_ok, IfOk, IfErr, IfSome, MatchOption, OnOk};
 ghost use Rattle.std.specs.declared.result.Result.{Result};
 ghost use Rattle.std.specs.Io.KnownBytes.{Keeps};
 ghost use Rattle.pc_types.specs.declared.refusal.Refusal.{Refusal};
@@ -9,16 +9,15 @@ ghost use Rattle.pc_model.specs.Database.{KeysRise};
 ghost use Rattle.pc_recover.specs.Recovery.{IsOfRun, recovery, recovery_of};
 ghost use Rattle.pc_restore.specs.declared.recovery.Lost.{Lost};
 ghost use Rattle.pc_restore.specs.Lacks.{lacks_of, status_of};
-ghost use Rattle.pc_texts.specs.Files.{IsUnread, HoldsBytes, AreOpened};
-ghost use Rattle.pc_texts.specs.declared.files.Unread.{Unread};
-ghost use Rattle.pc_restore.specs.Recoveries.{AreAllOpened, ArePartsOpened, GoesOutUnrecovered, HoldsLog, HoldEach, HoldParts, HoldsAll, IsEachLost, IsLacking, IsListLost, IsLogFault, IsLogOpened, IsLost, IsRecoveryTold, PrintsAll, bytes_of, names_of, reason_text};
+ghost use Rattle.pc_restore.specs.Recoveries.{AreAllOpened, GoesOutUnrecovered, HoldsAll, IsLacking, IsLost, IsRecoveryTold, PrintsAll, bytes_of, names_of, reason_text};
 
 use crate::lacks::{Lacks, lacks_of};
+use crate::reading::{FolderBytes, PartBytes, part_slices, read_folder};
 use crate::reports::put_recovered;
 use pc_recover::{Recovered, recover};
-use pc_texts::{NamedFile, Unread, end_output, read_opened, report, report_words};
+use pc_texts::{NamedFile, Unread, end_output, report, report_words};
 use pc_types::{Refusal, Tally};
-use std::alloc::{AllocError, Global};
+use std::alloc::Global;
 use std::io::{Read, Write};
 
 /// The files of a run in a folder: the base file, the part files in the byte order of their names, or why the folder can't be
@@ -28,22 +27,6 @@ pub struct Folder<R> {
     pub base: Result<R, Refusal>,
     pub parts: Result<Vec<NamedFile<R>>, Refusal>,
     pub log: Result<R, Refusal>,
-}
-
-/// A part file that was read.
-#[derive(Drop)]
-pub(crate) struct PartBytes {
-    pub(crate) name: Vec<u8>,
-    pub(crate) bytes: Vec<u8>,
-}
-
-// The files of a folder that were read.
-#[derive(Drop)]
-struct FolderBytes {
-    base: Vec<u8>,
-    parts: Vec<PartBytes>,
-    is_logged: bool,
-    log: Vec<u8>,
 }
 
 /// Why nothing is recovered. A file whose device failed is returned, and has counted the failure.
@@ -229,108 +212,6 @@ fn recover_files(alloc: Global, files: &FolderBytes) -> Result<Recovered, Refusa
     ensures rise { IfOk result (λ recovered. KeysRise recovered.pairs.items) }
     ensures run { IfOk result (λ recovered. IsOfRun files.now.base.items recovered.run) }
 {
-    let parts = slices_of(alloc, &files.parts)?;
+    let parts = part_slices(alloc, &files.parts)?;
     recover(alloc, &files.base, &parts, &files.log)
-}
-
-// The bytes of the parts, in their order.
-fn slices_of<'a>(alloc: Global, parts: &'a [PartBytes]) -> Result<Vec<&'a [u8]>, AllocError>
-    ensures { IfOk result (λ slices. map (λ slice. slice.now) slices.items ≡ bytes_of parts.now) }
-{
-    let mut slices = Vec::new(alloc);
-    for part in parts {
-        slices.push(part.bytes.as_slice())?;
-    }
-    Ok(slices)
-}
-
-// The base first, then the parts, and the log last.
-fn read_folder<R: Read + Drop>(alloc: Global, folder: Folder<R>) -> Result<FolderBytes, Lost<R>>
-    ensures held { (base : List ℕ) (names parts : List (List ℕ)) (log : List ℕ) → HoldsAll R.remaining folder base names parts log → IfOk result (λ files.
-        (files.base.items ≡ base) × (names_of files.parts.items ≡ names) × (bytes_of files.parts.items ≡ parts) × (files.log.items ≡ log)) }
-    ensures logged { IfOk result (λ files. files.is_logged ≡ is_ok folder.log) }
-    ensures opened { OnOk result (AreAllOpened folder) }
-    ensures cause { IfErr result (λ lost. IsLost R.remaining folder lost × (lost ≢ Lost.Output)) }
-{
-    let Folder { base, parts, log } = folder;
-    let is_logged = log.is_ok();
-    let base = match read_opened(alloc, base) {
-        Ok(base) => base,
-        Err(why) => return Err(Lost::Base(why)),
-    };
-    let parts = read_listed(alloc, parts)?;
-    let log = match read_log(alloc, log) {
-        Ok(log) => log,
-        Err(why) => return Err(Lost::Log(why)),
-    };
-    Ok(FolderBytes {
-        base,
-        parts,
-        is_logged,
-        log,
-    })
-}
-
-// The log's bytes, none if it doesn't exist.
-fn read_log<R: Read + Drop>(alloc: Global, opened: Result<R, Refusal>) -> Result<Vec<u8>, Unread<R>>
-    ensures held { (held : List ℕ) → HoldsLog R.remaining opened held → IfOk result (λ bytes. bytes.items ≡ held) }
-    ensures opened { OnOk result (IsLogOpened opened) }
-    ensures cause { IfErr result (IsLogFault opened) }
-{
-    match opened {
-        Err(Refusal::NoFile) => Ok(Vec::new(alloc)),
-        opened => read_opened(alloc, opened),
-    }
-}
-
-fn read_listed<R: Read + Drop>(
-    alloc: Global,
-    listed: Result<Vec<NamedFile<R>>, Refusal>,
-) -> Result<Vec<PartBytes>, Lost<R>>
-    ensures held { (names parts : List (List ℕ)) → HoldParts R.remaining listed names parts → IfOk result (λ read. (names_of read.items ≡ names) × (bytes_of read.items ≡ parts)) }
-    ensures opened { OnOk result (ArePartsOpened listed) }
-    ensures cause { IfErr result (IsListLost listed) }
-{
-    match listed {
-        Ok(files) => read_parts(alloc, files),
-        Err(why) => Err(Lost::Folder(why)),
-    }
-}
-
-fn read_parts<R: Read + Drop>(
-    alloc: Global,
-    files: Vec<NamedFile<R>>,
-) -> Result<Vec<PartBytes>, Lost<R>>
-    ensures held { (names parts : List (List ℕ)) → HoldEach R.remaining files.items names parts → IfOk result (λ read. (names_of read.items ≡ names) × (bytes_of read.items ≡ parts)) }
-    ensures opened { OnOk result (AreOpened files.items) }
-    ensures cause { IfErr result (IsEachLost files.items) }
-{
-    let mut read = Vec::new(alloc);
-    for file in files {
-        let part = read_part(alloc, file)?;
-        push_part(&mut read, part)?;
-    }
-    Ok(read)
-}
-
-fn push_part<R>(read: &mut Vec<PartBytes>, part: PartBytes) -> Result<(), Lost<R>>
-    ensures ok { OnOk result (read.new.items ≡ read.old.items ++ part ∷ []) }
-    ensures err { IfErr result (λ lost. lost ≡ Lost.Folder Refusal.OutOfMemory) }
-{
-    match read.push(part) {
-        Ok(()) => Ok(()),
-        Err(_) => Err(Lost::Folder(Refusal::OutOfMemory)),
-    }
-}
-
-fn read_part<R: Read + Drop>(alloc: Global, file: NamedFile<R>) -> Result<PartBytes, Lost<R>>
-    ensures held { (held : List ℕ) → HoldsBytes R.remaining file.opened held → IfOk result (λ part. (part.name.items ≡ file.name.items) × (part.bytes.items ≡ held)) }
-    ensures opened { OnOk result (IsOk file.opened) }
-    ensures cause { IfErr result (λ lost. (why : Unread R) × (lost ≡ Lost.Part file.name why) × IsUnread file.opened why) }
-{
-    let NamedFile { name, opened } = file;
-    match read_opened(alloc, opened) {
-        Ok(bytes) => Ok(PartBytes { name, bytes }),
-        Err(why) => Err(Lost::Part(name, why)),
-    }
 }

@@ -8,7 +8,7 @@ ghost use Rattle.pc_texts.specs.Texts.{printed_name, refusal_text};
 ghost use Rattle.pc_restore.specs.Reports.{count_line, counts_text, damage_text, details_text, is_cut, log_line, name_at, pairs_text, recovery_text, skipped_line};
 ghost use Rattle.pc_restore.specs.Recoveries.{names_of};
 
-use crate::recovery::PartBytes;
+use crate::reading::PartBytes;
 use itoa::Buffer;
 use pc_recover::{Recovered, Skipped};
 use pc_texts::{put_name, put_pairs, put_reason};

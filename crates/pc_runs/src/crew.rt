@@ -1,7 +1,6 @@
 //! The threads that run a workload.
 ghost use Rattle.std.specs.Prelude.{◌≤◌};
-ghost use Rattle.pc_collapse.specs.declared.limits.TheConstants.{MOST_COLLAPSERS};
-ghost use Rattle.pc_jobs.specs.declared.dealing.TheConstants.{MOST_WORKERS};
+ghost use Rattle.pc_types.specs.declared.limits.TheConstants.{MOST_COLLAPSERS, MOST_WORKERS};
 
 use pc_types::Gate;
 

@@ -32,8 +32,9 @@ pub use gate::{Gate, GatePlace, OpenGate};
 pub use keys::Key;
 pub use laws::{keys_are_ordered, keys_are_pairs, pairs_are_keys};
 pub use limits::{
-    MOST_FILE_ENTRIES, MOST_FILES, MOST_KEY_BYTES, MOST_KEYS, MOST_LOG_ENTRIES, MOST_POINTS,
-    MOST_SESSIONS, MOST_TRANSACTIONS, MOST_VALUE_BYTES, MOST_WRITES, SPACE_BYTES,
+    MOST_COLLAPSERS, MOST_FILE_ENTRIES, MOST_FILES, MOST_KEY_BYTES, MOST_KEYS, MOST_LOG_ENTRIES,
+    MOST_POINTS, MOST_SESSIONS, MOST_TRANSACTIONS, MOST_VALUE_BYTES, MOST_WORKERS, MOST_WRITES,
+    SPACE_BYTES,
 };
 pub use lists::Items;
 pub use locking::{Mode, Outcome, Request};

@@ -32,3 +32,9 @@ pub const MOST_FILES: usize = 65_536;
 
 /// The most entries of a file.
 pub const MOST_FILE_ENTRIES: usize = 4_294_967_295;
+
+/// The most collapsers that join parts; there is at least one.
+pub const MOST_COLLAPSERS: u8 = 64;
+
+/// The most workers to which the clients of a run are dealt; there is at least one.
+pub const MOST_WORKERS: u8 = 64;

@@ -1,7 +1,7 @@
 use Rattle.std.proofs.Common.{◌≡◌, length}
 use Rattle.std.specs.Vec.Iter.{into_iter_items, into_iter_len}
 use Rattle.pc_restore.proofs.FolderParts.{AreLeft, HoldTheRest}
-use Rattle.pc_restore.proofs.recovery.read_parts.Given as goal
+use Rattle.pc_restore.proofs.reading.read_parts.Given as goal
 
 abbrev pub invariant-loop-file : goal.invariant-loop-file
 invariant-loop-file g l = record {

@@ -3,7 +3,7 @@ use Rattle.std.specs.Vec.Iter.{into_iter_items}
 use Rattle.std.proofs.lemmas.Result.{err_from_is_err_and}
 use Rattle.std.proofs.lemmas.List.{nil_from_length}
 use Rattle.pc_restore.proofs.FolderParts.{HoldTheRest, AreLeft, none_read, one_more_read, all_read, all_left, one_less, all_opened, part_lost}
-use Rattle.pc_restore.proofs.recovery.read_parts.Goals as goal
+use Rattle.pc_restore.proofs.reading.read_parts.Goals as goal
 
 pub loop-file-init : goal.loop-file-init
 loop-file-init g c =
