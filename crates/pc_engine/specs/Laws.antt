@@ -6,7 +6,8 @@ use Rattle.pc_records.specs.Rows.{record_of, requests_on}
 use Rattle.pc_engine.specs.Store.{Store}
 use Rattle.pc_engine.specs.Stands.{Stands, IsSerial, KeepsPoints}
 
--- Its committed contents are those of its log, and committed transactions have read correctly.
+-- Its committed contents are those of its log, the reads and the sums of committed transactions are correct, and each add of the
+-- log applies to what was committed before it.
 abbrev pub StandingWorldsAreSerial : Type 0
 StandingWorldsAreSerial = (w : Store) (history : History) → Stands w history → IsSerial w history
 

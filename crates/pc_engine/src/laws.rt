@@ -1,8 +1,8 @@
 //! Laws of worlds. Each function does nothing, and its contract is a law.
 ghost use Rattle.pc_engine.specs.Laws.{StandingWorldsAreSerial, StandingWorldsHaveLegalQueues, StandingWorldsKeepPoints};
 
-/// A world that represents a history is serial: each key's committed value is that of the log replayed on the base, and each
-/// committed transaction has read correctly.
+/// A world that represents a history is serial: each key's committed value is that of the log replayed on the base, the reads and
+/// the sums of each committed transaction are correct, and each add of the log applies to what was committed before it.
 pub fn standing_worlds_are_serial()
     ensures { StandingWorldsAreSerial }
 {}
