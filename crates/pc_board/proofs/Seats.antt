@@ -4,7 +4,7 @@ use mathlib.Core.Option.{Option, some, some-injective, some-ne-none}
 use lib.ListN.{get_elem?}
 use Rattle.atomic_table.specs.Table.{State, Splits, Joins, Enters}
 use Rattle.atomic_table.proofs.Lists.{at_set}
-use Rattle.pc_board.specs.declared.limits.TheConstants.{MOST_PASSES}
+use Rattle.pc_types.specs.declared.limits.TheConstants.{MOST_PASSES}
 use Rattle.pc_board.specs.declared.calls.Call.{Call}
 use Rattle.pc_board.specs.declared.sight.Account.{Account}
 use Rattle.pc_board.specs.declared.sight.PassSight.{PassSight}

@@ -9,8 +9,7 @@ use lib.ListN.{get_elem?}
 use native.Mathlib.Decide.{ℕ_discrete}
 use Rattle.atomic_table.specs.Table.{State, Me, step, keeps, Allows}
 use Rattle.atomic_table.proofs.Lists.{at_set}
-use Rattle.pc_types.specs.declared.limits.TheConstants.{MOST_POINTS}
-use Rattle.pc_board.specs.declared.limits.TheConstants.{MOST_CLAIMS}
+use Rattle.pc_types.specs.declared.limits.TheConstants.{MOST_CLAIMS, MOST_POINTS}
 use Rattle.pc_board.specs.declared.calls.CallKind.TheVariants.{Claim, Publish, Look}
 use Rattle.pc_board.specs.declared.calls.Call.{Call}
 use Rattle.pc_board.specs.declared.sight.PassSight.{PassSight}

@@ -3,9 +3,8 @@ use Rattle.std.specs.Prelude.{◌≡◌, ℕ, ◌+◌, ◌<◌, ◌≤◌, List,
 use mathlib.Core.List.{IsPrefix}
 use mathlib.Core.Option.{some}
 use lib.ListN.{get_elem?}
-use Rattle.pc_types.specs.declared.limits.TheConstants.{MOST_POINTS}
+use Rattle.pc_types.specs.declared.limits.TheConstants.{MOST_CLAIMS, MOST_PASSES, MOST_POINTS}
 use Rattle.atomic_table.specs.Table.{State, Me, Step}
-use Rattle.pc_board.specs.declared.limits.TheConstants.{MOST_CLAIMS, MOST_PASSES}
 use Rattle.pc_board.specs.declared.calls.CallKind.TheVariants.{Claim, Publish, Look}
 use Rattle.pc_board.specs.declared.calls.Call.{Call}
 use Rattle.pc_board.specs.declared.sight.Account.{Account}

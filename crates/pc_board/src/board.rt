@@ -4,13 +4,12 @@ ghost use Rattle.pc_board.specs.declared.calls.CallKind.TheVariants.{Claim, Publ
 ghost use Rattle.pc_board.specs.Calls.{NoneAbove};
 ghost use Rattle.pc_board.specs.Passes.{IsOfBoard, IsSamePass, MakesCall, IsBoardEnd, new_passes, claims_made};
 
-use crate::limits::{MOST_CLAIMS, MOST_PASSES};
 use crate::rule::{
     CLAIM_COUNT, ClaimStep, DealPass, HORIZON, HandIn, LookStep, OneCallHistory, PublishStep,
 };
 use crate::sight::PassSight;
 use atomic_table::{Seat, Table};
-use pc_types::{Point, Refusal};
+use pc_types::{MOST_CLAIMS, MOST_PASSES, Point, Refusal};
 use std::alloc::Global;
 use std::marker::Model;
 

@@ -5,11 +5,9 @@
 mod board;
 mod calls;
 mod laws;
-mod limits;
 mod rule;
 mod sight;
 
 pub use board::{Board, BoardPass, BoardTotals};
 pub use calls::{Call, CallKind};
 pub use laws::{claims_rise, looks_never_fall};
-pub use limits::{MOST_CLAIMS, MOST_PASSES};

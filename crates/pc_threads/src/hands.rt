@@ -1,6 +1,6 @@
 //! The threads that run a workload on a store: a checkpointer and collapsers, each with a pass of one board, and workers.
 ghost use Rattle.std.specs.Prelude.{◌≡◌, ◌+◌, ◌<◌, ◌≤◌, [], All, length, map, IfOk};
-ghost use Rattle.pc_board.specs.declared.limits.TheConstants.{MOST_PASSES};
+ghost use Rattle.pc_types.specs.declared.limits.TheConstants.{MOST_PASSES};
 ghost use Rattle.pc_board.specs.Passes.{IsOfBoard};
 ghost use Rattle.pc_threads.specs.Hands.{first_numbers};
 

@@ -33,6 +33,12 @@ pub const MOST_FILES: usize = 65_536;
 /// The most entries of a file.
 pub const MOST_FILE_ENTRIES: usize = 4_294_967_295;
 
+/// The most passes of a board, which has at least one: 64 collapsers' and the checkpointer's.
+pub const MOST_PASSES: u8 = 65;
+
+/// The most claims that a pass makes. As both are kept no count of a board's claims reaches 2^64.
+pub const MOST_CLAIMS: u32 = 4_294_967_295;
+
 /// The most collapsers that join parts; there is at least one.
 pub const MOST_COLLAPSERS: u8 = 64;
 

@@ -9,7 +9,7 @@ use Rattle.pc_model.specs.History.{History}
 use Rattle.pc_model.specs.Numbers.{is_one_of}
 use Rattle.pc_model.specs.Replies.{Setting, IsLegalHistory}
 use Rattle.pc_model.specs.Sets as set
-use Rattle.pc_board.specs.declared.limits.TheConstants.{MOST_CLAIMS}
+use Rattle.pc_types.specs.declared.limits.TheConstants.{MOST_CLAIMS}
 use Rattle.pc_board.specs.Calls.{greatest_of}
 use Rattle.pc_board.specs.Passes.{Pass, claims_made}
 use Rattle.pc_latch.specs.Tickets.{IsNoTicket}

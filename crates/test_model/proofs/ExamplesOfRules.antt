@@ -64,6 +64,10 @@ limit_rules = record {
   most_points = refl;
   most_files = refl;
   most_file_entries = refl;
+  most_passes = refl;
+  most_claims = refl;
+  most_collapsers = refl;
+  most_workers = refl;
   most_body_bytes_first = refl;
   most_body_bytes_second = refl;
 }

@@ -15,7 +15,7 @@ use Rattle.pc_model.specs.History.{History}
 use Rattle.pc_types.specs.declared.Mode.TheVariants.{Shared, Exclusive}
 use Rattle.pc_types.specs.declared.Outcome.TheVariants.{Granted, Queued, Died}
 use Rattle.pc_types.specs.declared.Request.{Request}
-use Rattle.pc_types.specs.declared.limits.TheConstants.{MOST_FILES, MOST_FILE_ENTRIES, MOST_KEYS, MOST_KEY_BYTES, MOST_LOG_ENTRIES, MOST_POINTS, MOST_SESSIONS, MOST_TRANSACTIONS, MOST_VALUE_BYTES, MOST_WRITES, SPACE_BYTES}
+use Rattle.pc_types.specs.declared.limits.TheConstants.{MOST_CLAIMS, MOST_COLLAPSERS, MOST_FILES, MOST_FILE_ENTRIES, MOST_KEYS, MOST_KEY_BYTES, MOST_LOG_ENTRIES, MOST_PASSES, MOST_POINTS, MOST_SESSIONS, MOST_TRANSACTIONS, MOST_VALUE_BYTES, MOST_WORKERS, MOST_WRITES, SPACE_BYTES}
 use Rattle.pc_model.specs.Locks.{outcome, queue_after, queue_without}
 use Rattle.pc_model.specs.Points.{Triples, joined, laid}
 use Rattle.pc_model.specs.Files.{File, conflict}
@@ -128,6 +128,11 @@ pub record LimitRules : Type 0 where
   -- of a shelf's files, and of a file's entries
   pub most_files : MOST_FILES ≡ 65536
   pub most_file_entries : MOST_FILE_ENTRIES ≡ 4294967295
+  -- of a board's passes, and of a pass's claims; of the threads that collapse, and of those that run clients
+  pub most_passes : MOST_PASSES ≡ 65
+  pub most_claims : MOST_CLAIMS ≡ 4294967295
+  pub most_collapsers : MOST_COLLAPSERS ≡ 64
+  pub most_workers : MOST_WORKERS ≡ 64
   -- of the body of a log's entry, in bytes: that of the first format has no spaces
   pub most_body_bytes_first : most_body_bytes First ≡ 16844036
   pub most_body_bytes_second : most_body_bytes Second ≡ 16844548

@@ -1,8 +1,8 @@
 //! The board: claims and points of two passes, of all passes, and by two threads.
 ghost use Rattle.pc_board.specs.Passes.{IsOfBoard};
 
-use pc_board::{Board, BoardPass, BoardTotals, MOST_PASSES};
-use pc_types::{Point, Refusal};
+use pc_board::{Board, BoardPass, BoardTotals};
+use pc_types::{MOST_PASSES, Point, Refusal};
 use std::alloc::Global;
 use std::test::*;
 use std::thread::{Threads, join};

@@ -4,7 +4,7 @@ use Rattle.pc_types.specs.declared.Entry.{Entry}
 use Rattle.pc_model.specs.Files.{BaseFile}
 use Rattle.pc_model.specs.History.{log_of}
 use Rattle.pc_model.specs.Standing.{IsOfItsPoints}
-use Rattle.pc_board.specs.declared.limits.TheConstants.{MOST_PASSES}
+use Rattle.pc_types.specs.declared.limits.TheConstants.{MOST_PASSES}
 use Rattle.pc_board.specs.Passes.{Pass}
 use Rattle.pc_jobs.specs.declared.works.Client.{Client}
 use Rattle.pc_outcomes.specs.Leaving.{IsLegacy, commits_in}

@@ -1,5 +1,5 @@
 use Rattle.std.proofs.Common.{◌≡◌, ◌<◌, rules, refl, sym, ap, ◌∙◌, subst, arith}
-use Rattle.pc_board.specs.declared.limits.TheConstants.{MOST_CLAIMS}
+use Rattle.pc_types.specs.declared.limits.TheConstants.{MOST_CLAIMS}
 use Rattle.pc_board.specs.declared.calls.CallKind.TheVariants.{Claim}
 use Rattle.pc_board.specs.Calls.{calls_by, claims_of}
 use Rattle.pc_board.specs.Passes.{Pass, MakesCall, claims_made}
