@@ -1,27 +1,22 @@
 -- A file that represents all the files is their fold; and why they may not be folded.
-use Rattle.std.proofs.Common.{◌≡◌, ℕ, ◌≤◌, ◌<◌, ◌+◌, nat_lt, eqb, ◌||◌, not, Bool, true, false, cond, List, [], ◌∷◌, ◌++◌, map, Some, None, Option, Result, Ok, Err, is_some, inl, inr, ⊎_elim, refl, sym, ap, subst, ◌∙◌, arith}
+use Rattle.std.proofs.Common.{◌≡◌, ℕ, ◌≤◌, ◌<◌, ◌+◌, nat_lt, eqb, ◌||◌, not, Bool, true, false, cond, List, [], ◌∷◌, ◌++◌, Some, None, Option, Result, Ok, Err, is_some, inl, inr, ⊎_elim, refl, sym, ap, subst, ◌∙◌, arith}
 use Rattle.std.specs.Prelude.{MatchBool, MatchResult, IfOk, IsErr, IsErrAnd}
-use Rattle.std.specs.FinMap.{find}
-use Rattle.std.specs.FinMap.Entries.{length-put, is_some-find}
 use Rattle.std.proofs.lemmas.Bool.Decides.{nat_tests}
 use Rattle.std.proofs.lemmas.Bool.{ltb-true, ltb-false}
 use Rattle.pc_types.specs.declared.Refusal.{Refusal}
 use Rattle.pc_types.specs.declared.Refusal.TheVariants.{OutOfMemory, OtherRun, Conflict, Full}
 use Rattle.pc_types.specs.declared.limits.TheConstants.{MOST_FILE_ENTRIES}
-use Rattle.pc_model.specs.Maps.{get, insert, len}
+use Rattle.pc_model.specs.Maps.{get, len}
 use Rattle.pc_model.specs.Maps as map_of
 use Rattle.pc_model.specs.Sets as set
-use Rattle.pc_model.specs.Sets.{Set}
-use Rattle.pc_model.specs.Database.{key_cmp, key_order}
-use Rattle.pc_model.specs.Points.{AtPoint, Triples, newer, later, joined, joined_entries}
+use Rattle.pc_model.specs.Points.{AtPoint, Triples, later, joined}
 use Rattle.pc_model.specs.Files.{File, joined_file, conflict}
 use Rattle.pc_model.specs.Replies.{join_causes}
-use Rattle.pc_model.proofs.MapLaws.{get-entries, same_map}
-use Rattle.pc_model.proofs.SetLaws.{contains-from_list, same_set}
-use Rattle.pc_model.proofs.PairMapLaws.{tested}
-use Rattle.pc_model.proofs.CountLaws.{length_of_set}
+use Rattle.pc_model.proofs.MapLaws.{same_map}
+use Rattle.pc_model.proofs.SetLaws.{same_set}
 use Rattle.pc_model.proofs.ContentLaws.{contains-union}
 use Rattle.pc_model.proofs.JoinLaws.{get-joined}
+use Rattle.pc_model.proofs.TripleCounts.{len_sub}
 use Rattle.pc_part.specs.Joins.{first_cause, IsRefusedBy}
 use Rattle.pc_merge.specs.Given.{IsUnderAt}
 use Rattle.pc_merge.specs.Folds.{folded, has_other_run, NoneConflict, IsFold, IsFoldCause, Folds}
@@ -68,41 +63,6 @@ folded_reaches f (g ∷ fs) key x h = subst (Reaches x) (sym (get-joined f.tripl
 folded_point : (f : File) (fs : List File) (p : ℕ) → Among (HasPoint p) (f ∷ fs) → set.contains (folded f fs).points p ≡ true
 folded_point f [] p h = ⊎_elim (λ i. i) (λ e. absurd e) h
 folded_point f (g ∷ fs) p h = contains-union f.points (folded g fs).points p ∙ ⊎_elim (λ i. or_left (set.contains f.points p) (set.contains (folded g fs).points p) i) (λ r. or_right (set.contains f.points p) (set.contains (folded g fs).points p) (folded_point g fs p r)) h
-
--- ---- how many keys
-
-len_insert : (m : Triples) (k : List ℕ) (v : AtPoint) → len m ≤ len (insert m k v)
-unfolding map_of.insert
-len_insert m k v = by (is_some (find key_cmp k m.entries)) (length-put key_cmp key_order.total k v m.entries m.rises)
-  where
-    by : (b : Bool) → len (insert m k v) ≡ cond b (len m) (len m + 1) → len m ≤ len (insert m k v)
-    by true is = omega (arith, is)
-    by false is = omega (arith, is)
-
-pub len_entries : (m : Triples) (es : List (List ℕ × AtPoint)) → len m ≤ len (joined_entries m es)
-len_entries m [] = omega arith
-len_entries m (e ∷ es) = let one = len_insert (joined_entries m es) e.0 (newer (get m e.0) e.1) in let rest = len_entries m es in omega (arith, one, rest)
-
-keys_of : Triples → Set key_order
-keys_of m = set.from_list (map (λ e. e.0) m.entries)
-
-has_keys : (m : Triples) (q : List ℕ) → set.contains (keys_of m) q ≡ is_some (find key_cmp q m.entries)
-unfolding keys_of
-has_keys m q = contains-from_list key_order (map (λ e. e.0) m.entries) q ∙ sym (is_some-find key_cmp q m.entries)
-
--- if one has all keys of the other, it has no fewer
-len_sub : (m n : Triples) → ((q : List ℕ) (x : AtPoint) → get m q ≡ Some x → is_some (get n q) ≡ true) → len m ≤ len n
-len_sub m n sub = let more = len_entries m n.entries in let same : len (joined m n) ≡ len n = as_many in omega (arith, more, same)
-  where
-    both : (x y : Option AtPoint) → ((t : AtPoint) → x ≡ Some t → is_some y ≡ true) → is_some y ≡ is_some (later x y)
-    both None None h = refl
-    both None (Some b) h = refl
-    both (Some a) None h = h a refl
-    both (Some a) (Some b) h = refl
-
-    as_many : len (joined m n) ≡ len n
-    as_many = length_of_set (joined m n).entries (keys_of n) (tested (joined m n).rises) (λ q. has_keys n q ∙ ap is_some (sym (get-entries n q)) ∙ both (get m q) (get n q) (sub q) ∙ ap is_some (sym (get-joined m n q) ∙ get-entries (joined m n) q))
-        ∙ sym (length_of_set n.entries (keys_of n) (tested n.rises) (has_keys n))
 
 reached : (x : AtPoint) (y : Option AtPoint) → Reaches x y → is_some y ≡ true
 reached x None r = absurd r

@@ -19,6 +19,7 @@ use Rattle.pc_types.specs.declared.Phase.{Phase}
 use Rattle.pc_types.specs.declared.Phase.TheVariants.{Rest, Prepare, Resolve, Capture, Complete}
 use Rattle.pc_types.specs.declared.Class.TheVariants.{Before, During, After}
 use Rattle.pc_types.specs.Limits.{IsKey, IsValue}
+use Rattle.pc_types.specs.Phases.{next_phase, next_point}
 use Rattle.pc_model.specs.History.{History, Effect, effect, effect_of, log_of, entries_by, phase_of, phase_by, point_of, point_by, writes_of, writes_by, is_open, has_died}
 use Rattle.pc_model.specs.History.Effect.{Begins, Reads, Writes, Adds, Waits, Dies, Commits, Aborts, Moves, Takes, Shelves, Joins, Nothing}
 use Rattle.pc_model.specs.Database.{change_to, write_of, written, with_write}
@@ -31,7 +32,7 @@ use Rattle.pc_model.proofs.LegalEffectLaws.{settled, causes_idle, or_else_idle, 
 use Rattle.pc_model.specs.LegalEffects.{Fits, FitsMove, IsIdle}
 use Rattle.pc_model.specs.Locks.{is_waiting}
 use Rattle.pc_log.specs.Texts.{IsChange, IsEntry}
-use Rattle.pc_log.specs.Orders.{FollowFrom, next_phase, next_point}
+use Rattle.pc_log.specs.Orders.{FollowFrom}
 use Rattle.pc_log.specs.Laws.{LogsOfRunsHaveTexts}
 use Rattle.pc_log.proofs.LawfulWrites.{AreLawful, none_lawful, lawful_change, merges_to, lawful_with}
 

@@ -10,8 +10,8 @@ use Rattle.pc_types.specs.declared.Phase.TheVariants.{Rest, Prepare, Resolve, Ca
 use Rattle.pc_types.proofs.FieldLaws.{ok_is}
 use Rattle.pc_log.specs.declared.order.LastToken.{LastToken}
 use Rattle.pc_log.specs.Texts.{phase_number, IsEntry, IsTokenPoint}
-use Rattle.pc_log.specs.Orders.{next_phase, next_point, FollowFrom, comes_next, token_after}
-use Rattle.pc_types.specs.Phases.{same_phase}
+use Rattle.pc_log.specs.Orders.{FollowFrom, comes_next, token_after}
+use Rattle.pc_types.specs.Phases.{same_phase, next_phase, next_point}
 use Rattle.pc_log.specs.Reading.{phase_numbered}
 
 -- the entry keeps the order after the last token

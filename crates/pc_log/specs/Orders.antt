@@ -1,26 +1,13 @@
 -- The order of a log's tokens: five for each point, from its prepare to its rest, and the points in order from 1 up to
 -- 65,535.
-use Rattle.std.specs.Prelude.{◌≡◌, ℕ, ◌+◌, ◌==◌, Bool, ◌&&◌, nat_le, List, [], ◌∷◌, ⊤}
+use Rattle.std.specs.Prelude.{◌≡◌, ℕ, ◌==◌, Bool, ◌&&◌, nat_le, List, [], ◌∷◌, ⊤}
 use Rattle.pc_types.specs.declared.Entry.{Entry}
 use Rattle.pc_types.specs.declared.Entry.TheVariants.{Commit, Token}
 use Rattle.pc_types.specs.declared.Phase.{Phase}
-use Rattle.pc_types.specs.declared.Phase.TheVariants.{Rest, Prepare, Resolve, Capture, Complete}
-use Rattle.pc_types.specs.Phases.{same_phase}
+use Rattle.pc_types.specs.declared.Phase.TheVariants.{Rest}
+use Rattle.pc_types.specs.Phases.{same_phase, next_phase, next_point}
 use Rattle.pc_types.specs.declared.limits.TheConstants.{MOST_POINTS}
 use Rattle.pc_log.specs.declared.order.LastToken.{LastToken}
-
--- the phase after this one in the cycles
-abbrev pub next_phase : Phase → Phase
-next_phase Rest = Prepare
-next_phase Prepare = Resolve
-next_phase Resolve = Capture
-next_phase Capture = Complete
-next_phase Complete = Rest
-
--- the point of the next phase: that of a new cycle after rest
-abbrev pub next_point : Phase → ℕ → ℕ
-next_point Rest point = point + 1
-next_point phase point = point
 
 -- from this phase and point on, each token is the next one
 abbrev pub FollowFrom : Phase → ℕ → List Entry → Type 0

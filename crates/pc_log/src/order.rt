@@ -1,8 +1,8 @@
 //! The order of a log's tokens: five for each point, from its prepare to its rest, and the points in order from 1 up to
 //! 65,535.
 ghost use Rattle.std.specs.Prelude.{◌≡◌, ◌≤◌, true};
-ghost use Rattle.pc_log.specs.Orders.{comes_next, next_phase, next_point, no_token, token_after};
-ghost use Rattle.pc_types.specs.Phases.{same_phase};
+ghost use Rattle.pc_log.specs.Orders.{comes_next, no_token, token_after};
+ghost use Rattle.pc_types.specs.Phases.{same_phase, next_phase, next_point};
 
 use pc_types::{Entry, MOST_POINTS, Phase, Point};
 

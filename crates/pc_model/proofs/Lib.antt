@@ -43,3 +43,5 @@ pub mod ReplyKindLaws
 pub mod SessionCallLaws
 pub mod ReceiptLaws
 pub mod FileNumberLaws
+pub mod TripleCounts
+pub mod LogLimits

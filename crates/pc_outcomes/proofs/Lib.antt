@@ -1,6 +1,5 @@
 mod LegacyLaws
 mod KeyCounts
-mod LogLimits
 mod FewWriteLaws
 mod WrittenCounts
 mod RoomLaws

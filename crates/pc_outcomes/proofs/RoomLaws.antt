@@ -40,19 +40,8 @@ use Rattle.pc_model.proofs.RightReadLaws.{locked}
 use Rattle.pc_model.proofs.SetLaws.{some_or}
 use Rattle.pc_model.proofs.StandingLaws.{closed_stays, seal_closes, take_leaves}
 use Rattle.pc_model.proofs.WrittenKeyLaws.{unwritten_stays}
+use Rattle.pc_outcomes.proofs.WrittenCounts.{or_left, or_right, split}
 use Rattle.pc_outcomes.proofs.KeyCounts.{keys_len, keys_of, has_keys, len_below, map_below, one_insert}
-
-or_left : (a b : Bool) → a ≡ true → (a || b) ≡ true
-or_left true b is = refl
-or_left false b is = absurd (let bad : false ≡ true = is in cc)
-
-or_right : (a b : Bool) → b ≡ true → (a || b) ≡ true
-or_right true b is = refl
-or_right false b is = is
-
-split : {X : Type 0} (a b : Bool) → (a || b) ≡ true → (a ≡ true → X) → (b ≡ true → X) → X
-split true b is first second = first refl
-split false b is first second = second is
 
 -- a queue that has something without a transaction's request had something
 some_granted : (before rs : Queue) → not (is_empty (granted_behind before rs)) ≡ true → not (is_empty rs) ≡ true

@@ -46,15 +46,15 @@ token_writes_none n keys (Commit s ws ∷ log) few there =
     omega (arith, own, one, rest)
 token_writes_none n keys (Token phase point ∷ log) few there = let rest = written_more keys log (All-tail HasFewWrites (Token phase point) log few) in omega (arith, rest)
 
-or_left : (a b : Bool) → a ≡ true → (a || b) ≡ true
+pub or_left : (a b : Bool) → a ≡ true → (a || b) ≡ true
 or_left true b is = refl
 or_left false b is = absurd (let bad : false ≡ true = is in cc)
 
-or_right : (a b : Bool) → b ≡ true → (a || b) ≡ true
+pub or_right : (a b : Bool) → b ≡ true → (a || b) ≡ true
 or_right true b is = refl
 or_right false b is = is
 
-split : {X : Type 0} (a b : Bool) → (a || b) ≡ true → (a ≡ true → X) → (b ≡ true → X) → X
+pub split : {X : Type 0} (a b : Bool) → (a || b) ≡ true → (a ≡ true → X) → (b ≡ true → X) → X
 split true b is first second = first refl
 split false b is first second = second is
 

@@ -19,7 +19,7 @@ run_points p zero rest low high h = h
 run_points p (suc n) rest low high h = ((low, omega arith), run_points (p + 1) n rest (omega arith) (omega arith) h)
 
 -- the points of ranges are points of a part
-ranges_points : (least : ℕ) (ranges : List Range) → 1 ≤ least → RangesFrom least ranges → AllByRecursion IsPoint (points_in ranges)
+pub ranges_points : (least : ℕ) (ranges : List Range) → 1 ≤ least → RangesFrom least ranges → AllByRecursion IsPoint (points_in ranges)
 ranges_points least [] from h = tt
 ranges_points least (r ∷ ranges) from h =
     let low : least ≤ r.low = h.0 in
@@ -28,7 +28,7 @@ ranges_points least (r ∷ ranges) from h =
     run_points r.low (r.high + 1 - r.low) (points_in ranges) (omega arith) (omega arith) (ranges_points (r.high + 2) ranges (omega arith) h.3)
 
 -- a range has a point
-some_point : (ranges : List Range) → AreRanges ranges → 1 ≤ length (points_in ranges)
+pub some_point : (ranges : List Range) → AreRanges ranges → 1 ≤ length (points_in ranges)
 some_point [] h = absurd (omega (arith, h.0))
 some_point (r ∷ ranges) h =
     let high : r.low ≤ r.high = h.1.1 in

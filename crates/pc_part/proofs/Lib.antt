@@ -10,7 +10,7 @@ mod JoinLemmas
 mod JoinedFiles
 mod JoinedLists
 mod LaidLists
-mod LawfulParts
+pub mod LawfulParts
 pub mod LentLaws
 pub mod LocalSteps
 mod Magics

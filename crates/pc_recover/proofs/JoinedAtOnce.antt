@@ -11,7 +11,7 @@ use Rattle.pc_model.specs.Maps.{len}
 use Rattle.pc_model.specs.Files.{File, joined_file, conflict}
 use Rattle.pc_part.specs.Joins.{JoinsAssociate, JoinsMakeNoConflict}
 use Rattle.pc_merge.specs.Folds.{folded, has_other_run, NoneConflict, IsFold, IsFoldCause, Folds}
-use Rattle.pc_collapse.proofs.FoldedFiles.{len_entries}
+use Rattle.pc_model.proofs.TripleCounts.{len_entries}
 use Rattle.pc_recover.specs.Recovery.{unless}
 use Rattle.pc_recover.specs.Folding.{join_due, joined_on}
 

@@ -6,11 +6,12 @@ use Rattle.pc_types.specs.declared.Phase.{Phase}
 use Rattle.pc_types.specs.declared.Phase.TheVariants.{Rest, Prepare, Resolve, Capture, Complete}
 use Rattle.pc_types.specs.declared.Entry.{Entry}
 use Rattle.pc_types.specs.declared.Entry.TheVariants.{Commit, Token}
+use Rattle.pc_types.specs.Phases.{next_phase, next_point}
 use Rattle.pc_model.specs.Database.{Database, applied_all}
 use Rattle.pc_model.specs.Log.{after, front, behind, has_token, is_token_of, state_at}
 use Rattle.pc_model.specs.Standing.{PrecedesNext}
 use Rattle.pc_model.proofs.LogPieceLaws.{in_front}
-use Rattle.pc_log.specs.Orders.{FollowFrom, InOrder, next_phase, next_point}
+use Rattle.pc_log.specs.Orders.{FollowFrom, InOrder}
 use Rattle.pc_recover.specs.Recovery.{entries_after}
 use Rattle.pc_recover.specs.Restarts.{token_number}
 

@@ -1,5 +1,5 @@
 mod FolderBases
 mod FolderParts
 mod FolderRecovery
-mod RuleRefusals
+pub mod RuleRefusals
 mod TokenSearch

@@ -25,7 +25,7 @@ use Rattle.pc_server.specs.Acts.{AnswersRequest, commits_in, is_commit, log_size
 use Rattle.pc_server.specs.Turns.{AreCounts}
 use Rattle.pc_server.specs.declared.counts.Counts.{Counts}
 use Rattle.pc_server.proofs.FileLaws.{get_last, request_steps}
-use Rattle.pc_server.proofs.LogLimits.{log_within}
+use Rattle.pc_model.proofs.LogLimits.{log_within}
 
 -- the log has no more than it had, or one entry more, a commit or a token
 abbrev pub Follows : Bool → List Entry → List Entry → Type 0

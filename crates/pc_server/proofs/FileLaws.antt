@@ -39,7 +39,7 @@ use Rattle.pc_server.specs.Acts.{Act, Lead, AnswersRequest}
 use Rattle.pc_server.specs.Acts.Act.{Answered, WentOn}
 use Rattle.pc_server.specs.Files.{AreOfPoints, HasAllFiles, HasFile, HasNoMore, HasOnlyFiles, IsOfPoint, IsTextOf, KeepsOthers, Shelves}
 use Rattle.pc_server.specs.Inputs.{shelved}
-use Rattle.pc_server.proofs.LogLimits.{done_idle}
+use Rattle.pc_model.proofs.LogLimits.{done_idle}
 
 -- ---- places on a shelf
 

@@ -1,7 +1,6 @@
 mod ServerLaws
 mod ServiceLaws
 mod ServingLaws
-mod LogLimits
 mod FileLaws
 mod CountLaws
 mod AnsweredLaws

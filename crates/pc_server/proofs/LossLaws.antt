@@ -39,7 +39,7 @@ use Rattle.pc_server.specs.declared.service.Service.{Service}
 use Rattle.pc_server.proofs.ServerLaws.{Extends, lead_extends}
 use Rattle.pc_server.proofs.AnsweredLaws.{answered_entry, commit_stays}
 use Rattle.pc_server.proofs.FileLaws.{contains_at, second_has_part}
-use Rattle.pc_server.proofs.LogLimits.{log_within}
+use Rattle.pc_model.proofs.LogLimits.{log_within}
 use Rattle.pc_server.proofs.ServingLaws.{serving_ends, stopped_sent}
 
 -- what came back of a text that was written in part is a cut of it

@@ -9,14 +9,13 @@ use Rattle.std.specs.FinMap.Entries.{below_all}
 use Rattle.std.specs.Int.{w16, w32}
 use Rattle.std.proofs.lemmas.List.Elements.{All-contains, All-from_recursion}
 use Rattle.pc_types.specs.Counted.{one_more}
-use Rattle.pc_types.specs.Fields.{◌>>=◌, where_true, number_at, sized_key_at}
+use Rattle.pc_types.specs.Fields.{◌>>=◌, number_at}
 use Rattle.pc_types.specs.declared.Refusal.{Refusal}
-use Rattle.pc_types.specs.declared.Refusal.TheVariants.{BadLength, KeyOrder, Short, Trailing}
+use Rattle.pc_types.specs.declared.Refusal.TheVariants.{BadLength, Short, Trailing}
 use Rattle.pc_types.specs.declared.Triple.{Triple}
 use Rattle.pc_types.specs.declared.formats.Format.{Format}
-use Rattle.pc_types.proofs.FieldLaws.{bind_ok, where_ok, ok_is}
+use Rattle.pc_types.proofs.FieldLaws.{bind_ok, ok_is}
 use Rattle.pc_model.specs.Database.{KeysRise, key_cmp}
-use Rattle.pc_model.specs.Points.{AtPoint}
 use Rattle.pc_model.specs.TripleLists.{entries_of}
 use Rattle.pc_model.proofs.RisingLaws.{and_of, is_less, lesser_below}
 use Rattle.pc_part.specs.declared.ranges.Range.{Range}
@@ -30,31 +29,10 @@ use Rattle.pc_streams.specs.declared.reader.PartStage.TheVariants.{Unread, Among
 use Rattle.pc_streams.specs.Coming.{coming_at, coming_behind, coming_from, coming_of_bytes, part_coming, part_end_at}
 use Rattle.pc_streams.specs.Readers.{coming_of, stage_coming}
 use Rattle.pc_streams.specs.Sources.{text_left}
+use Rattle.pc_streams.proofs.LawfulNext.{Next, key_rises, triple, with_entry, with_key}
 use Rattle.pc_stream_join.specs.Joining.{IsJoinCause}
 
 -- ---- an entry that is read comes after the last key
-
-key_rises : (format : Format) (last : List ℕ) (count : ℕ) (bytes : List ℕ) (key : List ℕ × List ℕ) → next_key_at format last count bytes ≡ Ok key → is_lt (key_cmp last key.0) ≡ true
-unfolding next_key_at
-key_rises format last count bytes key is =
-    let k = bind_ok (sized_key_at format Short count bytes) (λ read. where_true (is_lt (key_cmp last read.0)) KeyOrder read) key is in
-    let w = where_ok (is_lt (key_cmp last k.0.0)) KeyOrder k.0 key k.2 in
-    subst (λ (x : List ℕ × List ℕ). is_lt (key_cmp last x.0) ≡ true) w.1 w.0
-
-abbrev There : Type 0
-There = AtPoint × List ℕ
-
-abbrev Next : Type 0
-Next = Option Triple × List ℕ
-
-abbrev triple : List ℕ → AtPoint → Triple
-triple key there = record { key = key; point = there.point; content = there.content }
-
-abbrev with_entry : List ℕ → There → Result Next Refusal
-with_entry key there = Ok (Some (triple key there.0), there.1)
-
-abbrev with_key : List Range → List ℕ × List ℕ → Result Next Refusal
-with_key ranges key = entry_at ranges key.1 >>= with_entry key.0
 
 abbrev Follows : List ℕ → Option Triple → Type 0
 Follows last None = ⊤

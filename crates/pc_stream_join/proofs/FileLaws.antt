@@ -1,6 +1,6 @@
 -- The text of a file by its header and its entries, and that a beginning of it is short.
-use Rattle.std.proofs.Common.{◌≡◌, ◌≤◌, ◌<◌, ◌+◌, ◌-◌, ◌^◌, ℕ, zero, suc, List, [], ◌∷◌, ◌++◌, append_assoc, append-nil, length, take, refl, sym, ap, subst, ◌∙◌, Option, Some, None, Err, arith}
-use Rattle.std.specs.List.{All, AllByRecursion, flat_map}
+use Rattle.std.proofs.Common.{◌≡◌, ◌≤◌, ◌<◌, ◌+◌, ◌-◌, ◌^◌, ℕ, List, [], ◌++◌, append_assoc, append-nil, length, take, refl, sym, ap, subst, ◌∙◌, Option, Some, None, Err, arith}
+use Rattle.std.specs.List.{All, flat_map}
 use Rattle.std.proofs.lemmas.List.{length-map, length-append, take-append-le}
 use Rattle.std.proofs.lemmas.List.Elements.{All-map, All-from_recursion}
 use Rattle.std.proofs.lemmas.List.Folds.{flat_map-map}
@@ -17,36 +17,16 @@ use Rattle.pc_model.proofs.PairMapLaws as pairs_of
 use Rattle.pc_part.specs.declared.ranges.Range.{Range}
 use Rattle.pc_part.specs.Bases.{IsWithinLimit}
 use Rattle.pc_part.specs.Lawful.{HasLimits, IsPartEntry, IsPartFile, IsPoint}
-use Rattle.pc_part.specs.Parts.{AreCovered, AreRanges, RangesFrom, bounds, bounds_of, points_from, points_in, points_of}
+use Rattle.pc_part.specs.Parts.{AreCovered, AreRanges, bounds, bounds_of, points_in, points_of}
 use Rattle.pc_types.specs.Fields.{magic_at}
 use Rattle.pc_part.specs.Reading.{header_at, part_at, part_fields_at}
 use Rattle.pc_part.specs.Texts.{bounds_text, end_text, entry_text_in, head_text, part_text, part_text_in, range_text, triple_text}
 use Rattle.pc_part.proofs.CutPartLaws.{part_cut}
+use Rattle.pc_part.proofs.LawfulParts.{ranges_points, some_point}
 use Rattle.pc_part.proofs.RangePointLaws.{items-points_of, ranges_of-points_of}
 use Rattle.pc_stream_join.specs.Joining.{LeavesShort, file_of}
 use Rattle.pc_stream_join.specs.Writing.{header_text}
 use Rattle.pc_stream_join.proofs.WritingLaws.{some_end}
-
--- ---- the points
-
-run_points : (p n : ℕ) (rest : List ℕ) → 1 ≤ p → p + n ≤ 65536 → AllByRecursion IsPoint rest → AllByRecursion IsPoint (points_from p n ++ rest)
-run_points p zero rest low high h = h
-run_points p (suc n) rest low high h = ((low, omega arith), run_points (p + 1) n rest (omega arith) (omega arith) h)
-
-ranges_points : (least : ℕ) (ranges : List Range) → 1 ≤ least → RangesFrom least ranges → AllByRecursion IsPoint (points_in ranges)
-ranges_points least [] from h = tt
-ranges_points least (r ∷ ranges) from h =
-    let low : least ≤ r.low = h.0 in
-    let high : r.low ≤ r.high = h.1 in
-    let limit : r.high ≤ 65535 = h.2 in
-    run_points r.low (r.high + 1 - r.low) (points_in ranges) (omega arith) (omega arith) (ranges_points (r.high + 2) ranges (omega arith) h.3)
-
-some_point : (ranges : List Range) → AreRanges ranges → 1 ≤ length (points_in ranges)
-some_point [] h = absurd (omega (arith, h.0))
-some_point (r ∷ ranges) h =
-    let high : r.low ≤ r.high = h.1.1 in
-    let many : r.high + 1 - r.low ≡ suc (r.high - r.low) = omega arith in
-    subst (λ n. 1 ≤ length (points_from r.low n ++ points_in ranges)) (sym many) (omega arith)
 
 -- ---- the file
 

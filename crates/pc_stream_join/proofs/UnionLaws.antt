@@ -1,13 +1,10 @@
 -- The union of sets of points, and the points of readers.
-use Rattle.std.proofs.Common.{◌≡◌, ℕ, zero, suc, ◌<◌, ◌||◌, get_or, Bool, true, false, List, [], ◌∷◌, length, take, is_some, Option, Some, cond, refl, sym, ap, ◌∙◌, arith}
-use Rattle.std.specs.Prelude.{⊤}
-use Rattle.std.specs.List.{list_any}
-use Rattle.std.specs.Ordering.{nat_cmp, eq_by_cmp}
-use Rattle.std.specs.FinMap.Entries.{is_some-find}
+use Rattle.std.proofs.Common.{◌≡◌, ℕ, zero, suc, ◌<◌, ◌||◌, get_or, Bool, true, false, List, [], ◌∷◌, length, take, is_some, refl, sym, ap, ◌∙◌, arith}
 use Rattle.pc_model.specs.Maps as map_of
 use Rattle.pc_model.specs.Sets as set
 use Rattle.pc_model.specs.Sets.{Set, number_order}
-use Rattle.pc_model.proofs.MapLaws.{get-insert, get-empty, get-entries}
+use Rattle.pc_model.proofs.MapLaws.{get-empty}
+use Rattle.pc_model.proofs.ContentLaws.{contains-union}
 use Rattle.pc_model.proofs.SetLaws.{same_set}
 use Rattle.pc_part.specs.Parts.{points_of}
 use Rattle.pc_streams.specs.declared.reader.PartReader.{PartReader}
@@ -23,22 +20,6 @@ or_comm true true = refl
 or_comm true false = refl
 or_comm false true = refl
 or_comm false false = refl
-
-contains-insert_all : (s : Set number_order) (ks : List ℕ) (q : ℕ) → set.contains (set.insert_all s ks) q ≡ (list_any (eq_by_cmp nat_cmp q) ks || set.contains s q)
-contains-insert_all s [] q = refl
-contains-insert_all s (k ∷ ks) q = ap is_some (get-insert (set.insert_all s ks) k tt q) ∙ put_or (eq_by_cmp nat_cmp q k) (map_of.get (set.insert_all s ks) q)
-    ∙ ap (λ t. eq_by_cmp nat_cmp q k || t) (contains-insert_all s ks q) ∙ sym (or_assoc (eq_by_cmp nat_cmp q k) (list_any (eq_by_cmp nat_cmp q) ks) (set.contains s q))
-  where
-    put_or : (b : Bool) (x : Option ⊤) → is_some (cond b (Some (tt {0})) x) ≡ (b || is_some x)
-    put_or true x = refl
-    put_or false x = refl
-
-contains-items : (s : Set number_order) (q : ℕ) → list_any (eq_by_cmp nat_cmp q) (set.items s) ≡ set.contains s q
-contains-items s q = sym (ap is_some (get-entries s q) ∙ is_some-find nat_cmp q s.entries)
-
--- the union has the points of both
-pub contains-union : (s t : Set number_order) (q : ℕ) → set.contains (set.union s t) q ≡ (set.contains s q || set.contains t q)
-contains-union s t q = contains-insert_all s (set.items t) q ∙ ap (λ b. b || set.contains s q) (contains-items t q) ∙ or_comm (set.contains t q) (set.contains s q)
 
 empty_has : (q : ℕ) → set.contains {o = number_order} set.empty q ≡ false
 empty_has q = ap is_some (get-empty number_order q)

@@ -15,7 +15,7 @@ use Rattle.pc_part.specs.Parts.{covers}
 use Rattle.pc_part.specs.Reading.{next_key_at, point_at, entry_at, next_entry_at}
 use Rattle.pc_streams.specs.Places.{IsNextEntry, IsLawfulNext}
 
-key_rises : (format : Format) (last : List ℕ) (count : ℕ) (bytes : List ℕ) (key : List ℕ × List ℕ) → next_key_at format last count bytes ≡ Ok key → is_lt (key_cmp last key.0) ≡ true
+pub key_rises : (format : Format) (last : List ℕ) (count : ℕ) (bytes : List ℕ) (key : List ℕ × List ℕ) → next_key_at format last count bytes ≡ Ok key → is_lt (key_cmp last key.0) ≡ true
 unfolding next_key_at
 key_rises format last count bytes key is =
     let k = bind_ok (sized_key_at format Short count bytes) (λ read. where_true (is_lt (key_cmp last read.0)) KeyOrder read) key is in
@@ -29,7 +29,7 @@ point_covered ranges bytes point is =
     let w = where_ok (covers ranges k.0.0) NotCovered k.0 point k.2 in
     subst (λ (x : ℕ × List ℕ). covers ranges x.0 ≡ true) w.1 w.0
 
-abbrev There : Type 0
+abbrev pub There : Type 0
 There = AtPoint × List ℕ
 
 abbrev at_point : ℕ → Option (List ℕ) → AtPoint
@@ -45,16 +45,16 @@ entry_covered ranges bytes there is =
     let c = bind_ok (content_at Short p.0.1) (with_content p.0.0) there p.2 in
     subst (λ (x : There). covers ranges x.0.point ≡ true) (ok_is (at_point p.0.0 c.0.0, c.0.1) there c.2) (point_covered ranges bytes p.0 p.1)
 
-abbrev Next : Type 0
+abbrev pub Next : Type 0
 Next = Option Triple × List ℕ
 
-abbrev triple : List ℕ → AtPoint → Triple
+abbrev pub triple : List ℕ → AtPoint → Triple
 triple key there = record { key = key; point = there.point; content = there.content }
 
-abbrev with_entry : List ℕ → There → Result Next Refusal
+abbrev pub with_entry : List ℕ → There → Result Next Refusal
 with_entry key there = Ok (Some (triple key there.0), there.1)
 
-abbrev with_key : List Range → List ℕ × List ℕ → Result Next Refusal
+abbrev pub with_key : List Range → List ℕ × List ℕ → Result Next Refusal
 with_key ranges key = entry_at ranges key.1 >>= with_entry key.0
 
 -- the bytes after a length

@@ -1,5 +1,5 @@
 pub mod ComingLaws
-mod LawfulNext
+pub mod LawfulNext
 mod NextGiven
 mod NumberLocal
 mod OfText

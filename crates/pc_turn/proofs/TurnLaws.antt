@@ -1,14 +1,14 @@
 -- What is appended of a log, piece after piece.
 use Rattle.std.proofs.Common.{◌≡◌, ◌≤◌, ◌+◌, ◌-◌, ℕ, Bool, true, false, List, [], ◌++◌, length, length-append, take, take_all, drop, append-nil, Option, Some, None, refl, sym, ap, subst, ◌∙◌, arith}
 use Rattle.std.specs.Prelude.{Result, Ok, Err, OnOk, is_ok, slice_range}
-use Rattle.std.proofs.Math.Seq.{take-add}
 use Rattle.std.specs.Io.KnownBytes.{Appends}
 use Rattle.std.specs.List.{flat_map}
-use Rattle.std.proofs.lemmas.List.{take-append-drop, take-append-le, drop-drop, drop_all}
+use Rattle.std.proofs.lemmas.List.{take-append-le, drop_all}
 use Rattle.std.proofs.lemmas.List.Concat.{flat_map-append}
 use Rattle.pc_types.specs.Counted.{AppendsBeginning}
 use Rattle.pc_types.specs.declared.Entry.{Entry}
 use Rattle.pc_types.proofs.KnownBytesLaws.{appends_nothing, appends_then, begins_after}
+use Rattle.pc_types.proofs.SliceLaws.{ranges, to_end}
 use Rattle.pc_log.specs.Texts.{entry_text}
 use Rattle.pc_turn.specs.Devices.{Grows}
 use Rattle.pc_turn.specs.Turns.{IsAppended, IsKept, rest_text}
@@ -37,20 +37,6 @@ grows_on a b c p q = (p.0 ++ q.0, appends_then a b c p.0 q.0 p.1 q.1)
 -- what stays
 pub grows_by_nothing : (a : Option (List ℕ)) → Grows a a
 grows_by_nothing a = ([], appends_nothing a)
-
--- some of a list, and then more of it
-ranges : {X : Type 0} (xs : List X) (a b c : ℕ) → a ≤ b → b ≤ c → slice_range xs a b ++ slice_range xs b c ≡ slice_range xs a c
-ranges xs a b c first next =
-    let place : b ≡ a + (b - a) = omega (arith, first) in
-    let both : c - a ≡ (b - a) + (c - b) = omega (arith, first, next) in
-    ap (λ (ys : List _). slice_range xs a b ++ take (c - b) ys) (ap (λ (n : ℕ). drop n xs) place ∙ sym (drop-drop (b - a) a xs))
-    ∙ (sym (take-add (b - a) (c - b) (drop a xs)) ∙ ap (λ (n : ℕ). take n (drop a xs)) (sym both))
-
--- and all that is left
-to_end : {X : Type 0} (xs : List X) (a b : ℕ) → a ≤ b → drop a xs ≡ slice_range xs a b ++ drop b xs
-to_end xs a b order =
-    let place : a + (b - a) ≡ b = omega (arith, order) in
-    sym (take-append-drop (b - a) (drop a xs)) ∙ ap (λ (ys : List _). slice_range xs a b ++ ys) (drop-drop (b - a) a xs ∙ ap (λ (n : ℕ). drop n xs) place)
 
 module _ {T : Type 0} (written kept : T → Option (List ℕ)) where
   -- some of the entries after the first ones were appended, and then more of them

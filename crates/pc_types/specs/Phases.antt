@@ -1,5 +1,5 @@
--- When two phases are the same, and two classes.
-use Rattle.std.specs.Prelude.{Bool, true, false}
+-- When two phases are the same, and two classes; and the order of phases in the cycles of points.
+use Rattle.std.specs.Prelude.{Bool, true, false, ℕ, ◌+◌}
 use Rattle.pc_types.specs.declared.events.Class.{Class}
 use Rattle.pc_types.specs.declared.events.Class.TheVariants.{Before, During, After}
 use Rattle.pc_types.specs.declared.events.Phase.{Phase}
@@ -20,3 +20,16 @@ same_class Before Before = true
 same_class During During = true
 same_class After After = true
 same_class a b = false
+
+-- the phase after a phase in the cycles
+abbrev pub next_phase : Phase → Phase
+next_phase Rest = Prepare
+next_phase Prepare = Resolve
+next_phase Resolve = Capture
+next_phase Capture = Complete
+next_phase Complete = Rest
+
+-- the point when that phase is entered: a new cycle, after rest, has the next one
+abbrev pub next_point : Phase → ℕ → ℕ
+next_point Rest point = point + 1
+next_point other point = point

@@ -12,6 +12,7 @@ use Rattle.pc_types.specs.declared.Refusal.{Refusal}
 use Rattle.pc_types.specs.declared.Reply.{Reply}
 use Rattle.pc_types.specs.declared.Reply.TheVariants as told
 use Rattle.pc_types.specs.declared.Step.{Step}
+use Rattle.pc_types.specs.Phases.{next_phase, next_point}
 use Rattle.pc_model.specs.History.{History, Effect, effect, effect_of, effect_of_move, effect_of_take, effect_of_done, phase_by, phase_of, point_by, point_of}
 use Rattle.pc_model.specs.History.Effect.{Moves, Shelves, Nothing}
 use Rattle.pc_model.specs.Files.{File, shelf, shelved_by}
@@ -27,7 +28,7 @@ use Rattle.pc_board.specs.Passes.{Pass}
 use Rattle.pc_latch.specs.Cycles.{next_event, IsCalled, IsAdvance, IsTakeCalled, done_among, entered_by, phases_entered}
 use Rattle.pc_latch.proofs.CycleLaws.{phase_known, point_known, entered_known, shelf_known, right_before}
 use Rattle.pc_workers.proofs.BoardCalls.{done_append}
-use Rattle.pc_workers.specs.Checkpointing.{next_phase, next_point, HasReached, HasStood, HasTurned, IsHeldUp, HasPublished, HasBrokenOff, point_named}
+use Rattle.pc_workers.specs.Checkpointing.{HasReached, HasStood, HasTurned, IsHeldUp, HasPublished, HasBrokenOff, point_named}
 
 own_event : (phase : Phase) → session_of (next_event phase) ≡ 0
 own_event Rest = refl

@@ -1,10 +1,9 @@
 -- The text that a logger writes, piece after piece; and that its text and the rest's are together the text of the whole log.
 use Rattle.std.proofs.Common.{◌≡◌, ◌≤◌, ◌+◌, ◌-◌, ◌⊎◌, ℕ, List, [], ◌++◌, length, take, drop, append-nil, Option, Some, None, Ok, Err, refl, sym, ap, subst, ◌∙◌, inl, inr, append_assoc, arith}
 use Rattle.std.specs.Prelude.{Result, IfOk, slice_range}
-use Rattle.std.proofs.Math.Seq.{take-add}
 use Rattle.std.specs.Io.KnownBytes.{Appends, Keeps}
 use Rattle.std.specs.List.{flat_map}
-use Rattle.std.proofs.lemmas.List.{take-append-drop, drop-drop, drop_all}
+use Rattle.std.proofs.lemmas.List.{take-append-drop, drop_all}
 use Rattle.std.proofs.lemmas.List.Concat.{flat_map-append}
 use Rattle.pc_types.specs.Tallies.{Puts}
 use Rattle.pc_types.specs.declared.Entry.{Entry}
@@ -13,6 +12,7 @@ use Rattle.pc_types.specs.declared.refusal.Refusal.TheVariants.{OutOfMemory}
 use Rattle.pc_types.specs.declared.tally.Tally.{Tally}
 use Rattle.pc_types.proofs.KnownBytesLaws.{appends_then, appends_nothing}
 use Rattle.pc_types.proofs.PutsLaws.{puts_then, puts_stop}
+use Rattle.pc_types.proofs.SliceLaws.{ranges, to_end}
 use Rattle.pc_log.specs.Texts.{header_text, entry_text, log_text}
 use Rattle.pc_shared.specs.Written.{HasGoneOut}
 use Rattle.pc_workers.specs.Logging.{FailsBehind, Flushes, rest_text}
@@ -29,20 +29,6 @@ grown_stays None b c x p q = tt
 grown_stays (Some a) None c x p q = absurd p
 grown_stays (Some a) (Some b) None x p q = absurd q
 grown_stays (Some a) (Some b) (Some c) x p q = q ∙ p
-
--- some of a list, and then more of it
-ranges : {X : Type 0} (xs : List X) (a b c : ℕ) → a ≤ b → b ≤ c → slice_range xs a b ++ slice_range xs b c ≡ slice_range xs a c
-ranges xs a b c first next =
-    let place : b ≡ a + (b - a) = omega (arith, first) in
-    let both : c - a ≡ (b - a) + (c - b) = omega (arith, first, next) in
-    ap (λ (ys : List _). slice_range xs a b ++ take (c - b) ys) (ap (λ (n : ℕ). drop n xs) place ∙ sym (drop-drop (b - a) a xs))
-    ∙ (sym (take-add (b - a) (c - b) (drop a xs)) ∙ ap (λ (n : ℕ). take n (drop a xs)) (sym both))
-
--- and all that is left
-to_end : {X : Type 0} (xs : List X) (a b : ℕ) → a ≤ b → drop a xs ≡ slice_range xs a b ++ drop b xs
-to_end xs a b order =
-    let place : a + (b - a) ≡ b = omega (arith, order) in
-    sym (take-append-drop (b - a) (drop a xs)) ∙ ap (λ (ys : List _). slice_range xs a b ++ ys) (drop-drop (b - a) a xs ∙ ap (λ (n : ℕ). drop n xs) place)
 
 module _ {T : Type 0} (contents : T → Option (List ℕ)) where
   -- a text that went out, and then a flush

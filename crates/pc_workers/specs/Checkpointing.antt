@@ -9,6 +9,7 @@ use Rattle.pc_types.specs.declared.Refusal.TheVariants as refusal
 use Rattle.pc_types.specs.declared.limits.TheConstants.{MOST_FILES, MOST_POINTS}
 use Rattle.pc_types.specs.declared.Reply.{Reply}
 use Rattle.pc_types.specs.declared.Reply.TheVariants as told
+use Rattle.pc_types.specs.Phases.{next_phase, next_point}
 use Rattle.pc_model.specs.Files.{shelf}
 use Rattle.pc_model.specs.History.{History, phase_of, point_of}
 use Rattle.pc_model.specs.Headline.{TakesPointValue}
@@ -17,19 +18,6 @@ use Rattle.pc_model.specs.Calls.{IsBeginning, IsAnswered}
 use Rattle.pc_board.specs.Passes.{Pass}
 use Rattle.pc_latch.specs.Cycles.{next_event, phases_entered, done_among}
 use Rattle.pc_workers.specs.Boards.{MakesCalls, publications}
-
--- the phase after a phase
-abbrev pub next_phase : Phase → Phase
-next_phase Rest = Prepare
-next_phase Prepare = Resolve
-next_phase Resolve = Capture
-next_phase Capture = Complete
-next_phase Complete = Rest
-
--- the point when that phase is entered: at the begin of a cycle it is the next one
-abbrev pub next_point : Phase → ℕ → ℕ
-next_point Rest point = point + 1
-next_point other point = point
 
 -- the phases of the point's cycle, in their order
 abbrev pub whole_cycle : ℕ → List (Phase × ℕ)
