@@ -8,10 +8,9 @@ ghost use Rattle.pc_part.specs.Lent.{IsKept, entry_in};
 ghost use Rattle.pc_part.specs.Texts.{triple_text};
 
 use crate::encoding::put_entry;
-use crate::heads::head_of;
 use crate::lent_entry::LentEntry;
 use pc_taken::LentTriple;
-use pc_types::{Format, Key, Point, SPACE_BYTES, Tally, Triple, Value, pairs_are_keys};
+use pc_types::{Format, Key, Point, SPACE_BYTES, Tally, Triple, Value, head_of, pairs_are_keys};
 use std::alloc::{AllocError, Global};
 use std::marker::Model;
 

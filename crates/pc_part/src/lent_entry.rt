@@ -11,9 +11,11 @@ ghost use Rattle.pc_part.specs.Parts.{RangesFrom};
 ghost use Rattle.pc_part.specs.Reading.{entry_at, next_entry_at, next_key_at};
 
 use crate::decoding::read_point;
-use crate::heads::{head_in_space_0, head_of};
+use crate::heads::head_in_space_0;
 use crate::ranges::Range;
-use pc_types::{Format, MOST_VALUE_BYTES, Refusal, read_bytes, read_key_text, read_u16, read_u32};
+use pc_types::{
+    Format, MOST_VALUE_BYTES, Refusal, head_of, read_bytes, read_key_text, read_u16, read_u32,
+};
 use std::marker::Model;
 
 /// An entry of a part, borrowed from its text. A contract sees the entry.

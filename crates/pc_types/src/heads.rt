@@ -1,12 +1,13 @@
 //! The first bytes of a key as one number.
-ghost use Rattle.std.specs.Prelude.{◌≡◌, ◌≤◌, length};
+ghost use Rattle.std.specs.Prelude.{◌≡◌, ◌≤◌, ◌<◌, length};
 ghost use Rattle.pc_types.specs.FieldForms.{IsBytes};
 ghost use Rattle.pc_types.specs.Heads.{head, spelled};
 
 use crate::limits::SPACE_BYTES;
 
 /// The head of a key, which is given by its space's two bytes and its own after them.
-pub(crate) fn head_of(key: &[u8]) -> u64
+#[inline(always)]
+pub fn head_of(key: &[u8]) -> u64
     requires { SPACE_BYTES ≤ length key.now }
     ensures head { result ≡ head key.now }
     ensures bytes { IsBytes key.now }
@@ -20,10 +21,25 @@ pub(crate) fn head_of(key: &[u8]) -> u64
     }
 }
 
-// The first eight bytes as one number, the highest first, with zeros after fewer.
-fn first_eight(bytes: &[u8]) -> u64
+/// The first eight bytes as one number, the highest first, with zeros after fewer.
+#[inline(always)]
+pub fn first_eight(bytes: &[u8]) -> u64
     ensures number { result ≡ spelled 8 0 bytes.now }
     ensures bytes { IsBytes bytes.now }
+{
+    if 8 <= bytes.len() {
+        return u64::from_be_bytes([
+            bytes[0], bytes[1], bytes[2], bytes[3], bytes[4], bytes[5], bytes[6], bytes[7],
+        ]);
+    }
+    first_few(bytes)
+}
+
+// The same of fewer than eight.
+#[inline(never)]
+fn first_few(bytes: &[u8]) -> u64
+    requires { length bytes.now < 8 }
+    ensures { result ≡ spelled 8 0 bytes.now }
 {
     match bytes {
         [] => 0,
@@ -33,7 +49,6 @@ fn first_eight(bytes: &[u8]) -> u64
         [a, b, c, d] => u64::from_be_bytes([*a, *b, *c, *d, 0, 0, 0, 0]),
         [a, b, c, d, e] => u64::from_be_bytes([*a, *b, *c, *d, *e, 0, 0, 0]),
         [a, b, c, d, e, f] => u64::from_be_bytes([*a, *b, *c, *d, *e, *f, 0, 0]),
-        [a, b, c, d, e, f, g] => u64::from_be_bytes([*a, *b, *c, *d, *e, *f, *g, 0]),
-        [a, b, c, d, e, f, g, h, ..] => u64::from_be_bytes([*a, *b, *c, *d, *e, *f, *g, *h]),
+        [a, b, c, d, e, f, g, ..] => u64::from_be_bytes([*a, *b, *c, *d, *e, *f, *g, 0]),
     }
 }

@@ -29,6 +29,7 @@ pub use fields::{
 };
 pub use formats::Format;
 pub use gate::{Gate, GatePlace, OpenGate};
+pub use heads::{first_eight, head_of};
 pub use keys::Key;
 pub use laws::{keys_are_ordered, keys_are_pairs, pairs_are_keys};
 pub use limits::{
