@@ -4,7 +4,6 @@ pub mod Finds
 pub mod Sitters
 pub mod Written
 pub mod Lent
-pub mod Waking
 pub mod Granted
 pub mod Advances
 pub mod Takes

@@ -9,7 +9,6 @@ mod logged;
 mod session;
 mod store;
 mod takes;
-mod waits;
 mod written;
 
 pub use closing::Closed;
@@ -21,4 +20,3 @@ pub use pc_txn::Commits;
 pub use session::{CallAnswer, LentReceipt, Session};
 pub use store::{Advanced, Opened, Shared, Turn, UnderLatch, pause};
 pub use takes::{Takes, TakesEnd};
-pub use waits::{Waits, Woken};

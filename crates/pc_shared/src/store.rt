@@ -17,12 +17,11 @@ ghost use Rattle.pc_latch.specs.Tickets.{HasNoFile, IsNoTicket};
 ghost use Rattle.pc_shared.specs.Advances.{EndsWith};
 ghost use Rattle.pc_shared.specs.Granted.{HasGranted};
 ghost use Rattle.pc_shared.specs.Sitters.{new_sitters, IsLeftByStore, AreSittersApart, HasAll, LacksOne};
-ghost use Rattle.pc_shared.specs.Waking.{none_wait, woken_by, noted};
+ghost use Rattle.pc_waiting.specs.Waking.{none_wait, woken_by, noted};
 
 use crate::closing::{Closed, close};
 use crate::logged::{LastEntry, LogBatch, Logged};
 use crate::session::Session;
-use crate::waits::{News, Waits, Woken};
 use crate::written::Written;
 use pc_engine::World;
 use pc_latch::{Latched, LogPass, LogTexts, PartTicket};
@@ -32,6 +31,7 @@ use pc_tie::{
 };
 use pc_txn::SessionNotes;
 use pc_types::{FileNo, Lsn, MOST_KEYS, MOST_SESSIONS, Refusal, Reply, SessionNo};
+use pc_waiting::{News, Waits, Woken};
 use std::alloc::Global;
 use std::hash::RandomState;
 use std::marker::Model;

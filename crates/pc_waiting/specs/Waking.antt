@@ -2,11 +2,11 @@
 use Rattle.std.specs.Prelude.{ℕ, ◌+◌, ◌-◌, ◌^◌, ◌%◌, min, nat_lt, ◌&&◌, ◌==◌, not, Bool, true, false, if◌then◌else◌}
 use Rattle.pc_types.specs.declared.Reply.{Reply}
 use Rattle.pc_types.specs.declared.Reply.TheVariants as told
-use Rattle.pc_shared.specs.declared.waits.Awaited.{Awaited}
-use Rattle.pc_shared.specs.declared.waits.News.{News}
-use Rattle.pc_shared.specs.declared.waits.News.TheVariants.{Change, Phase}
-use Rattle.pc_shared.specs.declared.waits.Waits.{Waits}
-use Rattle.pc_shared.specs.declared.waits.Woken.{Woken}
+use Rattle.pc_waiting.specs.declared.waits.Awaited.{Awaited}
+use Rattle.pc_waiting.specs.declared.waits.News.{News}
+use Rattle.pc_waiting.specs.declared.waits.News.TheVariants.{Change, Phase}
+use Rattle.pc_waiting.specs.declared.waits.Waits.{Waits}
+use Rattle.pc_waiting.specs.declared.waits.Woken.{Woken}
 
 -- No entry is waited for: none has this number.
 abbrev pub none_due : ℕ

@@ -1,14 +1,13 @@
 //! The calls that wait at a store's latch, and how often the store has changed.
-ghost use Rattle.std.specs.Prelude.{◌≡◌, ◌↔◌, ◌==◌, ◌||◌, ◌&&◌, ◌+◌, ◌-◌, ◌^◌, not, nat_lt, min, if◌then◌else◌, ℕ, true, false};
-ghost use Rattle.pc_shared.specs.Asked.{is_wait};
-ghost use Rattle.pc_shared.specs.Waking.{come, is_awaited, one_more, one_less, of_news, with_news, nobody, none_come, none_due, none_wait, woken_by, noted, woken_by_end};
+ghost use Rattle.std.specs.Prelude.{◌≡◌, ◌||◌, ◌-◌, not, nat_lt, min, if◌then◌else◌, true, false};
+ghost use Rattle.pc_waiting.specs.Waking.{come, is_awaited, one_more, one_less, of_news, with_news, nobody, none_come, none_due, none_wait, woken_by, noted, woken_by_end};
 
 use pc_sessions::SessionSet;
-use pc_types::{Lsn, Refusal, Reply};
+use pc_types::{Lsn, Reply};
 
 /// News for which a call may wait, besides locks.
 #[derive(Clone, Copy, Debug, PartialEq, Eq)]
-pub(crate) enum News {
+pub enum News {
     /// The store changes.
     Change,
     /// The phase of the checkpoint's cycle changes.
@@ -17,7 +16,7 @@ pub(crate) enum News {
 
 /// How often the news has come, and the number of calls that wait for it.
 #[derive(Drop)]
-pub(crate) struct Awaited {
+pub struct Awaited {
     count: u64,
     waiting: u64,
 }
@@ -61,8 +60,8 @@ impl Awaited {
 /// log entry that is waited for, and whether the last commit was marked.
 #[derive(Drop)]
 pub struct Waits {
-    // The sessions whose calls sleep until their request is granted.
-    pub(crate) for_locks: SessionSet,
+    /// The sessions whose calls sleep until their request is granted.
+    pub for_locks: SessionSet,
     changes: Awaited,
     phases: Awaited,
     due: u32,
@@ -75,17 +74,14 @@ const NONE_DUE: u32 = u32::MAX;
 /// The calls to wake.
 #[derive(Drop)]
 pub struct Woken {
-    pub(crate) for_locks: bool,
-    pub(crate) for_change: bool,
-    pub(crate) for_phase: bool,
-    pub(crate) for_commit: bool,
-}
-
-// Whether the reply says that the session's request waits: it was put into its queue now, or is there and not yet granted.
-pub(crate) fn is_wait(reply: &Reply) -> bool
-    ensures { result ≡ is_wait reply.now }
-{
-    matches!(reply, Reply::Wait | Reply::Refused(Refusal::StillWaiting))
+    /// Those whose request may have been granted.
+    pub for_locks: bool,
+    /// Those that wait for a change of the store.
+    pub for_change: bool,
+    /// Those that wait for a change of the phase.
+    pub for_phase: bool,
+    /// The one that waits for the commit of an entry.
+    pub for_commit: bool,
 }
 
 impl Woken {
@@ -98,8 +94,8 @@ impl Woken {
 }
 
 impl Waits {
-    // No call waits, and nothing has changed.
-    pub(crate) fn new() -> Waits
+    /// No call waits, and nothing has changed.
+    pub fn new() -> Waits
         ensures { result ≡ none_wait }
     {
         Waits {
@@ -111,8 +107,8 @@ impl Waits {
         }
     }
 
-    // How often it has come.
-    pub(crate) fn count(&self, news: News) -> u64
+    /// How often the news has come; after 2^64 - 1 it goes on from 0.
+    pub fn count(&self, news: News) -> u64
         ensures { result ≡ (of_news self.now news).count }
     {
         match news {
@@ -121,8 +117,8 @@ impl Waits {
         }
     }
 
-    // One more call waits for it.
-    pub(crate) fn begin_waiting(&mut self, news: News)
+    /// One more call waits for the news.
+    pub fn begin_waiting(&mut self, news: News)
         ensures { self.new ≡ with_news self.old news (one_more (of_news self.old news)) }
     {
         match news {
@@ -131,8 +127,8 @@ impl Waits {
         }
     }
 
-    // One fewer call waits for it.
-    pub(crate) fn end_waiting(&mut self, news: News)
+    /// One fewer call waits for the news.
+    pub fn end_waiting(&mut self, news: News)
         ensures { self.new ≡ with_news self.old news (one_less (of_news self.old news)) }
     {
         match news {
@@ -141,9 +137,9 @@ impl Waits {
         }
     }
 
-    // Notes the reply, and returns the calls to wake: those that wait for its news, and, if it ends a transaction and so releases
-    // locks, those that wait for locks.
-    pub(crate) fn note(&mut self, reply: &Reply) -> Woken
+    /// Notes the reply, and returns the calls to wake: those that wait for its news, and, if it ends a transaction and so releases
+    /// locks, those that wait for locks.
+    pub fn note(&mut self, reply: &Reply) -> Woken
         ensures woken { result ≡ woken_by self.old reply.now }
         ensures noted { self.new ≡ noted self.old reply.now }
     {
@@ -172,8 +168,8 @@ impl Waits {
         }
     }
 
-    // Notes the reply if that wakes no call; otherwise false, and nothing is noted.
-    pub(crate) fn note_alone(&mut self, reply: &Reply) -> bool
+    /// Notes the reply if that wakes no call; otherwise false, and nothing is noted.
+    pub fn note_alone(&mut self, reply: &Reply) -> bool
         ensures alone { result ≡ true → woken_by self.old reply.now ≡ nobody }
         ensures noted { self.new ≡ (if result then noted self.old reply.now else self.old) }
     {
@@ -189,8 +185,8 @@ impl Waits {
         true
     }
 
-    // The end was marked, which counts as a change of the store and of its phase.
-    pub(crate) fn end(&mut self) -> Woken
+    /// The end was marked, which counts as a change of the store and of its phase.
+    pub fn end(&mut self) -> Woken
         ensures woken { result ≡ woken_by_end self.old }
         ensures noted { self.new ≡ record self.old { changes = come self.old.changes; phases = come self.old.phases } }
     {
@@ -202,22 +198,22 @@ impl Waits {
         }
     }
 
-    // Marks the last commit.
-    pub(crate) fn mark_last(&mut self)
+    /// Marks the last commit.
+    pub fn mark_last(&mut self)
         ensures { self.new ≡ record self.old { has_last = true } }
     {
         self.has_last = true;
     }
 
-    // Whether the last commit was marked.
-    pub(crate) fn is_last(&self) -> bool
+    /// Whether the last commit was marked.
+    pub fn is_last(&self) -> bool
         ensures { result ≡ self.now.has_last }
     {
         self.has_last
     }
 
-    // The entry of this number is waited for too.
-    pub(crate) fn await_commit(&mut self, number: u32)
+    /// The entry of this number is waited for too.
+    pub fn await_commit(&mut self, number: u32)
         ensures { self.new ≡ record self.old { due = min self.old.due number } }
     {
         self.due = self.due.min(number);
