@@ -1,6 +1,5 @@
 -- The first bytes of a key as one number.
 use Rattle.std.specs.Prelude.{ℕ, zero, suc, ◌+◌, ◌*◌, ◌/◌, ◌^◌, List, [], ◌∷◌, drop}
-use Rattle.pc_types.specs.declared.limits.TheConstants.{SPACE_BYTES}
 
 -- the number of that many digits of base 256 after n: the bytes, and after the last of them zeros
 abbrev pub spelled : ℕ → ℕ → List ℕ → ℕ
@@ -16,4 +15,4 @@ headed (suc space) own = 2 ^ 63 + (suc space * 2 ^ 47 + own / 2 ^ 17)
 
 -- the head of a key, as of one with zeros after it
 abbrev pub head : List ℕ → ℕ
-head key = headed (spelled SPACE_BYTES 0 key) (spelled 8 0 (drop SPACE_BYTES key))
+head key = headed (spelled 2 0 key) (spelled 8 0 (drop 2 key))
