@@ -183,6 +183,8 @@ def point_cases(folder):
     yield Case("a point in a space", (*words, "--space", "7"), 0, lines_of({key: pairs[key] for key in pairs if key[0] == 7}))
     yield Case("a point of a prefix", (*words, "--prefix", "k1"), 0, lines_of({key: pairs[key] for key in pairs if key[1].startswith(b"k1")}))
     yield Case("a point in JSON", (*words, "--json"), 0, json_cases.json_lines(pairs))
+    lacked = b"pcalc: pointed0: NoPoint\n  neither its parts nor its log reach the point of --point\n"
+    yield Case("a point that is lacked, explained", ("dump", "pointed0", "--point", "9", "--explain"), 1, err=lacked)
     yield Case("a point to a full output", words, 1, output=FULL)
     yield Case("a point of no folder", ("dump", "nowhere", "--point", "1"), 1, err=b"pcalc: base.pcb: NoFile\n")
     yield Case("point 0", ("dump", "pointed0", "--point", "0"), 2, err=[b"error: invalid value '0' for '--point <N>': 0 is not in 1..=65535\n"])

@@ -11,7 +11,7 @@ pub fn meaning_of(word: &[u8]) -> Option<&'static [u8]> {
     None
 }
 
-const MEANINGS: [(&[u8], &[u8]); 23] = [
+const MEANINGS: [(&[u8], &[u8]); 24] = [
     (b"Short", b"the bytes end within a field"),
     (
         b"BadMagic",
@@ -54,6 +54,10 @@ const MEANINGS: [(&[u8], &[u8]); 23] = [
         b"it has no generation that counts: --create begins one",
     ),
     (b"NoFile", b"there is no such file"),
+    (
+        b"NoPoint",
+        b"neither its parts nor its log reach the point of --point",
+    ),
     (b"Device", b"it can't be used"),
     (
         b"Damaged",
