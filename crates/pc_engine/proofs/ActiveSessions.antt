@@ -7,8 +7,9 @@ use Rattle.pc_model.specs.Files.{numbers_to}
 use Rattle.pc_model.specs.History.{History, Effect, class_of, class_by, phase_of, begun, is_open, open_by, number_of, number_by, has_died, died_by, writes_of, writes_by}
 use Rattle.pc_types.specs.declared.Class.{Class}
 use Rattle.pc_types.specs.Phases.{same_class}
-use Rattle.pc_engine.specs.Sessions.{with_session, is_of, count_of}
-use Rattle.pc_engine.specs.Store.{Active, active_in as session_at}
+use Rattle.pc_transactions.specs.Sessions.{with_session, is_of, count_of}
+use Rattle.pc_engine.specs.Store.{active_in as session_at}
+use Rattle.pc_transactions.specs.Actives.{Active}
 use Rattle.pc_engine.specs.Stands.{active_after}
 
 -- the number is no session's

@@ -1,5 +1,5 @@
 -- The reply that is owed if a cause applies.
-use Rattle.pc_engine.specs.Adds.{add_causes, GoesOn, IsRefusedFor, sum_in}
+use Rattle.pc_transactions.specs.Adds.{add_causes, GoesOn, IsRefusedFor, sum_in}
 use Rattle.pc_types.specs.Changes.{number_of, sum_if, added, can_add}
 use Rattle.pc_types.specs.declared.Outcome.TheVariants.{Granted, Queued, Died}
 use Rattle.pc_types.specs.declared.Change.TheVariants.{Add}
@@ -16,8 +16,8 @@ use Rattle.pc_types.specs.declared.Outcome.{Outcome}
 use Rattle.pc_model.specs.Database.{change_to, write_of, written}
 use Rattle.pc_model.specs.Replies.{first_refusal, by_outcome, is_granted}
 use Rattle.pc_answers.specs.Replies.{write_reply}
-use Rattle.pc_engine.specs.Ongoing.{Ongoing, own, after_answer}
-use Rattle.pc_engine.specs.Sessions.{with_session, after_writing, if_granted, writes_in, seen_in}
+use Rattle.pc_transactions.specs.Ongoing.{Ongoing, own, after_answer}
+use Rattle.pc_transactions.specs.Sessions.{with_session, after_writing, if_granted, writes_in, seen_in}
 use Rattle.pc_engine.specs.Steps.{OpenCause, WriteCause, Gets, WritesKey, Commits, is_log_full, Owes, outcome_in, after_asking, write_causes, adding_causes, AddsTo}
 use Rattle.pc_records.specs.RowSteps.{is_full_for, why_refused}
 

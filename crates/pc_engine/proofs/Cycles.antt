@@ -38,7 +38,7 @@ use Rattle.pc_engine.specs.Steps.{after_moving, after_sealing, start_causes, mov
 use Rattle.pc_engine.specs.Stands.{IsReadOff, Stands, Follows, by_key}
 use Rattle.pc_records.proofs.FollowingLaws.{same_records}
 use Rattle.pc_records.proofs.CycleLaws.{closed_records, left_records, taken_value}
-use Rattle.pc_engine.specs.Sessions.{count_of}
+use Rattle.pc_transactions.specs.Sessions.{count_of}
 use Rattle.pc_records.specs.Rows.{record_of, at_point}
 use Rattle.pc_engine.proofs.ActiveSessions.{active_by, count_now}
 use Rattle.pc_engine.proofs.Gathered.{apart_from, by_key_more, by_key_none, count_by_key, earlier_apart, front_once, same_triples}

@@ -29,13 +29,14 @@ use Rattle.pc_records.proofs.FollowingLaws.{same_records}
 use Rattle.pc_records.proofs.DistinctLaws.{distinct_writes}
 use Rattle.pc_records.proofs.NewKeyLaws.{with_keys_new}
 use Rattle.pc_records.proofs.ReleaseLaws.{now_or, released_records, let_go_records}
-use Rattle.pc_engine.proofs.PlacedWrites.{is_left}
+use Rattle.pc_transactions.proofs.PlacedWrites.{is_left}
 use Rattle.pc_types.specs.declared.Change.{Change}
 use Rattle.pc_types.specs.Changes.{changed}
 use Rattle.pc_model.proofs.DistinctWriteLaws.{seen_of}
 use Rattle.pc_records.proofs.WaitingLaws.{held_writes}
-use Rattle.pc_engine.specs.Sessions.{number_in, writes_in, left_by, with_session}
-use Rattle.pc_engine.specs.Store.{Active, Store, setting_of, active, active_in as session_at}
+use Rattle.pc_transactions.specs.Sessions.{number_in, writes_in, left_by, with_session}
+use Rattle.pc_engine.specs.Store.{Store, setting_of, active, active_in as session_at}
+use Rattle.pc_transactions.specs.Actives.{Active}
 use Rattle.pc_engine.specs.Steps.{open_causes, begin_causes, abort_causes, Begins as BeginsIn, Commits as CommitsIn, Aborts as AbortsIn}
 use Rattle.pc_engine.specs.Stands.{Stands, Follows}
 use Rattle.pc_engine.proofs.ActiveSessions.{is_past, active_now, active_by, same_number, one_session}

@@ -1,7 +1,6 @@
 -- What is due if a change is held back, and if it isn't.
-use Rattle.std.proofs.Common.{◌≡◌, ℕ, ◌+◌, ◌≤◌, ◌==◌, List, [], ◌∷◌, ◌++◌, length, Option, Some, None, is_some, refl, ap, sym, ◌∙◌, arith, Bool, true, false, not, inl, inr}
+use Rattle.std.proofs.Common.{◌≡◌, ℕ, ◌+◌, ◌≤◌, ◌==◌, List, [], ◌∷◌, ◌++◌, Option, Some, None, refl, ap, sym, ◌∙◌, Bool, true, false, not, inl, inr}
 use Rattle.std.specs.Prelude.{option_map, if◌then◌else◌, ◌⊎◌}
-use Rattle.std.proofs.lemmas.Bool.Decides.{nat_tests}
 use Rattle.pc_types.specs.declared.Phase.{Phase}
 use Rattle.pc_types.specs.declared.Class.TheVariants.{Before, During, After}
 use Rattle.pc_types.specs.declared.Phase.TheVariants as phase
@@ -13,37 +12,20 @@ use Rattle.pc_types.specs.Phases.{same_phase}
 use Rattle.pc_phase.specs.declared.change.Change.{Change}
 use Rattle.pc_phase.specs.declared.change.Change.TheVariants as change
 use Rattle.pc_phase.specs.declared.change.Held.{Held}
-use Rattle.pc_phase.specs.declared.change.Held.TheVariants.{WrongPhase, PointsFull, NotYet}
-use Rattle.pc_phase.specs.Phases.{Phases, advanced, held_back, from_of, to_of, lacks_point, point_after, count_of}
+use Rattle.pc_phase.specs.declared.change.Held.TheVariants.{WrongPhase, PointsFull}
+use Rattle.pc_phase.specs.Phases.{Phases, advanced, held_back, to_of, point_after}
 use Rattle.pc_phase.specs.Agreement.{reply_of}
 use Rattle.pc_types.specs.declared.Entry.{Entry}
 use Rattle.pc_types.specs.declared.Entry.TheVariants.{Token}
 use Rattle.pc_model.specs.Files.{BaseFile, File}
-use Rattle.pc_engine.specs.Ongoing.{Ongoing, changed}
+use Rattle.pc_transactions.specs.Ongoing.{Ongoing, changed}
 use Rattle.pc_engine.specs.Store.{Store}
 use Rattle.pc_types.specs.declared.limits.TheConstants.{MOST_POINTS}
 use Rattle.pc_types.specs.declared.Reply.TheVariants as told
 use Rattle.pc_engine.specs.Steps.{Changes, LeavesShelf, after_moving, after_sealing, done_due, is_log_full, move_due, start_causes}
-use Rattle.pc_engine.proofs.Together.{is_this}
-use Rattle.pc_engine.specs.Counts.{AreCounted}
+use Rattle.pc_transactions.proofs.Together.{is_this}
+use Rattle.pc_transactions.specs.Counts.{AreCounted}
 use Rattle.pc_phase.proofs.PhaseLaws.{count_agrees}
-
--- what is known of a change that nothing holds back
-pub record IsFree (phases : Phases) (change : Change) (left : ℕ) : Type 0 where
-  pub in_phase : same_phase phases.phase (from_of change) ≡ true
-  pub point : lacks_point change phases.point ≡ false
-  pub none : count_of change phases left ≡ 0
-
--- it is known where nothing holds it back
-pub is_free : (phases : Phases) (change : Change) (left : ℕ) → held_back phases change left ≡ None → IsFree phases change left
-is_free phases change left none = by_tests (same_phase phases.phase (from_of change)) (lacks_point change phases.point) (count_of change phases left == 0) refl refl refl none
-  where
-    by_tests : (is full zero : Bool) → same_phase phases.phase (from_of change) ≡ is → lacks_point change phases.point ≡ full → (count_of change phases left == 0) ≡ zero →
-        (if is then (if full then Some PointsFull else (if zero then None else Some (NotYet (count_of change phases left)))) else Some WrongPhase) ≡ None → IsFree phases change left
-    by_tests true false true a b c e = record { in_phase = a; point = b; none = let none : count_of change phases left ≡ 0 = grind (arith, nat_tests, c) in none }
-    by_tests true false false a b c e = absurd (let no : true ≡ false = ap is_some e in cc)
-    by_tests true true zero a b c e = absurd (let no : true ≡ false = ap is_some e in cc)
-    by_tests false full zero a b c e = absurd (let no : true ≡ false = ap is_some e in cc)
 
 -- what is due if a change is held back, and if nothing holds it back
 held_due : (due later : Option Reply) (h : Option Held) (held : Held) → due ≡ or_else (option_map reply_of h) later → h ≡ Some held → due ≡ Some (reply_of held)
@@ -160,8 +142,3 @@ changed_view base shelf o log now taken gathered change.Seal it sealed other is 
 changed_view base shelf o log now taken gathered change.OpenCapture it sealed other is = rw (is, other (λ e. let no : change.OpenCapture ≡ change.Seal = e in cc)) refl
 changed_view base shelf o log now taken gathered change.Rest it sealed other is = rw (is, other (λ e. let no : change.Rest ≡ change.Seal = e in cc)) refl
 changed_view base shelf o log now taken gathered change.Done it sealed other is = absurd it
-
--- a list without an item
-pub none_left : (keys : List (List ℕ)) → length keys ≡ 0 → keys ≡ []
-none_left [] e = refl
-none_left (k ∷ ks) e = absurd (omega (arith, e))

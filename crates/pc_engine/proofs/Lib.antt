@@ -1,7 +1,5 @@
 mod FirstClosed
 mod Gathered
-mod Noted
-mod SessionLemmas
 mod Causes
 mod ActiveSessions
 mod Serial
@@ -9,7 +7,6 @@ mod LegalQueues
 mod LoggedTexts
 mod Owing
 mod LocalSteps
-mod Foretelling
 mod Requests
 mod Endings
 mod Standing
@@ -17,11 +14,7 @@ mod Answered
 mod Runs
 mod Soundness
 mod Cycles
-mod PlacedWrites
 mod SetKeys
-mod Together
 mod Within
-mod Counted
 mod Held
-mod Stands
 pub mod WaitingLaws

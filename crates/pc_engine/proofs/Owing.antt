@@ -29,8 +29,9 @@ use Rattle.pc_model.proofs.ShelfFileLaws.{headline}
 use Rattle.pc_records.specs.RowSteps.{is_waiting as waits_in_rows}
 use Rattle.pc_records.proofs.FollowingLaws.{same_records}
 use Rattle.pc_records.proofs.WaitingLaws.{waiting_now}
-use Rattle.pc_engine.specs.Sessions.{number_in, has_died_in}
-use Rattle.pc_engine.specs.Store.{Active, Store, Cycle, setting_of, active}
+use Rattle.pc_transactions.specs.Sessions.{number_in, has_died_in}
+use Rattle.pc_engine.specs.Store.{Store, Cycle, setting_of, active}
+use Rattle.pc_transactions.specs.Actives.{Active}
 use Rattle.pc_engine.specs.Steps.{open_causes, Owes}
 use Rattle.pc_engine.specs.Stands.{IsCycle, IsReadOff, Stands, KeepsPoints, Follows, by_key}
 use Rattle.pc_engine.proofs.ActiveSessions.{active_now, active_by}

@@ -3,7 +3,7 @@ use Rattle.std.specs.Prelude.{ℤ}
 use Rattle.pc_types.specs.declared.Change.TheVariants.{Add}
 use Rattle.pc_types.specs.Changes.{added, fits}
 use Rattle.pc_model.proofs.AddLaws.{add_stands}
-use Rattle.pc_engine.specs.Adds.{add_causes, sum_in}
+use Rattle.pc_transactions.specs.Adds.{add_causes, sum_in}
 use Rattle.std.proofs.Common.{◌≡◌, ℕ, List, [], ◌∷◌, ◌++◌, length, subst, Option, Some, None, is_some, is_none, refl, sym, ap, ◌∙◌, cond, true, false, Bool, not, eqb, ◌&&◌}
 use Rattle.std.proofs.lemmas.List.{length-set}
 use Rattle.pc_types.specs.declared.Mode.{Mode}
@@ -30,8 +30,9 @@ use Rattle.pc_records.specs.Following.{AreRecords}
 use Rattle.pc_records.specs.NewKeys.{is_one_too_many}
 use Rattle.pc_records.proofs.FollowingLaws.{asked_records}
 use Rattle.pc_records.proofs.OccupiedLaws.{full_now}
-use Rattle.pc_engine.specs.Sessions.{number_in, writes_in, seen_in, with_session, after_writing, after_dying, if_granted}
-use Rattle.pc_engine.specs.Store.{Active, Store, setting_of, active, active_in as session_at}
+use Rattle.pc_transactions.specs.Sessions.{number_in, writes_in, seen_in, with_session, after_writing, after_dying, if_granted}
+use Rattle.pc_engine.specs.Store.{Store, setting_of, active, active_in as session_at}
+use Rattle.pc_transactions.specs.Actives.{Active}
 use Rattle.pc_engine.specs.Steps.{open_causes, write_causes, after_asking, outcome_in, Gets, WritesKey, AddsTo, adding_causes}
 use Rattle.pc_engine.specs.Stands.{IsReadOff, Stands, Follows}
 use Rattle.pc_engine.proofs.ActiveSessions.{is_past, active_now, active_by, same_number, one_session}

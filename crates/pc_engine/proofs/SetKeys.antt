@@ -1,5 +1,5 @@
 -- What a transaction sees of a key that it has set or removed.
-use Rattle.pc_engine.specs.Adds.{GoesOn, value_of_sum}
+use Rattle.pc_transactions.specs.Adds.{GoesOn, value_of_sum}
 use Rattle.pc_model.specs.Replies.{is_granted}
 use Rattle.pc_types.specs.declared.Outcome.TheVariants.{Granted}
 use Rattle.pc_types.specs.declared.Outcome.{Outcome}
@@ -15,8 +15,8 @@ use Rattle.pc_model.specs.Changes.{Applies, AppliesIfAny}
 use Rattle.pc_model.specs.Database.{key_order, same_bytes, with_write, written, seen, change_to, write_of}
 use Rattle.pc_model.proofs.WrittenKeyLaws.{merged_if, written_with}
 use Rattle.pc_records.specs.Rows.{Row, record_of, stored}
-use Rattle.pc_engine.specs.Sessions.{seen_in, after_writing, writes_in}
-use Rattle.pc_engine.specs.Store.{Active}
+use Rattle.pc_transactions.specs.Sessions.{seen_in, after_writing, writes_in}
+use Rattle.pc_transactions.specs.Actives.{Active}
 
 first_of : {X : Type 0} (b : Bool) (x y : X) → b ≡ true → cond b x y ≡ x
 first_of true x y e = refl

@@ -15,8 +15,9 @@ use Rattle.pc_types.specs.declared.Outcome.TheVariants.{Granted, Queued, Died}
 use Rattle.pc_model.specs.Replies.{IsFileReply, first_refusal, read_reply, by_outcome}
 use Rattle.pc_records.specs.RowSteps.{committed_row}
 use Rattle.pc_records.proofs.FirstKeyLaws.{first_records}
-use Rattle.pc_engine.specs.Sessions.{with_session, after_writing, after_dying, if_died, if_granted}
-use Rattle.pc_engine.specs.Store.{Active, active_in, Store, setting_of, active}
+use Rattle.pc_transactions.specs.Sessions.{with_session, after_writing, after_dying, if_died, if_granted}
+use Rattle.pc_engine.specs.Store.{Store, setting_of, active}
+use Rattle.pc_transactions.specs.Actives.{Active, active_in}
 use Rattle.pc_types.specs.declared.Class.{Class}
 use Rattle.pc_engine.specs.Steps.{outcome_in, abort_causes, Owes, Begins, Gets, WritesKey, AddsTo, Commits, Aborts, StartsPoint, Seals, Moves, TakesFirstKey, Takes, Shelves, Joins}
 use Rattle.pc_engine.specs.Stands.{Stands, IfRefused}

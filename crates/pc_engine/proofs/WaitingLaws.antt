@@ -9,8 +9,9 @@ use Rattle.pc_model.specs.Replies.{no_session}
 use Rattle.pc_model.proofs.LegalEffectLaws.{legal_has_legal_effects}
 use Rattle.pc_model.proofs.RightReadLaws.{locked}
 use Rattle.pc_records.proofs.WaitingLaws.{waiting_now}
-use Rattle.pc_engine.specs.Store.{Active, Store, setting_of, active, active_of}
-use Rattle.pc_engine.specs.Sessions.{waits_in}
+use Rattle.pc_engine.specs.Store.{Store, setting_of, active, active_of}
+use Rattle.pc_transactions.specs.Actives.{Active}
+use Rattle.pc_transactions.specs.Sessions.{waits_in}
 use Rattle.pc_engine.specs.Stands.{Stands}
 use Rattle.pc_engine.specs.Waiting.{opens_after, waits_after}
 

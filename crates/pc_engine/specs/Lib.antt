@@ -1,15 +1,10 @@
 pub mod Store
-pub mod Sessions
-pub mod Counts
 pub mod Steps
 pub mod Limits
 pub mod Shelves
-pub mod InPlace
-pub mod Ongoing
 pub mod Stands
 pub mod Runs
 pub mod Checks
 pub mod Laws
 pub mod Asking
-pub mod Adds
 pub mod Waiting

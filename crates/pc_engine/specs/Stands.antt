@@ -17,7 +17,8 @@ use Rattle.pc_model.specs.Reads.{HasRightReads}
 use Rattle.pc_model.specs.Limits.{AreInLimits}
 use Rattle.pc_records.specs.Rows.{record_of, stored}
 use Rattle.pc_records.specs.Following.{AreRecords}
-use Rattle.pc_engine.specs.Store.{Active, Store, Cycle, setting_of, active}
+use Rattle.pc_engine.specs.Store.{Store, Cycle, setting_of, active}
+use Rattle.pc_transactions.specs.Actives.{Active}
 
 -- what was taken, in the order of keys; of each key the first
 abbrev pub by_key : List (List ℕ × Option (List ℕ)) → List (List ℕ × Option (List ℕ))

@@ -28,9 +28,10 @@ use Rattle.pc_phase.specs.declared.change.Change.TheVariants as change
 use Rattle.pc_records.specs.Rows.{record_of, at_point, requests_on}
 use Rattle.pc_records.specs.RowSteps.{is_full_for, is_waiting, rows_after, released_rows, written_row, closed_row, left_rows}
 use Rattle.pc_records.specs.NewKeys.{new_keys, is_one_too_many}
-use Rattle.pc_engine.specs.Adds.{add_causes, sum_in}
-use Rattle.pc_engine.specs.Store.{Active, Store, setting_of, active}
-use Rattle.pc_engine.specs.Sessions.{with_session, number_in, has_died_in, writes_in, left_by, seen_in, count_of, after_writing, after_dying, if_died, if_granted}
+use Rattle.pc_transactions.specs.Adds.{add_causes, sum_in}
+use Rattle.pc_engine.specs.Store.{Store, setting_of, active}
+use Rattle.pc_transactions.specs.Actives.{Active}
+use Rattle.pc_transactions.specs.Sessions.{with_session, number_in, has_died_in, writes_in, left_by, seen_in, count_of, after_writing, after_dying, if_died, if_granted}
 
 -- A certain reply is given and changes nothing; if no reply is certain this is done, or an allocation failed and nothing
 -- changed.

@@ -1,20 +1,11 @@
 -- The view of a world.
-use Rattle.std.specs.Prelude.{ℕ, ◌-◌, ◌==◌, Bool, List, length, Option, None, if◌then◌else◌, slice_index_or}
-use Rattle.pc_types.specs.declared.Class.{Class}
+use Rattle.std.specs.Prelude.{ℕ, ◌==◌, List, length, Option, None, if◌then◌else◌}
 use Rattle.pc_types.specs.declared.Entry.{Entry}
 use Rattle.pc_types.specs.declared.Phase.{Phase}
-use Rattle.pc_types.specs.declared.Write.{Write}
 use Rattle.pc_model.specs.Files.{BaseFile, File}
 use Rattle.pc_model.specs.Replies.{Setting}
 use Rattle.pc_records.specs.Rows.{Kept}
-
--- an open transaction: its number, the class of the phase in which it began, whether a request of it has died, and the final
--- write of each key, in the order of first writes
-pub record Active : Type 0 where
-  pub number : ℕ
-  pub class : Class
-  pub has_died : Bool
-  pub writes : List Write
+use Rattle.pc_transactions.specs.Actives.{Active, active_in}
 
 -- The state of a checkpoint's cycle: its phase and point; the open set, the keys that commits wrote since the last resolve
 -- token; the closed set, the keys of the point that are left to take; and what was taken of it, ascending by key.
@@ -38,10 +29,6 @@ pub record Store : Type 0 where
 -- what the run started from
 abbrev pub setting_of : Store → Setting
 setting_of w = record { run = w.base.run; base = w.base.pairs; sessions = length w.sessions; capacity = w.kept.capacity }
-
--- the open transaction of the session; sessions are numbered from 1
-abbrev pub active_in : List (Option Active) → ℕ → Option Active
-active_in sessions s = slice_index_or sessions (s - 1) None
 
 -- the open transaction of the session
 abbrev pub active : Store → ℕ → Option Active

@@ -2,11 +2,9 @@
 #![tactic(auto)]
 
 mod calls;
-mod lanes;
 mod laws;
 mod points;
 mod refusing;
-mod sessions;
 mod shelving;
 mod transactions;
 mod world;

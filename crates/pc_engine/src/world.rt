@@ -11,14 +11,13 @@ ghost use Rattle.pc_model.specs.Log.{after};
 ghost use Rattle.pc_log.specs.Laws.{IsLog};
 ghost use Rattle.pc_kept_log.specs.Logs.{entries_of};
 ghost use Rattle.pc_records.specs.Rows.{record_of, stored};
-ghost use Rattle.pc_engine.specs.Sessions.{waits_in, writes_in};
+ghost use Rattle.pc_transactions.specs.Sessions.{waits_in, writes_in};
 ghost use Rattle.pc_engine.specs.Store.{active_of, setting_of};
 ghost use Rattle.pc_engine.specs.Stands.{Stands, Follows, IfRefused};
 ghost use Rattle.pc_engine.specs.Checks.{IsStoreSound};
 ghost use Rattle.pc_engine.specs.Runs.{starting, IsRun};
 ghost use Rattle.pc_engine.specs.Waiting.{opens_after, waits_after};
 
-use crate::sessions::Sessions;
 use crate::shelving::{file_at, shared_at};
 use pc_answers::{
     abort_reply, add_reply, begin_reply, commit_reply, get_reply, take_reply, write_reply,
@@ -29,6 +28,7 @@ use pc_kept_log::Log;
 use pc_part::{Base, Part};
 use pc_phase::Change;
 use pc_taken::Taken;
+use pc_transactions::Sessions;
 use pc_types::{
     Event, FileNo, Key, MOST_KEYS, MOST_SESSIONS, Phase, Refusal, Reply, SessionNo, Value,
     number_fits,

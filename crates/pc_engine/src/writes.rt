@@ -2,7 +2,7 @@
 ghost use Rattle.std.specs.Prelude.{◌≡◌, IfOk, option_copied};
 ghost use Rattle.pc_types.specs.declared.Change.TheVariants.{Add};
 ghost use Rattle.pc_model.specs.Database.{change_to, write_of};
-ghost use Rattle.pc_engine.specs.Adds.{value_of_sum};
+ghost use Rattle.pc_transactions.specs.Adds.{value_of_sum};
 
 use pc_types::{Change, Key, Value, Write};
 use std::alloc::{AllocError, Global};

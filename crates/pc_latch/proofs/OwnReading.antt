@@ -6,8 +6,9 @@ use Rattle.pc_model.specs.Replies.{Setting, no_session}
 use Rattle.pc_model.specs.Calls.{HasCallsOf}
 use Rattle.pc_model.specs.Receipts.{Own, own_of}
 use Rattle.pc_model.proofs.OwnCallLaws.{own_own, own_open, own_writes}
-use Rattle.pc_engine.specs.Store.{Active, Store, setting_of, active_of}
-use Rattle.pc_engine.specs.Sessions.{writes_in}
+use Rattle.pc_engine.specs.Store.{Store, setting_of, active_of}
+use Rattle.pc_transactions.specs.Actives.{Active}
+use Rattle.pc_transactions.specs.Sessions.{writes_in}
 use Rattle.pc_engine.specs.Stands.{Stands}
 use Rattle.pc_tie.specs.declared.sight.Sitting.{Sitting}
 use Rattle.pc_tie.specs.Seats.{IsSession}

@@ -5,7 +5,7 @@ use Rattle.pc_types.specs.Tallies.{Puts}
 use Rattle.pc_types.specs.declared.refusal.Refusal.{Refusal}
 use Rattle.pc_types.specs.declared.refusal.Refusal.TheVariants.{Device}
 use Rattle.pc_types.specs.declared.tally.Tally.{Tally}
-use Rattle.pc_engine.specs.Sessions.{waits_in}
+use Rattle.pc_transactions.specs.Sessions.{waits_in}
 use Rattle.pc_engine.specs.Store.{Store, active_of}
 use Rattle.pc_serving.specs.Serving.{granted_line}
 

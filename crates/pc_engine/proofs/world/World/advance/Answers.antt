@@ -1,6 +1,6 @@
 use Rattle.std.proofs.Common.{◌≡◌, ◌∙◌, None, ap, length, sym, refl, rules}
 use Rattle.pc_phase.specs.Phases.{Phases, held_back}
-use Rattle.pc_engine.specs.Ongoing.{Ongoing}
+use Rattle.pc_transactions.specs.Ongoing.{Ongoing}
 use Rattle.pc_engine.proofs.Held.{change_held, change_full, change_unmade, change_made, changed_phases, changed_view}
 use Rattle.pc_engine.proofs.Within.{sealed_within}
 use Rattle.pc_engine.proofs.world.World.advance.Goals as goal

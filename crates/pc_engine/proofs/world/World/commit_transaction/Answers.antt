@@ -2,8 +2,8 @@ use Rattle.std.proofs.Common.{◌≤◌, arith, length, rules}
 use Rattle.pc_types.specs.declared.limits.TheConstants.{MOST_WRITES}
 use Rattle.pc_records.specs.NewKeys.{new_keys}
 use Rattle.pc_records.proofs.NewKeyLaws.{no_more_new}
-use Rattle.pc_engine.specs.Ongoing.{own}
-use Rattle.pc_engine.specs.Sessions.{writes_in}
+use Rattle.pc_transactions.specs.Ongoing.{own}
+use Rattle.pc_transactions.specs.Sessions.{writes_in}
 use Rattle.pc_engine.proofs.Causes.{commit_refused}
 use Rattle.pc_engine.proofs.Within.{committed_within}
 use Rattle.pc_engine.proofs.world.World.commit_transaction.Goals as goal

@@ -1,5 +1,5 @@
 use Rattle.std.proofs.Common.{rules, ◌≡◌, ◌∙◌}
-use Rattle.pc_engine.specs.Sessions.{waits_in}
+use Rattle.pc_transactions.specs.Sessions.{waits_in}
 use Rattle.pc_engine.specs.Store.{active_of}
 use Rattle.pc_engine.proofs.WaitingLaws.{waits_told}
 use Rattle.pc_engine.proofs.world.World.is_waiting.Goals as goal

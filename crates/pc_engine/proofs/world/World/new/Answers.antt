@@ -1,7 +1,7 @@
 use Rattle.std.proofs.Common.{◌≡◌, ◌∙◌, length, ap, refl, inl, arith}
 use Rattle.pc_model.specs.Maps.{len}
 use Rattle.pc_model.proofs.PairMapLaws.{len_of}
-use Rattle.pc_engine.specs.Ongoing.{Ongoing}
+use Rattle.pc_transactions.specs.Ongoing.{Ongoing}
 use Rattle.pc_engine.proofs.Standing.{stands_first}
 use Rattle.pc_engine.proofs.Within.{first_within}
 use Rattle.pc_engine.proofs.world.World.new.Goals as goal

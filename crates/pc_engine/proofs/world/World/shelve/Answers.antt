@@ -1,6 +1,7 @@
 use Rattle.std.proofs.Common.{rules, length}
 use Rattle.pc_phase.specs.declared.change.Change.TheVariants as change
-use Rattle.pc_engine.proofs.Held.{is_free, begun_outside_rest}
+use Rattle.pc_engine.proofs.Held.{begun_outside_rest}
+use Rattle.pc_transactions.proofs.HeldBack.{is_free}
 use Rattle.pc_engine.proofs.world.World.shelve.Goals as goal
 
 pub of_taken-requires-clause-point : goal.of_taken-requires-clause-point

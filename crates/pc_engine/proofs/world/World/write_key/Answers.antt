@@ -1,7 +1,7 @@
 use Rattle.std.proofs.Common.{◌∙◌, refl}
 use Rattle.std.specs.Option.{option_copied}
 use Rattle.pc_kept_log.specs.Logs.{entries_of}
-use Rattle.pc_engine.specs.Ongoing.{Ongoing}
+use Rattle.pc_transactions.specs.Ongoing.{Ongoing}
 use Rattle.pc_engine.specs.Store.{Store}
 use Rattle.pc_engine.proofs.SetKeys.{may_merge, applies_content, sees_content}
 use Rattle.pc_engine.proofs.Causes.{write_requested}

@@ -3,7 +3,7 @@ use Rattle.std.specs.Option.{is_some}
 use Rattle.pc_model.specs.Database.{written}
 use Rattle.pc_model.specs.Replies.{Setting, no_session}
 use Rattle.pc_engine.specs.Store.{setting_of, active_of}
-use Rattle.pc_engine.specs.Sessions.{writes_in}
+use Rattle.pc_transactions.specs.Sessions.{writes_in}
 use Rattle.pc_latch.proofs.OwnReading.{is_known, writes_known}
 use Rattle.pc_types.specs.declared.Event.TheVariants.{Get}
 use Rattle.pc_latch.proofs.Asking.{asked}

@@ -1,7 +1,0 @@
-use Rattle.std.proofs.Common.{◌≡◌, None, replicate}
-use Rattle.pc_engine.specs.Sessions.{actives_of}
-use Rattle.pc_engine.proofs.sessions.idle.Given as goal
-
--- that many lanes so far
-abbrev pub invariant-loop : goal.invariant-loop
-invariant-loop l = (actives_of l.lanes.items ≡ replicate l.counter None)

@@ -1,0 +1,8 @@
+mod Noted
+mod SessionLemmas
+mod Foretelling
+mod PlacedWrites
+pub mod Together
+mod Counted
+pub mod HeldBack
+mod OngoingLaws
