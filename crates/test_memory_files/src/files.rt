@@ -5,7 +5,7 @@ use pc_part::{Base, Part, join, lay};
 use pc_types::{Key, Point, Refusal, Tally, Value};
 use std::alloc::Global;
 use std::test::Fail;
-use test_support::THIRD_POINT;
+use test_support::{Pair, THIRD_POINT, are_pairs};
 
 // Takes memory of its own.
 const LONG: &[u8] = b"more than 16 bytes";
@@ -24,9 +24,6 @@ const JOINED: [u8; 101] = *b"PCALCP02\
     \x00\x01\x00\x00b\x00\x00\x00\x03\x00\
     \x00\x12\x00\x00more than 16 bytes\x00\x00\x00\x01\x01\x00\x00\x00\x12more than 16 bytes\
     \x00\x00\x00\x00\x00\x02";
-
-/// The own bytes of a key of space 0, and its value.
-pub(crate) type Pair = (&'static [u8], &'static [u8]);
 
 const PAIRS: [Pair; 2] = [(b"b", b"0"), (b"c", b"0")];
 
@@ -67,8 +64,8 @@ fn text_of(alloc: Global, part: &Part) -> Result<Vec<u8>, Refusal> {
     Ok(out.into_inner())
 }
 
-/// Whether the part's text is this, written again if an allocation failed.
-pub(crate) fn has_text(alloc: Global, part: &Part, text: &[u8]) -> Result<bool, Refusal> {
+// Whether the part's text is this, written again if an allocation failed.
+fn has_text(alloc: Global, part: &Part, text: &[u8]) -> Result<bool, Refusal> {
     let found = match text_of(alloc, part) {
         Err(_) => text_of(alloc, part)?,
         Ok(found) => found,
@@ -142,21 +139,6 @@ fn laid_again(alloc: Global, base: &Base, part: &Part) -> Result<Base, Refusal> 
         Err(Refusal::OutOfMemory) => lay(alloc, base, part),
         Err(why) => Err(why),
     }
-}
-
-fn is_pair(pair: &(Key, Value), wanted: Pair) -> bool {
-    pair.0.space() == 0 && pair.0.own_bytes() == wanted.0 && pair.1.as_bytes() == wanted.1
-}
-
-/// Whether the pairs are these.
-pub(crate) fn are_pairs(pairs: &[(Key, Value)], wanted: &[Pair]) -> bool {
-    for (i, pair) in pairs.iter().enumerate() {
-        match wanted.get(i) {
-            Some(wanted) if is_pair(pair, *wanted) => {}
-            _ => return false,
-        }
-    }
-    pairs.len() == wanted.len()
 }
 
 // What isn't as it should be once the part is applied to the base.

@@ -1,11 +1,10 @@
 //! The state recovered from a base, parts and a log after a crash.
 
-use crate::files::{Pair, are_pairs};
 use pc_recover::{Recovered, recover};
 use pc_types::{Point, Refusal};
 use std::alloc::Global;
 use std::test::Fail;
-use test_support::{EMPTY_BASE, ONE_KEY, SIX_ENTRIES, THIRD_POINT, TWO_KEYS};
+use test_support::{EMPTY_BASE, ONE_KEY, Pair, SIX_ENTRIES, THIRD_POINT, TWO_KEYS, are_pairs};
 
 // At point 2, `a` was `2`.
 const SECOND: [u8; 49] = *b"PCALCP02\
