@@ -1,5 +1,5 @@
 use Rattle.pc_board.specs.Passes.{IsOfBoard}
-use Rattle.test_units.proofs.boards.numbers.Given as goal
+use Rattle.test_merges.proofs.boards.numbers.Given as goal
 
 -- the pass stays one of the board
 abbrev pub invariant-loop : goal.invariant-loop
