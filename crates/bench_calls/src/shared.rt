@@ -2,7 +2,7 @@
 ghost use Rattle.std.specs.Prelude.{◌≡◌, ◌≤◌};
 
 use crate::options::Crowd;
-use crate::pairs::{key_of, pair_of, scattered};
+use bench_steps::{key_of, pair_of, scattered};
 use pc_part::Base;
 use pc_shared::{Opened, Session, Shared};
 use pc_tie::StoreName;

@@ -1,6 +1,6 @@
 use Rattle.std.proofs.Common.{◌≡◌, ◌≤◌, true, false}
-use Rattle.bench_calls.specs.Commits.{events_of}
-use Rattle.bench_calls.proofs.commits.commit_all.Given as goal
+use Rattle.bench_steps.specs.Commits.{events_of}
+use Rattle.bench_steps.proofs.commits.commit_all.Given as goal
 
 abbrev pub invariant-loop-number : goal.invariant-loop-number
 invariant-loop-number l = record {

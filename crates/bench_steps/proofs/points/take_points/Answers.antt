@@ -1,8 +1,8 @@
 use Rattle.std.proofs.Common.{◌≤◌, ◌+◌, [], ◌∷◌, All, length, ap, sym, subst, ◌∙◌}
 use Rattle.std.proofs.lemmas.List.{length-append}
 use Rattle.std.proofs.lemmas.List.Elements.{All-push}
-use Rattle.bench_calls.specs.declared.points.TimedCycle.{TimedCycle}
-use Rattle.bench_calls.proofs.points.take_points.Goals as goal
+use Rattle.bench_steps.specs.declared.points.TimedCycle.{TimedCycle}
+use Rattle.bench_steps.proofs.points.take_points.Goals as goal
 
 pub loop-preserved : goal.loop-preserved
 loop-preserved g c =

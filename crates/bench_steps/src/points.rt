@@ -1,8 +1,8 @@
 //! Cycles over keys that are all written before each point.
 ghost use Rattle.std.specs.Prelude.{◌≡◌, ◌≤◌, length, All, IfOk};
 
+use crate::amounts::Cycles;
 use crate::failure::BenchFailure;
-use crate::options::Cycles;
 use crate::stepped::{SESSION, ask, put, step};
 use pc_engine::World;
 use pc_part::Base;

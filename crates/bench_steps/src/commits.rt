@@ -1,9 +1,9 @@
 //! Commits of one write each, with and without concurrent checkpoints.
 ghost use Rattle.std.specs.Prelude.{◌≡◌, ◌<◌, ◌≤◌, ◌^◌, ◌+◌, true, false, IfOk};
-ghost use Rattle.bench_calls.specs.Commits.{events_of};
+ghost use Rattle.bench_steps.specs.Commits.{events_of};
 
+use crate::amounts::Rounds;
 use crate::failure::BenchFailure;
-use crate::options::Rounds;
 use crate::pairs::scattered;
 use crate::stepped::{SESSION, ask, step, write};
 use pc_engine::World;

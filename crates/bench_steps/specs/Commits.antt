@@ -1,8 +1,8 @@
 -- The number of events that a checkpointer asked.
 use Rattle.std.specs.Prelude.{ℕ, ◌+◌, ◌*◌}
-use Rattle.bench_calls.specs.declared.commits.CycleProgress.{CycleProgress}
-use Rattle.bench_calls.specs.declared.commits.NextStage.{NextStage}
-use Rattle.bench_calls.specs.declared.commits.NextStage.TheVariants as stage
+use Rattle.bench_steps.specs.declared.commits.CycleProgress.{CycleProgress}
+use Rattle.bench_steps.specs.declared.commits.NextStage.{NextStage}
+use Rattle.bench_steps.specs.declared.commits.NextStage.TheVariants as stage
 
 -- how many events a cycle has before this one, those apart that took a key or were put off
 abbrev pub steps_before : NextStage → ℕ
