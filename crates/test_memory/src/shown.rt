@@ -3,8 +3,8 @@
 use crate::asked::{Told, answer, first_wrong, tell};
 use crate::worlds::new_world;
 use Phase::{Capture, Prepare, Resolve};
+use pc_bases::Base;
 use pc_engine::{World, run};
-use pc_part::Base;
 use pc_types::{FileNo, Phase, Refusal, Reply};
 use std::alloc::Global;
 use std::hash::RandomState;

@@ -1,8 +1,8 @@
 //! The stores that the tests begin with.
 ghost use Rattle.std.specs.Prelude.{◌≡◌, ◌≤◌, IfOk};
 
+use pc_bases::Base;
 use pc_engine::World;
-use pc_part::Base;
 use pc_types::{Key, MOST_KEYS, MOST_SESSIONS, Refusal, Value};
 use std::alloc::Global;
 use std::hash::RandomState;

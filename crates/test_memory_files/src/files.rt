@@ -1,7 +1,8 @@
 //! Parts that are joined, and applied to a base.
 ghost use Rattle.std.specs.Prelude.{◌≤◌};
 
-use pc_part::{Base, Part, join, lay};
+use pc_bases::{Base, lay};
+use pc_part::{Part, join};
 use pc_types::{Key, Point, Refusal, Tally, Value};
 use std::alloc::Global;
 use std::test::Fail;

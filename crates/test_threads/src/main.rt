@@ -9,7 +9,7 @@ mod plans;
 mod signs;
 
 use meeting::{Left, meet};
-use pc_part::Base;
+use pc_bases::Base;
 use pc_shared::Opened;
 use pc_types::{MOST_SESSIONS, Refusal};
 use plans::{PLANS, Plan};
