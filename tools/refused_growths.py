@@ -1,6 +1,6 @@
 #!/usr/bin/env python3
-"""Runs a workload into a folder, joins parts, recovers a folder, and runs each test of test_memory and test_growths that is named for it, once for each
-growth of memory that they ask for, with that growth refused. `try_programs.py` does so in the gate; by hand this prints what it saw.
+"""Runs a workload into a folder, joins parts, recovers a folder, and runs each test of the crates `TESTERS` that is named for it, once for each growth
+of memory that they ask for, with that growth refused. `try_programs.py` does so in the gate; by hand this prints what it saw.
 
 The run, `pcalc run --dir`, is to end whichever growth is refused: with the status 1, nothing printed and at most one fault told, or with the status 0,
 and then with all of its transactions, or with one given up and all others. So are a collapse and a recovery, which print and write all. A test's name
@@ -26,7 +26,7 @@ from program_cases import written
 HERE = os.path.dirname(os.path.abspath(__file__))
 CRATES = os.path.join(HERE, "..", "crates")
 PROGRAM = os.path.join(CRATES, "pcalc", "out", "pcalc")
-TESTERS = ("test_memory", "test_growths")
+TESTERS = ("test_locks", "test_memory", "test_memory_files", "test_growths")
 SOURCE = os.path.join(HERE, "refused_growths", "refuse.c")
 FLAGS = ("-shared", "-fPIC", "-O1", "-fno-builtin", "-nostdlib", "-Wall", "-Wextra", "-Werror")
 NAMES = (b"a", rb"\s7:a", b"c")

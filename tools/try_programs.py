@@ -16,7 +16,7 @@
     tutorial_cases.py     the commands of docs/TUTORIAL.md
     client_cases.py       the client and the relay of clients/python over served stores: threads, kills, sockets
     embedding_cases.py    the library of pc_c in programs of C, C++ and Python, where there is a C compiler
-    refused_growths.py    a run and the tests of test_memory and test_growths, each growth of memory that they ask for refused in turn
+    refused_growths.py    a run and the tests of its crates `TESTERS`, each growth of memory that they ask for refused in turn
     PAGES                 what tools make of the crates stands in docs/ as they make it, and each wrong body is one, those of tools/meetings as they
                           were seen, and none that was refused waits to be tried again since the function that it changes was another one
     tests/                the tests of these tools, on what is made up

@@ -1,9 +1,8 @@
 //! The calls of a store that one thread uses, each by itself.
 ghost use Rattle.std.specs.Prelude.{◌≡◌};
 
-use crate::failure::BenchFailure;
 use crate::options::Crowd;
-use crate::pairs::{pair_of, scattered};
+use bench_steps::{BenchFailure, pair_of, scattered};
 use pc_shared::{CheckpointerSeat, LogPass, Opened, Session, Shared};
 use pc_tie::StoreName;
 use pc_types::{FileNo, Refusal, Reply};

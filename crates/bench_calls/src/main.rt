@@ -3,17 +3,12 @@
 
 mod bare;
 mod calls;
-mod commits;
-mod failure;
 mod floor;
 mod options;
-mod pairs;
-mod points;
 mod runs;
 mod shared;
-mod stepped;
 
-use failure::BenchFailure;
+use bench_steps::BenchFailure;
 use options::{Options, USAGE, Work, options_of};
 use runs::{run_calls, run_commits, run_floor, run_mutex, run_points, run_shared};
 use std::env;

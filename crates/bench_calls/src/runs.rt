@@ -1,12 +1,12 @@
 //! Each sub-command's work, and what it prints.
 use crate::bare::lock_by_all;
 use crate::calls::{Calls, Timed, call_by_one};
-use crate::commits::{Committed, measure_commits};
-use crate::failure::BenchFailure;
 use crate::floor::{fill_bare, world_of};
-use crate::options::{Crowd, Cycles, Rounds};
-use crate::points::{TimedCycle, measure_points};
+use crate::options::Crowd;
 use crate::shared::{open, share};
+use bench_steps::{
+    BenchFailure, Committed, Cycles, Rounds, TimedCycle, measure_commits, measure_points,
+};
 use std::hash::RandomState;
 use std::io;
 use std::marker::Brand;

@@ -2,8 +2,8 @@
 ghost use Rattle.std.specs.Prelude.{◌≡◌, ◌≤◌};
 
 use crate::options::Crowd;
-use crate::pairs::{key_of, pair_of, scattered};
-use pc_part::Base;
+use bench_steps::{key_of, pair_of, scattered};
+use pc_bases::Base;
 use pc_shared::{Opened, Session, Shared};
 use pc_tie::StoreName;
 use pc_types::{MOST_KEYS, Refusal};

@@ -1,9 +1,9 @@
-//! An example: a store is opened, a transaction commits, which is begun again if it dies, and the store is closed.
+//! An example: a transaction of a store is committed, and begun again if it dies.
 #![tactic(auto)]
 
 ghost use Rattle.std.specs.Prelude.{◌≡◌};
 
-use pc_part::Base;
+use pc_bases::Base;
 use pc_shared::{CallAnswer, Opened, Session, Shared, pause};
 use pc_tie::StoreName;
 use pc_types::{Key, Lsn, Refusal, Value};

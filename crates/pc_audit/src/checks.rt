@@ -8,9 +8,10 @@ ghost use Rattle.pc_replay.specs.Audits.{IsRight, TriplesRise};
 ghost use Rattle.pc_audit.specs.Checks.{IsFileRight};
 
 use crate::replays::{audit_log, is_log_replay};
+use pc_bases::Base;
 use pc_capture::SharedPart;
 use pc_kept_log::Log;
-use pc_part::{Base, Part};
+use pc_part::Part;
 use pc_replay::CompleteFile;
 use pc_taken::Pass;
 use pc_types::{Key, Triple, Value};

@@ -9,7 +9,8 @@ use Rattle.pc_types.specs.declared.refusal.Refusal.TheVariants.{OutOfMemory, Bad
 use Rattle.pc_model.specs.History.{History}
 use Rattle.pc_log.specs.Texts.{entry_text, header_text}
 use Rattle.pc_model.specs.Files.{File, file_at}
-use Rattle.pc_part.specs.Texts.{base_text, part_text}
+use Rattle.pc_part.specs.Texts.{part_text}
+use Rattle.pc_bases.specs.Texts.{base_text}
 use Rattle.pc_engine.specs.Store as world
 use Rattle.pc_engine.specs.Stands.{Stands, Follows, IfRefused}
 use Rattle.pc_wire.specs.Answers.{refusal_told, text_told, told_of}

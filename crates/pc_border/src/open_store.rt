@@ -2,7 +2,8 @@
 ghost use Rattle.std.specs.Prelude.{◌≡◌, ℕ, List, IfSome};
 ghost use Rattle.pc_model.specs.Files.{file_at};
 ghost use Rattle.pc_log.specs.Texts.{header_text};
-ghost use Rattle.pc_part.specs.Texts.{base_text, part_text};
+ghost use Rattle.pc_part.specs.Texts.{part_text};
+ghost use Rattle.pc_bases.specs.Texts.{base_text};
 ghost use Rattle.pc_wire.specs.Calls.{event_asked};
 ghost use Rattle.pc_border.specs.Stores.{IsCalled, IsReplied, IsShown, IsFileShown, IsText, AreEntriesShown};
 

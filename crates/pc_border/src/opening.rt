@@ -2,7 +2,7 @@
 ghost use Rattle.std.specs.Prelude.{◌≡◌, ◌⊎◌, ◌<◌, ◌≤◌, ◌+◌, ◌^◌, [], length, None, Some, IfOk, IfErr, IfSome, OnOk};
 ghost use Rattle.pc_types.specs.declared.limits.TheConstants.{MOST_FILE_ENTRIES, MOST_KEYS, MOST_SESSIONS};
 ghost use Rattle.pc_model.specs.Database.{KeysRise, database_of};
-ghost use Rattle.pc_part.specs.Bases.{IsWithinLimit};
+ghost use Rattle.pc_part.specs.Parts.{IsWithinLimit};
 ghost use Rattle.pc_engine.specs.Stands.{Stands};
 ghost use Rattle.pc_engine.specs.Store.{setting_of};
 ghost use Rattle.pc_border.specs.Openings.{option_fault, IsBaseOf, IsStart, IsBaseless, IsUnopened};
@@ -10,8 +10,8 @@ ghost use Rattle.pc_border.specs.Sources.{is_given};
 
 use crate::seed::seed_of;
 use crate::sources::Sources;
+use pc_bases::Base;
 use pc_engine::World;
-use pc_part::Base;
 use pc_recover::Recovered;
 use pc_types::{MOST_FILE_ENTRIES, MOST_KEYS, MOST_SESSIONS, Refusal};
 use std::alloc::Global;

@@ -2,7 +2,7 @@
 ghost use Rattle.std.specs.Prelude.{◌≡◌, ◌≤◌, [], length, IfOk, IfErr, OnOk, OnErr};
 ghost use Rattle.pc_model.specs.Sets as set;
 ghost use Rattle.pc_model.specs.Files.{triples_taken};
-ghost use Rattle.pc_part.specs.Bases.{IsWithinLimit};
+ghost use Rattle.pc_part.specs.Parts.{IsWithinLimit};
 
 use pc_part::Part;
 use pc_taken::Taken;

@@ -3,8 +3,7 @@ ghost use Rattle.std.specs.Prelude.{◌≡◌, ◌≤◌, ◌<◌, length, map, 
 ghost use Rattle.std.specs.Iterator.{YieldsFirst};
 ghost use Rattle.std.specs.List.{All};
 ghost use Rattle.pc_model.specs.Sets.{Set, number_order};
-ghost use Rattle.pc_part.specs.Bases.{IsWithinLimit};
-ghost use Rattle.pc_part.specs.Parts.{AreCovered, AreRanges, points_of};
+ghost use Rattle.pc_part.specs.Parts.{IsWithinLimit, AreCovered, AreRanges, points_of};
 ghost use Rattle.pc_merge.specs.Given.{IsMerge};
 ghost use Rattle.pc_merge.specs.declared.limits.TheConstants.{MOST_INPUTS};
 ghost use Rattle.pc_collapse.specs.Merges.{AreAllPoints, IsCovered, entries_coming, entries_of_file, entries_standing, entries_within, file_coming};

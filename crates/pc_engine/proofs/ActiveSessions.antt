@@ -8,7 +8,7 @@ use Rattle.pc_model.specs.History.{History, Effect, class_of, class_by, phase_of
 use Rattle.pc_types.specs.declared.Class.{Class}
 use Rattle.pc_types.specs.Phases.{same_class}
 use Rattle.pc_transactions.specs.Sessions.{with_session, is_of, count_of}
-use Rattle.pc_engine.specs.Store.{active_in as session_at}
+use Rattle.pc_transactions.specs.Actives.{active_in as session_at}
 use Rattle.pc_transactions.specs.Actives.{Active}
 use Rattle.pc_engine.specs.Stands.{active_after}
 

@@ -15,7 +15,8 @@ use Rattle.pc_model.proofs.StandingLaws.{closed_stays}
 use Rattle.pc_model.specs.LegalEffects.{changes_closed}
 use Rattle.pc_records.specs.Rows.{Row}
 use Rattle.pc_records.specs.Following.{AreRecords}
-use Rattle.pc_engine.specs.Store.{Store, setting_of, active_in as session_at}
+use Rattle.pc_engine.specs.Store.{Store, setting_of}
+use Rattle.pc_transactions.specs.Actives.{active_in as session_at}
 use Rattle.pc_transactions.specs.Actives.{Active}
 use Rattle.pc_engine.specs.Stands.{IsReadOff}
 use Rattle.pc_engine.proofs.ActiveSessions.{is_past, active_by}

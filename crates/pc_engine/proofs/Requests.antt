@@ -31,7 +31,8 @@ use Rattle.pc_records.specs.NewKeys.{is_one_too_many}
 use Rattle.pc_records.proofs.FollowingLaws.{asked_records}
 use Rattle.pc_records.proofs.OccupiedLaws.{full_now}
 use Rattle.pc_transactions.specs.Sessions.{number_in, writes_in, seen_in, with_session, after_writing, after_dying, if_granted}
-use Rattle.pc_engine.specs.Store.{Store, setting_of, active, active_in as session_at}
+use Rattle.pc_engine.specs.Store.{Store, setting_of, active}
+use Rattle.pc_transactions.specs.Actives.{active_in as session_at}
 use Rattle.pc_transactions.specs.Actives.{Active}
 use Rattle.pc_engine.specs.Steps.{open_causes, write_causes, after_asking, outcome_in, Gets, WritesKey, AddsTo, adding_causes}
 use Rattle.pc_engine.specs.Stands.{IsReadOff, Stands, Follows}

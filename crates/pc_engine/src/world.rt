@@ -23,9 +23,10 @@ use pc_answers::{
     abort_reply, add_reply, begin_reply, commit_reply, get_reply, take_reply, write_reply,
 };
 use pc_audit::is_sound;
+use pc_bases::Base;
 use pc_capture::SharedPart;
 use pc_kept_log::Log;
-use pc_part::{Base, Part};
+use pc_part::Part;
 use pc_phase::Change;
 use pc_taken::Taken;
 use pc_transactions::Sessions;

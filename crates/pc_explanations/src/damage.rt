@@ -2,12 +2,13 @@
 use crate::explaining::{Lines, bytes_of};
 use crate::meanings::meaning_of;
 use itoa::Buffer;
+use pc_bases::Base;
 use pc_disk::{
     BASE, Causes, FoundFolder, LOG, PART_END, ReadFolder, names_in, open_folder, path_in,
 };
 use pc_faults::{TextKind, locate};
 use pc_log::read_log;
-use pc_part::{Base, Part, join};
+use pc_part::{Part, join};
 use pc_restore::run_recover;
 use pc_texts::put_name;
 use pc_types::{Refusal, Tally};

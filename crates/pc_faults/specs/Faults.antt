@@ -2,7 +2,8 @@
 use Rattle.std.specs.Prelude.{◌≡◌, ◌≤◌, ℕ, suc, Bool, true, false, List, length, take, Option, Some, None, Result, Ok, Err}
 use Rattle.pc_types.specs.declared.refusal.Refusal.{Refusal}
 use Rattle.pc_types.specs.declared.refusal.Refusal.TheVariants.{Short}
-use Rattle.pc_part.specs.Reading.{base_at, part_at}
+use Rattle.pc_part.specs.Reading.{part_at}
+use Rattle.pc_bases.specs.Reading.{base_at}
 use Rattle.pc_faults.specs.declared.texts.TextKind.{TextKind}
 use Rattle.pc_faults.specs.declared.texts.TextKind.TheVariants as kind
 

@@ -2,7 +2,8 @@
 ghost use Rattle.std.specs.Prelude.{◌≡◌, IfOk, MatchOption, None, false};
 ghost use Rattle.pc_faults.specs.Faults.{IsFaultOf, IsSeenWith, fault_at, is_short};
 
-use pc_part::{Base, Part};
+use pc_bases::Base;
+use pc_part::Part;
 use pc_types::Refusal;
 use std::alloc::{AllocError, Global};
 

@@ -2,7 +2,7 @@
 use Rattle.std.specs.Prelude.{◌⊎◌, ◌≢◌, ◌≤◌, ◌+◌, ℕ, List, Option}
 use Rattle.pc_model.specs.Files.{BaseFile}
 use Rattle.pc_log.specs.Texts.{header_text}
-use Rattle.pc_part.specs.Texts.{base_text}
+use Rattle.pc_bases.specs.Texts.{base_text}
 use Rattle.pc_generations.specs.Folders.{Counts, IsUnbegun, StaysAt, next_of}
 
 -- the generation after the one that counted counts, with the text of this base and a log of its run without entries

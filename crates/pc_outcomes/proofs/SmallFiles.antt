@@ -19,7 +19,7 @@ use Rattle.pc_model.specs.Standing.{IsOfItsPoints, PrecedesNext}
 use Rattle.pc_model.proofs.ContentLaws.{contains-items, laid_content_from, one_number, one_of_numbers}
 use Rattle.pc_model.proofs.LegalEffectLaws.{legal_has_legal_effects}
 use Rattle.pc_model.proofs.ShelfFileLaws.{is_ordered, triples_is}
-use Rattle.pc_part.proofs.GapLaws.{greatest_bound}
+use Rattle.pc_bases.proofs.GapLaws.{greatest_bound}
 use Rattle.pc_outcomes.proofs.FewWriteLaws.{commits_within}
 use Rattle.pc_model.proofs.LogLimits.{log_within}
 use Rattle.pc_outcomes.proofs.RoomLaws.{state_within}

@@ -22,8 +22,8 @@ use Rattle.pc_model.specs.Standing.{IsOfItsPoints}
 use Rattle.pc_model.proofs.ShelfFileLaws.{joined_of_points}
 use Rattle.pc_merge.specs.Folds.{folded, has_other_run, IsFoldCause, Folds}
 use Rattle.pc_part.specs.Joins.{first_cause}
-use Rattle.pc_part.specs.Layings.{gap_causes}
-use Rattle.pc_part.proofs.GapLaws.{greatest_reached}
+use Rattle.pc_bases.specs.Layings.{gap_causes}
+use Rattle.pc_bases.proofs.GapLaws.{greatest_reached}
 use Rattle.pc_collapse.specs.Laws.{FilesFoldWell, IsOfAllPoints}
 use Rattle.pc_outcomes.specs.Leaving.{AreLeftAfter, Folded, IsUnfolded, IsUnlaid, IsUntoldAfter, has_point}
 use Rattle.pc_outcomes.proofs.LegacyLaws.{of_all}

@@ -15,7 +15,7 @@ use Rattle.pc_model.specs.LaidFiles.{laid_file}
 use Rattle.pc_model.specs.Replies.{Setting, IsLegalHistory}
 use Rattle.pc_model.specs.Standing.{IsOfItsPoints}
 use Rattle.pc_part.specs.Joins.{first_cause}
-use Rattle.pc_part.specs.Layings.{lay_causes}
+use Rattle.pc_bases.specs.Layings.{lay_causes}
 use Rattle.pc_merge.specs.Folds.{Folds}
 use Rattle.pc_collapse.specs.Laws.{IsOfAllPoints}
 use Rattle.pc_audit.specs.Checks.{IsFileRight}

@@ -11,10 +11,11 @@ ghost use Rattle.pc_outcomes.specs.Leaving.{is_commit, commits_in, summary_if_an
 
 use crate::run_report::{Collapsed, StoreReport};
 use pc_audit::{are_files_right, files_of_their_points_are_right};
+use pc_bases::{Base, lay};
 use pc_capture::SharedPart;
 use pc_collapse::{collapse_bag_owned, files_fold_well};
 use pc_kept_log::{LentEntry, Log};
-use pc_part::{Base, Part, lay};
+use pc_part::Part;
 use pc_types::{Gate, Refusal};
 use std::alloc::{AllocError, Global};
 use std::hash::RandomState;

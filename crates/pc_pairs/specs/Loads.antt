@@ -3,7 +3,7 @@ use Rattle.std.specs.Prelude.{◌≡◌, ℕ, ◌+◌, ◌<◌, ◌==◌, List, 
 use Rattle.std.specs.List.{position}
 use Rattle.pc_types.specs.FieldForms.{IsBytes}
 use Rattle.pc_types.specs.declared.limits.TheConstants.{MOST_FILE_ENTRIES}
-use Rattle.pc_part.specs.Lawful.{IsPair}
+use Rattle.pc_bases.specs.Lawful.{IsPair}
 use Rattle.pc_model.specs.Files.{BaseFile}
 use Rattle.pc_model.specs.Maps.{empty, get, insert, len}
 use Rattle.pc_model.specs.Database.{Database}

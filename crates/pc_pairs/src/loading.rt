@@ -12,7 +12,7 @@ use crate::form::Form;
 use crate::gathered::Gathered;
 use crate::reading::{Fault, PairLine, pair_in};
 use bstr::ByteSlice;
-use pc_part::Base;
+use pc_bases::Base;
 use pc_types::{Key, MOST_FILE_ENTRIES, Value};
 use std::alloc::{AllocError, Global};
 

@@ -9,9 +9,8 @@ use Rattle.pc_model.specs.Files.{File}
 use Rattle.pc_model.specs.TripleLists.{entry_of, entries_of}
 use Rattle.pc_types.specs.declared.Triple.{Triple}
 use Rattle.pc_part.specs.declared.ranges.Range.{Range}
-use Rattle.pc_part.specs.Bases.{IsWithinLimit}
+use Rattle.pc_part.specs.Parts.{IsWithinLimit, points_from, points_in, points_of, RangesFrom, AreRanges, AreCovered}
 use Rattle.pc_part.specs.Lawful.{IsPoint, IsPartEntry, HasLimits, IsPartFile}
-use Rattle.pc_part.specs.Parts.{points_from, points_in, points_of, RangesFrom, AreRanges, AreCovered}
 use Rattle.pc_part.proofs.RangePointLaws.{items-points_of}
 
 run_points : (p n : ℕ) (rest : List ℕ) → 1 ≤ p → p + n ≤ 65536 → AllByRecursion IsPoint rest → AllByRecursion IsPoint (points_from p n ++ rest)

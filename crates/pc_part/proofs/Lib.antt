@@ -1,31 +1,27 @@
-pub mod BaseFileLaws
-mod BaseTexts
 mod CompleteParts
 mod CoveringRanges
-pub mod CutBaseLaws
 pub mod CutPartLaws
-pub mod GapLaws
-mod ItemLaws
+pub mod ItemLaws
 mod JoinLemmas
 mod JoinedFiles
 mod JoinedLists
-mod LaidLists
 pub mod LawfulParts
 pub mod LentLaws
+pub mod ListLaws
 pub mod LocalSteps
 mod Magics
+pub mod NextKeyLaws
 pub mod PartFileLaws
 mod PartTexts
-mod PassedItems
 mod PassedTexts
 pub mod RangePointLaws
+mod RangeUnions
+mod RangesOfPoints
 mod ReadFields
 mod ReadLists
 mod ReadParts
-mod RangeUnions
-mod RangesOfPoints
-mod Refused
-mod RisingKeys
+pub mod RefusalLaws
+pub mod RisingKeyLaws
 mod RoundTrips
 mod Successes
 pub mod TakenTriples

@@ -1,12 +1,12 @@
 -- The points of ranges: they ascend, they give the ranges back, and a range has each of them.
-use Rattle.std.proofs.Common.{◌≡◌, ℕ, zero, suc, ◌+◌, ◌-◌, ◌<◌, ◌≤◌, ◌&&◌, ◌||◌, nat_le, nat_lt, T, Bool, true, false, List, [], ◌∷◌, ◌++◌, append_assoc, map, refl, sym, ap, subst, ◌∙◌, arith}
+use Rattle.std.proofs.Common.{◌≡◌, ℕ, zero, suc, ◌+◌, ◌-◌, ◌<◌, ◌≤◌, ◌&&◌, ◌||◌, nat_le, nat_lt, T, Bool, true, false, List, [], ◌∷◌, ◌++◌, append_assoc, map, is_some, refl, sym, ap, subst, ◌∙◌, arith}
 use Rattle.std.specs.Prelude.{⊤}
 use Rattle.std.specs.List.{list_any}
 use Rattle.std.specs.declared.cmp.Ordering.TheVariants.{Less}
 use Rattle.std.specs.Ordering.{nat_cmp, is_lt, eq_by_cmp}
 use Rattle.std.specs.Cmp.{nat_cmp_is, unsigned_tied}
 use Rattle.std.specs.FinMap.{is_sorted}
-use Rattle.std.specs.FinMap.Entries.{below_all, same_entries}
+use Rattle.std.specs.FinMap.Entries.{below_all, same_entries, is_some-find}
 use Rattle.std.proofs.lemmas.Bool.Decides.{nat_tests}
 use Rattle.std.proofs.lemmas.List.Folds.{list_any-append}
 use Rattle.pc_model.specs.Maps as map_of
@@ -134,3 +134,14 @@ contains-points_of ranges q = contains-from_list number_order (points_in ranges)
     among (r ∷ ranges) = list_any-append (eq_by_cmp nat_cmp q) (points_from r.low (r.high + 1 - r.low)) (points_in ranges)
         ∙ ap (λ b. b || list_any (eq_by_cmp nat_cmp q) (points_in ranges)) (in_run q r.low (r.high + 1 - r.low) ∙ ends r.low r.high)
         ∙ ap (λ b. (nat_le r.low q && nat_le q r.high) || b) (among ranges)
+
+-- the range has the point; some range has it
+abbrev pub has_point : Range → ℕ → Bool
+has_point r q = nat_le r.low q && nat_le q r.high
+
+abbrev pub have_point : List Range → ℕ → Bool
+have_point ranges q = list_any (λ r. has_point r q) ranges
+
+-- the points of a set are those that it contains
+pub contains-items : (s : Set number_order) (q : ℕ) → list_any (eq_by_cmp nat_cmp q) (set.items s) ≡ set.contains s q
+contains-items s q = sym (ap is_some (get-entries s q) ∙ is_some-find nat_cmp q s.entries)

@@ -1,14 +1,13 @@
 -- The union of ranges, gone through by their first points.
-use Rattle.std.proofs.Common.{◌≡◌, ℕ, ◌+◌, ◌≤◌, ◌&&◌, ◌||◌, nat_le, max, get_or, Bool, true, false, List, [], ◌∷◌, ◌++◌, length, map, Bor, append_assoc, is_some, Option, Some, cond, if◌then◌else◌, refl, sym, ap, ◌∙◌, arith}
+use Rattle.std.proofs.Common.{◌≡◌, ℕ, ◌+◌, ◌≤◌, ◌||◌, nat_le, max, get_or, Bool, true, false, List, [], ◌∷◌, ◌++◌, length, map, Bor, append_assoc, is_some, Option, Some, cond, if◌then◌else◌, refl, sym, ap, ◌∙◌, arith}
 use Rattle.std.specs.Prelude.{⊤}
 use Rattle.std.specs.List.{list_any}
 use Rattle.std.specs.Ordering.{nat_cmp, eq_by_cmp}
-use Rattle.std.specs.FinMap.Entries.{is_some-find}
 use Rattle.std.proofs.lemmas.Bool.Decides.{nat_tests}
 use Rattle.pc_model.specs.Maps as map_of
 use Rattle.pc_model.specs.Sets as set
 use Rattle.pc_model.specs.Sets.{Set, number_order}
-use Rattle.pc_model.proofs.MapLaws.{get-insert, get-entries}
+use Rattle.pc_model.proofs.MapLaws.{get-insert}
 use Rattle.pc_model.proofs.SetLaws.{same_set}
 use Rattle.pc_part.specs.declared.ranges.Range.{Range}
 use Rattle.pc_types.specs.declared.Triple.{Triple}
@@ -20,17 +19,10 @@ use Rattle.itertools.proofs.TwoLemmas.{YieldsList-from_gives_of_both_refs}
 use Rattle.std.specs.Iterator.Order.{ActsAsAtTwo}
 use Rattle.std.proofs.lemmas.Iterator.{YieldsList}
 use denote.Param.Members.{Mut}
-use Rattle.pc_part.proofs.RangePointLaws.{contains-points_of}
+use Rattle.pc_part.proofs.RangePointLaws.{contains-points_of, has_point, have_point, contains-items}
 
 abbrev now : Bor Range → Range
 now r = r.now
-
--- the range has the point; some range has it
-abbrev pub has_point : Range → ℕ → Bool
-has_point r q = nat_le r.low q && nat_le q r.high
-
-abbrev pub have_point : List Range → ℕ → Bool
-have_point ranges q = list_any (λ r. has_point r q) ranges
 
 -- ranges that ascend from a point ascend from each lesser one, and from each that their first is not below
 lower : (least less : ℕ) (ranges : List Range) → less ≤ least → RangesFrom least ranges → RangesFrom less ranges
@@ -169,9 +161,6 @@ contains-insert_all s (k ∷ ks) q = ap is_some (get-insert (set.insert_all s ks
     put_or : (b : Bool) (x : Option ⊤) → is_some (cond b (Some (tt {0})) x) ≡ (b || is_some x)
     put_or true x = refl
     put_or false x = refl
-
-pub contains-items : (s : Set number_order) (q : ℕ) → list_any (eq_by_cmp nat_cmp q) (set.items s) ≡ set.contains s q
-contains-items s q = sym (ap is_some (get-entries s q) ∙ is_some-find nat_cmp q s.entries)
 
 pub contains-union : (s t : Set number_order) (q : ℕ) → set.contains (set.union s t) q ≡ (set.contains s q || set.contains t q)
 contains-union s t q = contains-insert_all s (set.items t) q ∙ ap (λ b. b || set.contains s q) (contains-items t q) ∙ or_comm (set.contains t q) (set.contains s q)

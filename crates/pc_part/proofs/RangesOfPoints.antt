@@ -18,12 +18,8 @@ use Rattle.pc_model.proofs.SetLaws.{contains-from_list, same_set}
 use Rattle.pc_part.specs.declared.ranges.Range.{Range}
 use Rattle.pc_part.specs.Lawful.{IsPoint}
 use Rattle.pc_part.specs.Parts.{points_from, points_in, points_of, RangesFrom, AreRanges}
-use Rattle.pc_part.proofs.RisingKeys.{first, second, less}
-
--- what holds of each element, by recursion
-pub by_recursion : {X : Type 0} (P : X → Type 0) (xs : List X) → All P xs → AllByRecursion P xs
-by_recursion P [] h = tt
-by_recursion P (x ∷ xs) h = (h 0 x (omega arith), by_recursion P xs (λ k d lt. h (suc k) d (omega (arith, lt))))
+use Rattle.pc_part.proofs.RisingKeyLaws.{first, second, less}
+use Rattle.pc_part.proofs.ListLaws.{by_recursion}
 
 -- points that ascend from this one on, up to 65,535
 abbrev PointsFrom : ℕ → List ℕ → Type 0

@@ -1,4 +1,4 @@
--- What is read of ranges, keys, entries and pairs is what was written, and what was written is read again.
+-- What is read of ranges, keys and entries is what was written, and what was written is read again.
 use Rattle.std.proofs.Common.{◌≡◌, ℕ, zero, suc, ◌+◌, ◌-◌, ◌^◌, ◌<◌, ◌≤◌, ◌&&◌, nat_le, eqb, true, false, cond, List, [], ◌∷◌, ◌++◌, length, Option, Some, None, Ok, refl, sym, ap, subst, ◌∙◌, append_assoc, arith}
 use Rattle.std.specs.Prelude.{IfSome}
 use Rattle.std.specs.List.{flat_map}
@@ -8,25 +8,23 @@ use Rattle.std.proofs.lemmas.Bool.{eqb-true}
 use Rattle.std.proofs.lemmas.Bool.Decides.{nat_tests}
 use Rattle.std.proofs.lemmas.List.{length-append}
 use Rattle.std.proofs.lemmas.List.Concat.{flat_map-cons}
-use Rattle.pc_types.specs.declared.Refusal.TheVariants.{Short, KeyOrder, NotCovered}
-use Rattle.pc_types.specs.Limits.{IsKey, IsValue}
+use Rattle.pc_types.specs.declared.Refusal.TheVariants.{Short, NotCovered}
+use Rattle.pc_types.specs.Limits.{IsValue}
 use Rattle.pc_types.specs.declared.formats.Format.{Format}
-use Rattle.pc_types.specs.Fields.{◌>>=◌, where_true, number_at, sized_key_at, value_at, content_at, key_text_in, sized_key_text, HasKey, value_text, content_text}
-use Rattle.pc_types.proofs.FieldLaws.{bind_ok, where_ok, ok_is, TakesText-then, wide16, wide32, number_takes, number_again, sized_key_takes, sized_key_again, value_takes, value_again, content_takes, content_again}
+use Rattle.pc_types.specs.Fields.{◌>>=◌, where_true, number_at, content_at, key_text_in, sized_key_text, HasKey, content_text}
+use Rattle.pc_types.proofs.FieldLaws.{bind_ok, where_ok, ok_is, TakesText-then, wide16, wide32, number_takes, number_again, content_takes, content_again}
 use Rattle.pc_types.specs.FieldForms.{IsBytes, TakesText}
 use Rattle.pc_model.specs.Database.{key_cmp}
 use Rattle.pc_model.specs.Points.{AtPoint}
 use Rattle.pc_types.specs.declared.Triple.{Triple}
 use Rattle.pc_part.specs.declared.ranges.Range.{Range}
-use Rattle.pc_part.specs.Lawful.{HasLimits, IsPair}
+use Rattle.pc_part.specs.Lawful.{HasLimits}
 use Rattle.pc_part.specs.Parts.{RangesFrom, covers}
-use Rattle.pc_part.specs.Reading.{range_at, ranges_at, next_key_at, point_at, entry_at, next_entry_at, entries_from, entries_at, pair_at, pairs_at}
-use Rattle.pc_part.specs.Texts.{bounds_text, triple_text_in, pair_text_in}
+use Rattle.pc_part.specs.Reading.{range_at, ranges_at, next_key_at, point_at, entry_at, next_entry_at, entries_from, entries_at}
+use Rattle.pc_part.specs.Texts.{bounds_text, triple_text_in}
 use Rattle.pc_part.proofs.ItemLaws.{items_take, items_again}
 use Rattle.pc_part.proofs.ReadLists.{range_steps, covered_fits}
-
-abbrev Pair : Type 0
-Pair = List ℕ × List ℕ
+use Rattle.pc_part.proofs.NextKeyLaws.{key_takes, key_text_takes, key_again}
 
 -- ---- ranges
 
@@ -52,26 +50,7 @@ ranges_take = items_take _ _ bounds_text RangesFrom (λ least. tt) (λ least byt
 pub ranges_again : (least : ℕ) (ranges : List Range) (rest : List ℕ) → RangesFrom least ranges → ranges_at (length ranges) least (flat_map bounds_text ranges ++ rest) ≡ Ok (ranges, rest)
 ranges_again = items_again _ _ bounds_text RangesFrom (λ least r ranges rest h. (range_again least r rest h.0 h.1 h.2, h.3))
 
--- ---- keys, entries and pairs
-
-key_takes : (format : Format) (last : List ℕ) (count : ℕ) (bytes : List ℕ) (x : List ℕ × List ℕ) → IsBytes bytes → next_key_at format last count bytes ≡ Ok x
-    → TakesText bytes (sized_key_text format x.0) x.1 × (length x.0 ≡ count + 2) × IsKey x.0 × HasKey format x.0 × (is_lt (key_cmp last x.0) ≡ true)
-unfolding next_key_at
-key_takes format last count bytes x fits e =
-    let a = bind_ok (sized_key_at format Short count bytes) (λ key. where_true (is_lt (key_cmp last key.0)) KeyOrder key) x e in
-    let t = sized_key_takes format Short count bytes a.0.0 a.0.1 fits a.1 in
-    let g = where_ok (is_lt (key_cmp last a.0.0)) KeyOrder a.0 x a.2 in
-    subst (λ (y : List ℕ × List ℕ). TakesText bytes (sized_key_text format y.0) y.1 × (length y.0 ≡ count + 2) × IsKey y.0 × HasKey format y.0 × (is_lt (key_cmp last y.0) ≡ true)) {x = a.0} g.1 (t.0, t.1, t.2, t.3, g.0)
-
--- with its length before it, it is the key's text
-key_text_takes : (format : Format) (bytes : List ℕ) (count : ℕ) (behind key rest : List ℕ) → TakesText bytes (to_be_bytes w16 count) behind → TakesText behind (sized_key_text format key) rest → length key ≡ count + 2 → TakesText bytes (key_text_in format key) rest
-key_text_takes format bytes count behind key rest len text is =
-    let same : count ≡ length key - 2 = omega (arith, is) in
-    TakesText-then bytes (to_be_bytes w16 (length key - 2)) behind (sized_key_text format key) rest (subst (λ (n : ℕ). TakesText bytes (to_be_bytes w16 n) behind) same len) text
-
-key_again : (format : Format) (last key rest : List ℕ) → IsKey key → HasKey format key → is_lt (key_cmp last key) ≡ true → next_key_at format last (length key - 2) (sized_key_text format key ++ rest) ≡ Ok (key, rest)
-unfolding next_key_at
-key_again format last key rest is_key has above = rw (sized_key_again format Short key rest is_key has, above) refl
+-- ---- keys and entries
 
 -- the bytes of an entry after its key
 abbrev there_text : AtPoint → List ℕ
@@ -203,37 +182,3 @@ entries_again format (suc turns) least ranges apart last (t ∷ triples) rest h 
   where
     regrouped : (first others mark rest : List ℕ) → (((first ++ others) ++ mark) ++ rest) ≡ first ++ ((others ++ mark) ++ rest)
     regrouped first others mark rest = simp append_assoc
-
--- pairs within their limits, whose keys ascend, the first above this one, and each of which the format has a text
-abbrev pub PairsFrom : Format → List ℕ → List Pair → Type 0
-PairsFrom format last [] = Unit {0}
-PairsFrom format last (p ∷ pairs) = (is_lt (key_cmp last p.0) ≡ true) × IsPair p × HasKey format p.0 × PairsFrom format p.0 pairs
-
-pair_takes : (format : Format) (last bytes : List ℕ) (x : Pair × List ℕ) → IsBytes bytes → pair_at format last bytes ≡ Ok x → TakesText bytes (pair_text_in format x.0) x.1 × (is_lt (key_cmp last x.0.0) ≡ true) × IsPair x.0 × HasKey format x.0.0
-unfolding pair_at
-pair_takes format last bytes x fits e =
-    let a = bind_ok (number_at Short w16 bytes) (λ count. next_key_at format last count.0 count.1 >>= λ key. value_at Short key.1 >>= λ value. Ok ((key.0, value.0), value.1)) x e in
-    let k = bind_ok (next_key_at format last a.0.0 a.0.1) (λ key. value_at Short key.1 >>= λ value. Ok ((key.0, value.0), value.1)) x a.2 in
-    let v = bind_ok (value_at Short k.0.1) (λ value. Ok ((k.0.0, value.0), value.1)) x k.2 in
-    let len = number_takes Short w16 (2 ^ 16) wide16 bytes a.0.0 a.0.1 fits a.1 in
-    let key = key_takes format last a.0.0 a.0.1 k.0 len.0.rest_fits k.1 in
-    let value = value_takes Short k.0.1 v.0.0 v.0.1 key.0.rest_fits v.1 in
-    let all = TakesText-then bytes (key_text_in format k.0.0) k.0.1 (value_text v.0.0) v.0.1 (key_text_takes format bytes a.0.0 a.0.1 k.0.0 k.0.1 len.0 key.0 key.1) value.0 in
-    let made : Pair × List ℕ = ((k.0.0, v.0.0), v.0.1) in
-    subst (λ (y : Pair × List ℕ). TakesText bytes (pair_text_in format y.0) y.1 × (is_lt (key_cmp last y.0.0) ≡ true) × IsPair y.0 × HasKey format y.0.0) {x = made} (ok_is made x v.2) (all, key.4, (key.2, value.1), key.3)
-
-pair_again : (format : Format) (last : List ℕ) (pair : Pair) (rest : List ℕ) → is_lt (key_cmp last pair.0) ≡ true → IsPair pair → HasKey format pair.0 → pair_at format last (pair_text_in format pair ++ rest) ≡ Ok (pair, rest)
-unfolding pair_at
-pair_again format last pair rest above lawful has =
-    let text : pair_text_in format pair ++ rest ≡ to_be_bytes w16 (length pair.0 - 2) ++ (sized_key_text format pair.0 ++ (value_text pair.1 ++ rest)) = regrouped (to_be_bytes w16 (length pair.0 - 2)) (sized_key_text format pair.0) (value_text pair.1) rest in
-    let len = ap (number_at Short w16) text ∙ number_again Short w16 (2 ^ 16) wide16 (length pair.0 - 2) (sized_key_text format pair.0 ++ (value_text pair.1 ++ rest)) (omega (arith, lawful.0.1)) in
-    rw (len, key_again format last pair.0 (value_text pair.1 ++ rest) lawful.0 has above, value_again Short pair.1 rest lawful.1) refl
-  where
-    regrouped : (len key value rest : List ℕ) → (((len ++ key) ++ value) ++ rest) ≡ len ++ (key ++ (value ++ rest))
-    regrouped len key value rest = simp append_assoc
-
-pub pairs_take : (format : Format) (count : ℕ) (last bytes : List ℕ) (x : List Pair × List ℕ) → IsBytes bytes → pairs_at format count last bytes ≡ Ok x → TakesText bytes (flat_map (pair_text_in format) x.0) x.1 × (length x.0 ≡ count) × PairsFrom format last x.0
-pairs_take format = items_take _ _ (pair_text_in format) (PairsFrom format) (λ last. tt) (λ last bytes x fits e. let taken = pair_takes format last bytes x fits e in (taken.0, λ others rise. (taken.1, taken.2, taken.3, rise)))
-
-pub pairs_again : (format : Format) (last : List ℕ) (pairs : List Pair) (rest : List ℕ) → PairsFrom format last pairs → pairs_at format (length pairs) last (flat_map (pair_text_in format) pairs ++ rest) ≡ Ok (pairs, rest)
-pairs_again format = items_again _ _ (pair_text_in format) (PairsFrom format) (λ last pair pairs rest h. (pair_again format last pair rest h.0 h.1 h.2, h.3))

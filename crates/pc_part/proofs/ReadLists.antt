@@ -11,8 +11,9 @@ use Rattle.pc_types.proofs.FieldLaws.{bind_ok, where_ok}
 use Rattle.pc_types.specs.declared.Triple.{Triple}
 use Rattle.pc_part.specs.declared.ranges.Range.{Range}
 use Rattle.pc_part.specs.Parts.{RangesFrom, covers}
-use Rattle.pc_part.specs.Reading.{range_at, next_entry_at, key_or_empty, last_key, pair_key_or_empty, last_pair_key, entries_at}
+use Rattle.pc_part.specs.Reading.{range_at, next_entry_at, key_or_empty, last_key, entries_at}
 use Rattle.pc_part.proofs.ItemLaws.{with_front, regroup}
+use Rattle.pc_part.proofs.ListLaws.{added_last}
 
 -- a point of such ranges is at most 65,535
 pub covered_fits : (least : ℕ) (ranges : List Range) (point : ℕ) → RangesFrom least ranges → covers ranges point ≡ true → point ≤ 65535
@@ -24,21 +25,11 @@ covered_fits least (r ∷ ranges) point h e =
       | false ↦ λ _ rest. covered_fits (r.high + 2) ranges point h.3 rest
     ] refl e
 
-added_last : {X : Type 0} (xs : List X) (x : X) → slice_get (xs ++ x ∷ []) (length xs) ≡ Some x
-added_last [] x = refl
-added_last (y ∷ ys) x = added_last ys x
-
 -- the last key is that of the entry that was added
 pub last_key_is : (entries : List Triple) (entry : Triple) → last_key (entries ++ entry ∷ []) ≡ entry.key
 last_key_is entries entry =
     let before : length (entries ++ entry ∷ []) - 1 ≡ length entries = omega (arith, length-append entries (entry ∷ [])) in
     ap (λ (n : ℕ). key_or_empty (slice_get (entries ++ entry ∷ []) n)) before ∙ ap key_or_empty (added_last entries entry)
-
--- the same of pairs
-pub last_pair_key_is : (pairs : List (List ℕ × List ℕ)) (pair : List ℕ × List ℕ) → last_pair_key (pairs ++ pair ∷ []) ≡ pair.0
-last_pair_key_is pairs pair =
-    let before : length (pairs ++ pair ∷ []) - 1 ≡ length pairs = omega (arith, length-append pairs (pair ∷ [])) in
-    ap (λ (n : ℕ). pair_key_or_empty (slice_get (pairs ++ pair ∷ []) n)) before ∙ ap pair_key_or_empty (added_last pairs pair)
 
 -- one turn of reading entries: nothing at the end mark, else an entry
 module _ (format : Format) (front : List Triple) (count i : ℕ) (ranges : List Range) (last bytes : List ℕ) (total : Result (List Triple × List ℕ) Refusal) (so_far : with_front front (entries_at format (count - i) ranges last bytes) ≡ total) where

@@ -14,8 +14,7 @@ use Rattle.pc_types.proofs.FieldLaws.{bind_ok, where_ok, ok_is, TakesText-then, 
 use Rattle.pc_types.specs.FieldForms.{IsBytes, TakesText}
 use Rattle.pc_types.specs.declared.Triple.{Triple}
 use Rattle.pc_part.specs.declared.ranges.Range.{Range}
-use Rattle.pc_part.specs.Bases.{IsWithinLimit}
-use Rattle.pc_part.specs.Parts.{AreRanges}
+use Rattle.pc_part.specs.Parts.{IsWithinLimit, AreRanges}
 use Rattle.pc_part.specs.Reading.{ranges_at, entries_at, header_at, PartFields, part_fields_at}
 use Rattle.pc_part.specs.Texts.{part_magic, head_text_in, bounds_text, triple_text_in, end_text}
 use Rattle.pc_part.proofs.Magics.{part_magic_takes, part_magic_again}

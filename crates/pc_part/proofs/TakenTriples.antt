@@ -17,8 +17,7 @@ use Rattle.pc_model.specs.Points.{Triples}
 use Rattle.pc_types.specs.declared.Triple.{Triple}
 use Rattle.pc_model.proofs.PairMapLaws as pairs
 use Rattle.pc_part.specs.declared.ranges.Range.{Range}
-use Rattle.pc_part.specs.Bases.{IsWithinLimit}
-use Rattle.pc_part.specs.Parts.{points_of, AreCovered}
+use Rattle.pc_part.specs.Parts.{IsWithinLimit, points_of, AreCovered}
 use Rattle.pc_part.proofs.RangePointLaws.{contains-points_of}
 
 abbrev Taken : Type 0

@@ -1,5 +1,5 @@
--- The files that have a text: numbers, keys and values are within their limits, and entries are of the file's points. In format
--- 01 their keys are all of space 0.
+-- The part files that have a text: numbers, keys and values are within their limits, and entries are of the file's points. In
+-- format 01 their keys are all of space 0.
 use Rattle.std.specs.Prelude.{◌≡◌, ℕ, ◌≤◌, ◌<◌, ◌^◌, List, IfSome, IsTrue}
 use Rattle.std.specs.List.{All}
 use Rattle.pc_types.specs.Limits.{IsKey, IsValue}
@@ -8,11 +8,11 @@ use Rattle.pc_types.specs.declared.formats.Format.{Format}
 use Rattle.pc_model.specs.Sets as set
 use Rattle.pc_model.specs.Sets.{Set, number_order}
 use Rattle.pc_model.specs.Points.{AtPoint}
-use Rattle.pc_model.specs.Files.{File, BaseFile}
+use Rattle.pc_model.specs.Files.{File}
 use Rattle.pc_types.specs.declared.Triple.{Triple}
 use Rattle.pc_types.specs.declared.limits.TheConstants.{MOST_POINTS}
-use Rattle.pc_part.specs.Bases.{IsWithinLimit}
-use Rattle.pc_part.specs.Texts.{part_text_in, base_text_in}
+use Rattle.pc_part.specs.Parts.{IsWithinLimit}
+use Rattle.pc_part.specs.Texts.{part_text_in}
 
 -- a point of a part is 1 to 65,535
 abbrev pub IsPoint : ℕ → Type 0
@@ -36,17 +36,6 @@ pub record IsPartFile (file : File) : Type 0 where
   pub entries : All (IsPartEntry file.points) file.triples.entries
   pub limit : IsWithinLimit file.triples.entries
 
--- a key and its value
-abbrev pub IsPair : List ℕ × List ℕ → Type 0
-IsPair pair = IsKey pair.0 × IsValue pair.1
-
--- a base file: its run and its point fit, and it has at most 4,294,967,295 pairs
-pub record IsBaseFile (base : BaseFile) : Type 0 where
-  pub run : base.run < 2 ^ 64
-  pub point : base.point ≤ MOST_POINTS
-  pub pairs : All IsPair base.pairs.entries
-  pub limit : IsWithinLimit base.pairs.entries
-
 -- the format has a text of the part: it has one of each key
 abbrev pub HasPart : Format → File → Type 0
 HasPart format file = All (λ entry. HasKey format entry.0) file.triples.entries
@@ -54,11 +43,3 @@ HasPart format file = All (λ entry. HasKey format entry.0) file.triples.entries
 -- the bytes are the part's text in one of the formats
 abbrev pub IsPartText : List ℕ → File → Type 0
 IsPartText bytes file = (format : Format) × HasPart format file × (bytes ≡ part_text_in format file)
-
--- the format has a text of the base: it has one of each key
-abbrev pub HasBase : Format → BaseFile → Type 0
-HasBase format base = All (λ pair. HasKey format pair.0) base.pairs.entries
-
--- the bytes are the base's text in one of the formats
-abbrev pub IsBaseText : List ℕ → BaseFile → Type 0
-IsBaseText bytes base = (format : Format) × HasBase format base × (bytes ≡ base_text_in format base)

@@ -1,7 +1,5 @@
-pub mod Bases
 pub mod Joins
 pub mod Lawful
-pub mod Layings
 pub mod Lent
 pub mod Parts
 pub mod Reading

@@ -10,8 +10,12 @@ use Rattle.pc_model.specs.Sets.{Set, number_order}
 use Rattle.pc_model.specs.Points.{AtPoint, Triples}
 use Rattle.pc_model.specs.Files.{File, numbers_to}
 use Rattle.pc_types.specs.declared.Triple.{Triple}
-use Rattle.pc_types.specs.declared.limits.TheConstants.{MOST_POINTS}
+use Rattle.pc_types.specs.declared.limits.TheConstants.{MOST_FILE_ENTRIES, MOST_POINTS}
 use Rattle.pc_part.specs.declared.ranges.Range.{Range}
+
+-- a file has at most 4,294,967,295 entries
+abbrev pub IsWithinLimit : {X : Type 0} → List X → Type 0
+IsWithinLimit entries = length entries ≤ MOST_FILE_ENTRIES
 
 -- that many points, from this one on
 abbrev pub points_from : ℕ → ℕ → List ℕ

@@ -1,14 +1,14 @@
--- The laws of reading: each file has one text in each format that has its keys, which is read as it, and nothing else is read.
+-- The laws of reading parts: each file has one text in each format that has its keys, which is read as it, and nothing else is read.
 use Rattle.std.specs.Prelude.{◌≡◌, ◌⊎◌, ℕ, ◌<◌, List, ◌++◌, length, take, Result, Ok, Err}
 use Rattle.std.specs.List.{All}
 use Rattle.pc_types.specs.declared.Refusal.{Refusal}
 use Rattle.pc_types.specs.declared.Refusal.TheVariants.{Short}
 use Rattle.pc_types.specs.declared.formats.Format.{Format}
-use Rattle.pc_model.specs.Files.{File, BaseFile}
+use Rattle.pc_model.specs.Files.{File}
 use Rattle.pc_part.specs.declared.ranges.Range.{Range}
-use Rattle.pc_part.specs.Lawful.{IsPartFile, IsBaseFile, HasPart, HasBase, IsPartText, IsBaseText}
-use Rattle.pc_part.specs.Reading.{next_entry_at, header_at, part_at, base_at}
-use Rattle.pc_part.specs.Texts.{part_text_in, base_text_in}
+use Rattle.pc_part.specs.Lawful.{IsPartFile, HasPart, IsPartText}
+use Rattle.pc_part.specs.Reading.{next_entry_at, header_at, part_at}
+use Rattle.pc_part.specs.Texts.{part_text_in}
 
 -- The text of a part file in either format is read as the file.
 abbrev pub PartTextsAreRead : Type 0
@@ -32,15 +32,3 @@ pub record IsLocal {X : Type 0} (read : List ℕ → Result (X × List ℕ) Refu
 -- A part's header and its next entry are read so.
 abbrev pub StepsAreLocal : Type 0
 StepsAreLocal = IsLocal header_at × ((format : Format) (ranges : List Range) (last : List ℕ) → IsLocal (next_entry_at format ranges last))
-
--- The text of a base file in either format is read as the base.
-abbrev pub BaseTextsAreRead : Type 0
-BaseTextsAreRead = (format : Format) (base : BaseFile) → IsBaseFile base → HasBase format base → base_at (base_text_in format base) ≡ Ok base
-
--- Bytes that are read as a base file are a text of that base.
-abbrev pub ReadBasesAreTexts : Type 0
-ReadBasesAreTexts = (bytes : List ℕ) (base : BaseFile) → All (λ byte. byte < 256) bytes → base_at bytes ≡ Ok base → IsBaseFile base × IsBaseText bytes base
-
--- The text of a base file that is truncated anywhere is short.
-abbrev pub CutBaseTextsAreShort : Type 0
-CutBaseTextsAreShort = (format : Format) (base : BaseFile) (n : ℕ) → IsBaseFile base → HasBase format base → n < length (base_text_in format base) → base_at (take n (base_text_in format base)) ≡ Err Short

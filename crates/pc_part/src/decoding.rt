@@ -214,9 +214,11 @@ pub fn read_next_entry<'a>(
     Ok((Some(entry), rest))
 }
 
-// A key of the given number of bytes of its own that comes after the last one.
+/// The key of the given number of bytes of its own at the front of the bytes of a text in this format, which comes after the last
+/// one, and the bytes after it. The last key is given as `read_next_entry` takes it. It allocates memory for a long key alone.
+/// Refuses with `OutOfMemory` only if an allocation failed, else with `Short`, `BadLength` or `KeyOrder`.
 #[tactic(auto, unfolding(crate::specs::Reading::next_key_at))]
-pub(crate) fn read_next_key<'a>(
+pub fn read_next_key<'a>(
     alloc: Global,
     format: Format,
     last: &[u8],

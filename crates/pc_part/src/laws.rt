@@ -1,6 +1,6 @@
-//! Laws of the join, and of reading. Each function does nothing, and its contract is a law.
+//! Laws of the join, and of reading parts. Each function does nothing, and its contract is a law.
 ghost use Rattle.pc_part.specs.Joins.{ConflictsAreMutual, JoinsAreIdempotent, JoinsAssociate, JoinsCommute, JoinsMakeNoConflict};
-ghost use Rattle.pc_part.specs.RoundTrips.{BaseTextsAreRead, CutBaseTextsAreShort, CutPartTextsAreShort, PartTextsAreRead, ReadBasesAreTexts, ReadPartsAreTexts, StepsAreLocal};
+ghost use Rattle.pc_part.specs.RoundTrips.{CutPartTextsAreShort, PartTextsAreRead, ReadPartsAreTexts, StepsAreLocal};
 
 /// Two files of one run without conflict are joined to one file, whichever comes first.
 pub fn joins_commute()
@@ -45,19 +45,4 @@ pub fn cut_part_texts_are_short()
 /// The header and the next entry of a part are read of longer bytes as of these, unless these end too soon.
 pub fn steps_are_local()
     ensures { StepsAreLocal }
-{}
-
-/// The text of a base file is read as the base.
-pub fn base_texts_are_read()
-    ensures { BaseTextsAreRead }
-{}
-
-/// Bytes that are read as a base file are the text of that base.
-pub fn read_bases_are_texts()
-    ensures { ReadBasesAreTexts }
-{}
-
-/// The text of a base file that is truncated anywhere is read as short.
-pub fn cut_base_texts_are_short()
-    ensures { CutBaseTextsAreShort }
 {}

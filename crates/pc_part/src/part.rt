@@ -6,8 +6,7 @@ ghost use Rattle.pc_model.specs.TripleLists.{entries_of, triple_at, triples_of};
 ghost use Rattle.pc_model.specs.Ranges.{ranges_of};
 ghost use Rattle.pc_model.specs.Maps as map_of;
 ghost use Rattle.pc_model.specs.Sets as set;
-ghost use Rattle.pc_part.specs.Bases.{IsWithinLimit};
-ghost use Rattle.pc_part.specs.Parts.{AreCovered, AreRanges, CoversTo, bounds_of, points_of};
+ghost use Rattle.pc_part.specs.Parts.{IsWithinLimit, AreCovered, AreRanges, CoversTo, bounds_of, points_of};
 
 use crate::ranges::{Range, last_covered, points_in};
 use pc_taken::{Entries, Pass, Taken};
@@ -29,8 +28,7 @@ impl Model for Part {
     ghost use Rattle.pc_model.specs.Database.{KeysRise};
     ghost use Rattle.pc_model.specs.Files.{File};
     ghost use Rattle.pc_model.specs.TripleLists.{entries_of, triples_of};
-    ghost use Rattle.pc_part.specs.Bases.{IsWithinLimit};
-    ghost use Rattle.pc_part.specs.Parts.{AreCovered, AreRanges, file_code, points_of};
+    ghost use Rattle.pc_part.specs.Parts.{IsWithinLimit, AreCovered, AreRanges, file_code, points_of};
 
     ghost Value = { File };
 
@@ -155,8 +153,8 @@ impl Part {
         self.entries.pass()
     }
 
-    // The entries, over which passes go.
-    pub(crate) fn kept(&self) -> &Entries
+    /// The entries, over which passes go: they ascend strictly by key, each of one of its points; at most 4,294,967,295.
+    pub fn kept(&self) -> &Entries
         ensures rise { KeysRise (entries_of result.now) }
         ensures covered { AreCovered self.now.points result.now }
         ensures limit { IsWithinLimit result.now }

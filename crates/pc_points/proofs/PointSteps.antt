@@ -5,7 +5,7 @@ use Rattle.pc_types.specs.declared.refusal.Refusal.{Refusal}
 use Rattle.pc_types.specs.Fields.{◌>>=◌}
 use Rattle.pc_model.specs.Database.{Database}
 use Rattle.pc_model.specs.Files.{BaseFile}
-use Rattle.pc_part.specs.Reading.{base_at}
+use Rattle.pc_bases.specs.Reading.{base_at}
 use Rattle.pc_recover.specs.Recovery.{Recovery, IsOfRun, recovery, recovery_on, files_of}
 use Rattle.pc_points.specs.Points.{log_state, parts_to, point_state, state_from}
 

@@ -1,7 +1,7 @@
 -- A run's whole log, and its base without any part.
 use Rattle.std.proofs.Common.{◌≡◌, ℕ, zero, suc, ◌≤◌, ◌<◌, true, false, cond, eqb, ltb, List, [], ◌∷◌, ◌++◌, length, Some, None, Result, Ok, Err, refl, sym, ap, subst, ◌∙◌, arith, length-append}
 use Rattle.std.specs.Prelude.{◌^◌}
-use Rattle.std.specs.List.{list_all}
+use Rattle.std.specs.List.{list_all, flat_map}
 use Rattle.std.proofs.Math.Dec.{eqb-suc-zero}
 use Rattle.std.proofs.lemmas.Bool.Decides.{nat_tests}
 use Rattle.pc_types.specs.declared.limits.TheConstants.{MOST_POINTS}
@@ -12,11 +12,10 @@ use Rattle.pc_types.specs.Fields.{◌>>=◌, where_true}
 use Rattle.pc_model.specs.Database.{Database}
 use Rattle.pc_model.specs.Files.{BaseFile, numbers_to}
 use Rattle.pc_model.specs.Log.{after, front, has_token}
-use Rattle.pc_part.specs.Reading.{base_at}
+use Rattle.pc_bases.specs.Reading.{base_at}
 use Rattle.pc_log.specs.Laws.{IsLog, LogTextsAreRead}
 use Rattle.pc_log.specs.Reading.{LogRead, log_at}
 use Rattle.pc_log.specs.Texts.{header_text_in, entry_text_in, log_text_in, IsLogText}
-use Rattle.std.specs.List.{flat_map}
 use Rattle.pc_log.proofs.EntriesAgain.{header_length}
 use Rattle.pc_recover.specs.Recovery.{Recovery, recovery, recovery_on, recovered_point, last_reached, is_covered, entries_after, log_of_run}
 use Rattle.pc_points.specs.Laws.{LogsGiveStates}

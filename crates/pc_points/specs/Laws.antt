@@ -3,7 +3,7 @@ use Rattle.std.specs.Prelude.{◌≡◌, ℕ, ◌<◌, ◌≤◌, ◌^◌, List,
 use Rattle.pc_types.specs.declared.Entry.{Entry}
 use Rattle.pc_model.specs.Database.{Database}
 use Rattle.pc_model.specs.Log.{has_token, state_at}
-use Rattle.pc_part.specs.Reading.{base_at}
+use Rattle.pc_bases.specs.Reading.{base_at}
 use Rattle.pc_log.specs.Laws.{IsLog}
 use Rattle.pc_log.specs.Texts.{IsLogText}
 use Rattle.pc_points.specs.Points.{point_state}

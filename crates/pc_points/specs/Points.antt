@@ -8,7 +8,8 @@ use Rattle.pc_model.specs.Database.{Database, database_of}
 use Rattle.pc_model.specs.Files.{File}
 use Rattle.pc_model.specs.LaidFiles.{greatest}
 use Rattle.pc_model.specs.Log.{after, front, has_token}
-use Rattle.pc_part.specs.Reading.{part_at, base_at}
+use Rattle.pc_part.specs.Reading.{part_at}
+use Rattle.pc_bases.specs.Reading.{base_at}
 use Rattle.pc_recover.specs.Recovery.{Recovery, recovery, log_of_run, entries_after}
 
 -- the bytes are the text of a part that has a point above n

@@ -19,8 +19,8 @@ use Rattle.pc_model.specs.Replies.{join_causes}
 use Rattle.pc_model.proofs.ContentLaws.{contains-items, contains-union, laid_content_from}
 use Rattle.pc_model.proofs.ShelfFileLaws.{join_well, joined_of_points, run_is, triples_is}
 use Rattle.pc_part.specs.Joins.{first_cause}
-use Rattle.pc_part.specs.Layings.{lay_causes}
-use Rattle.pc_part.proofs.GapLaws.{greatest_bound, greatest_reached}
+use Rattle.pc_bases.specs.Layings.{lay_causes}
+use Rattle.pc_bases.proofs.GapLaws.{greatest_bound, greatest_reached}
 use Rattle.pc_recover.specs.Recovery.{is_covered, files_to, unless, folded, with_files}
 use Rattle.pc_recover.proofs.RecoveredPoints.{holds_at, holds_at_all, finds_none}
 

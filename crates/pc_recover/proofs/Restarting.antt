@@ -15,8 +15,9 @@ use Rattle.pc_model.specs.Database.{Database}
 use Rattle.pc_model.specs.Log.{after, has_token, state_at}
 use Rattle.pc_model.specs.Files.{File, BaseFile, numbers_to}
 use Rattle.pc_model.specs.Standing.{IsOfItsPoints}
-use Rattle.pc_part.specs.Lawful.{IsBaseFile, IsBaseText}
-use Rattle.pc_part.specs.Reading.{part_at, base_at}
+use Rattle.pc_bases.specs.Lawful.{IsBaseFile, IsBaseText}
+use Rattle.pc_part.specs.Reading.{part_at}
+use Rattle.pc_bases.specs.Reading.{base_at}
 use Rattle.pc_log.specs.Texts.{header_text_in, entry_text_in, log_text_in, HasLog}
 use Rattle.pc_log.specs.Reading.{LogRead, log_at}
 use Rattle.pc_log.specs.Laws.{IsLog, CutLogsAreRead, cut_read, left_behind}

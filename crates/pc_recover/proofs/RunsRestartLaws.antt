@@ -8,7 +8,7 @@ use Rattle.pc_model.specs.Standing.{HasLegalEffects, IsOfItsPoints}
 use Rattle.pc_model.specs.Replies.{Setting}
 use Rattle.pc_model.proofs.ShelfFileLaws.{made_is_of_points}
 use Rattle.pc_part.specs.Reading.{part_at}
-use Rattle.pc_part.proofs.BaseFileLaws.{text_is_read as base_is_read}
+use Rattle.pc_bases.proofs.BaseFileLaws.{text_is_read as base_is_read}
 use Rattle.pc_part.proofs.PartFileLaws.{text_is_read as part_is_read}
 use Rattle.std.specs.List.{AllByRecursion, flat_map}
 use Rattle.std.proofs.lemmas.List.Elements.{All-from_recursion, recursion_from_All}

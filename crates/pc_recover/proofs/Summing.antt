@@ -8,7 +8,7 @@ use Rattle.pc_types.specs.Fields.{◌>>=◌, Gives}
 use Rattle.pc_model.specs.Database.{Database}
 use Rattle.pc_model.specs.Log.{after}
 use Rattle.pc_model.specs.Files.{File, BaseFile}
-use Rattle.pc_part.specs.Reading.{base_at}
+use Rattle.pc_bases.specs.Reading.{base_at}
 use Rattle.pc_log.specs.Reading.{LogRead}
 use Rattle.pc_log.proofs.StepLaws.{made_ok}
 use Rattle.pc_recover.specs.declared.reach.Reach.{Reach}

@@ -9,7 +9,7 @@ use Rattle.pc_model.specs.Files.{File, BaseFile, joined_file}
 use Rattle.pc_model.specs.LaidFiles.{laid_file}
 use Rattle.pc_model.specs.Replies.{join_causes}
 use Rattle.pc_part.specs.Joins.{first_cause}
-use Rattle.pc_part.specs.Layings.{lay_causes}
+use Rattle.pc_bases.specs.Layings.{lay_causes}
 use Rattle.pc_recover.specs.Recovery.{unless}
 
 -- the join of two files, unless it is refused

@@ -13,8 +13,9 @@ use Rattle.pc_model.specs.LaidFiles.{laid_file, greatest}
 use Rattle.pc_model.specs.Log.{after, behind}
 use Rattle.pc_model.specs.Replies.{join_causes}
 use Rattle.pc_part.specs.Joins.{first_cause}
-use Rattle.pc_part.specs.Layings.{lay_causes}
-use Rattle.pc_part.specs.Reading.{part_at, base_at}
+use Rattle.pc_bases.specs.Layings.{lay_causes}
+use Rattle.pc_part.specs.Reading.{part_at}
+use Rattle.pc_bases.specs.Reading.{base_at}
 use Rattle.pc_log.specs.Reading.{LogRead, log_at}
 use Rattle.pc_recover.specs.declared.recovered.Skipped.{Skipped}
 use Rattle.pc_recover.specs.declared.recovered.Recovered.{Recovered}

@@ -7,7 +7,7 @@ use Rattle.pc_model.specs.Database.{Database}
 use Rattle.pc_model.specs.Log.{after, front, has_token, state_at}
 use Rattle.pc_model.specs.Files.{File, BaseFile}
 use Rattle.pc_model.specs.Standing.{IsOfItsPoints}
-use Rattle.pc_part.specs.Lawful.{IsBaseFile, IsBaseText}
+use Rattle.pc_bases.specs.Lawful.{IsBaseFile, IsBaseText}
 use Rattle.pc_part.specs.Reading.{part_at}
 use Rattle.pc_log.specs.Texts.{log_text_in, HasLog}
 use Rattle.pc_log.specs.Laws.{IsLog}

@@ -9,7 +9,8 @@ use Rattle.pc_model.specs.Limits.{AreInLimits}
 use Rattle.pc_types.specs.declared.Format.{Format}
 use Rattle.pc_types.specs.declared.refusal.Refusal.TheVariants.{Full}
 use Rattle.pc_types.specs.declared.limits.TheConstants.{MOST_SESSIONS}
-use Rattle.pc_part.specs.Lawful.{IsPartFile, IsBaseFile, IsPartText, IsBaseText}
+use Rattle.pc_part.specs.Lawful.{IsPartFile, IsPartText}
+use Rattle.pc_bases.specs.Lawful.{IsBaseFile, IsBaseText}
 use Rattle.pc_part.specs.Reading.{part_at}
 use Rattle.pc_log.specs.Texts.{log_text_in, HasLog}
 use Rattle.pc_recover.specs.Recovery.{recovery}

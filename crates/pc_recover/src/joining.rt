@@ -2,7 +2,7 @@
 ghost use Rattle.std.specs.Prelude.{◌≡◌, None, Some, Ok, ◌∷◌, [], IfOk, IfErr, IfSome, IsTrue};
 ghost use Rattle.pc_types.specs.Fields.{Gives};
 ghost use Rattle.pc_merge.specs.Folds.{NoneConflict};
-ghost use Rattle.pc_part.specs.Bases.{IsWithinLimit};
+ghost use Rattle.pc_part.specs.Parts.{IsWithinLimit};
 ghost use Rattle.pc_recover.specs.Folding.{IsOfPoints, join_due, joined_on};
 
 use crate::reach::{PLACES, is_free, no_tops, note_part};

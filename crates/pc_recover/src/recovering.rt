@@ -10,7 +10,7 @@ use crate::recovered::Recovered;
 use crate::replaying::{Replayed, replay_log};
 use crate::state::with_used;
 use crate::unused::unused;
-use pc_part::Base;
+use pc_bases::Base;
 use pc_replay::Overlay;
 use pc_types::Refusal;
 use std::alloc::Global;

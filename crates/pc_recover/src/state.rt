@@ -7,7 +7,8 @@ ghost use Rattle.pc_recover.specs.Folding.{joined_on, lay_due};
 use crate::candidates::Candidate;
 use crate::joining::joined;
 use crate::reach::greatest_point;
-use pc_part::{Base, Part, lay};
+use pc_bases::{Base, lay};
+use pc_part::Part;
 use pc_types::{Point, Refusal};
 use std::alloc::{AllocError, Global};
 

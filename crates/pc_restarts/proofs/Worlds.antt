@@ -5,7 +5,7 @@ use Rattle.pc_types.specs.declared.Entry.{Entry}
 use Rattle.pc_types.specs.declared.refusal.Refusal.TheVariants.{Full}
 use Rattle.pc_model.specs.Files.{File, BaseFile}
 use Rattle.pc_model.proofs.LegalEffectLaws.{legal_has_legal_effects}
-use Rattle.pc_part.specs.Lawful.{IsBaseFile, IsBaseText}
+use Rattle.pc_bases.specs.Lawful.{IsBaseFile, IsBaseText}
 use Rattle.pc_log.specs.Texts.{log_text_in, HasLog}
 use Rattle.pc_engine.specs.Store.{setting_of}
 use Rattle.pc_recover.specs.Recovery.{recovery}

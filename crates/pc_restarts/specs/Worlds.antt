@@ -5,7 +5,8 @@ use Rattle.pc_types.specs.declared.refusal.Refusal.TheVariants.{Full}
 use Rattle.pc_model.specs.History.{History}
 use Rattle.pc_model.specs.Files.{File}
 use Rattle.pc_model.specs.Headline.{IsMade}
-use Rattle.pc_part.specs.Lawful.{IsPartFile, IsBaseFile, IsPartText, IsBaseText}
+use Rattle.pc_part.specs.Lawful.{IsPartFile, IsPartText}
+use Rattle.pc_bases.specs.Lawful.{IsBaseFile, IsBaseText}
 use Rattle.pc_log.specs.Texts.{log_text_in, HasLog}
 use Rattle.pc_engine.specs.Store.{Store}
 use Rattle.pc_engine.specs.Stands.{Stands}

@@ -14,9 +14,10 @@ use Rattle.pc_model.specs.Files.{File, BaseFile, joined_file}
 use Rattle.pc_model.specs.LaidFiles.{gap_above, laid_file}
 use Rattle.pc_model.specs.Replies.{join_causes}
 use Rattle.pc_part.specs.Joins.{first_cause}
-use Rattle.pc_part.specs.Layings.{gap_causes, lay_causes, limit_causes}
-use Rattle.pc_part.specs.Reading.{items_at, next_key_at, pair_at, pairs_at, base_fields_at, base_at}
-use Rattle.pc_part.specs.Texts.{base_magic}
+use Rattle.pc_bases.specs.Layings.{gap_causes, lay_causes, limit_causes}
+use Rattle.pc_part.specs.Reading.{items_at, next_key_at}
+use Rattle.pc_bases.specs.Reading.{pair_at, pairs_at, base_fields_at, base_at}
+use Rattle.pc_bases.specs.Texts.{base_magic}
 use Rattle.pc_log.specs.Reading as log_text
 use Rattle.pc_log.specs.Texts.{log_magic}
 use Rattle.pc_restore.specs.Recoveries.{IsRulesRefusal}

@@ -2,14 +2,14 @@
 ghost use Rattle.std.specs.Prelude.{◌≡◌, ◌⊎◌, ◌+◌, ◌≤◌, ◌<◌, ◌^◌, None, length, IfErr, IfOk, IfSome};
 ghost use Rattle.pc_types.specs.declared.limits.TheConstants.{MOST_FILE_ENTRIES};
 ghost use Rattle.pc_model.specs.Database.{KeysRise, database_of};
-ghost use Rattle.pc_part.specs.Bases.{IsWithinLimit};
+ghost use Rattle.pc_part.specs.Parts.{IsWithinLimit};
 ghost use Rattle.pc_restore.specs.Bases.{IsBaseMade, IsBaseUnmade};
 ghost use Rattle.pc_restore.specs.Lacks.{refuses};
 
 use crate::lacks::Lacks;
 use crate::recovery::{Folder, Lost, Worth, recover_read};
 use crate::reports::put_damage;
-use pc_part::Base;
+use pc_bases::Base;
 use pc_recover::Recovered;
 use pc_types::{MOST_FILE_ENTRIES, Refusal, Tally};
 use std::alloc::Global;

@@ -9,7 +9,8 @@ use Rattle.pc_model.specs.Replies.{Setting}
 use Rattle.pc_model.specs.Sets as set
 use Rattle.pc_model.specs.Standing.{file_of}
 use Rattle.pc_log.specs.Texts.{log_text}
-use Rattle.pc_part.specs.Texts.{base_text, part_text}
+use Rattle.pc_part.specs.Texts.{part_text}
+use Rattle.pc_bases.specs.Texts.{base_text}
 use Rattle.pc_texts.specs.declared.file_names.FileName.{FileName}
 use Rattle.pc_texts.specs.declared.file_names.FileName.TheVariants.{Base, Part, Log}
 use Rattle.pc_threads.specs.Faults.{IsFileLost}

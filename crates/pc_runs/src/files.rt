@@ -1,14 +1,14 @@
 //! The files that a run leaves in a folder.
 ghost use Rattle.std.specs.Prelude.{◌≡◌, IfErr, IfOk, OnOk};
 ghost use Rattle.pc_types.specs.Tallies.{Puts, inner_of};
-ghost use Rattle.pc_part.specs.Texts.{base_text};
+ghost use Rattle.pc_bases.specs.Texts.{base_text};
 ghost use Rattle.pc_texts.specs.Files.{report_text};
 ghost use Rattle.pc_texts.specs.declared.file_names.FileName.TheVariants as file;
 ghost use Rattle.pc_texts.specs.FileNames.{name_of};
 ghost use Rattle.pc_threads.specs.Faults.{IsFileLost};
 ghost use Rattle.pc_runs.specs.Folders.{IsBeginLost};
 
-use pc_part::Base;
+use pc_bases::Base;
 use pc_texts::{FileName, part_name, report};
 use pc_threads::{FileFault, NewFiles, finish_file, make_file};
 use pc_types::{Refusal, Tally};

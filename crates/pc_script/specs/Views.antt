@@ -7,7 +7,7 @@ use Rattle.pc_model.specs.LaidFiles.{laid_file}
 use Rattle.pc_model.specs.History.{History}
 use Rattle.pc_model.specs.Replies.{Setting}
 use Rattle.pc_part.specs.Joins.{first_cause}
-use Rattle.pc_part.specs.Layings.{lay_causes}
+use Rattle.pc_bases.specs.Layings.{lay_causes}
 use Rattle.pc_part.specs.Texts.{part_text}
 use Rattle.pc_engine.specs.Store.{Store}
 use Rattle.pc_engine.specs.Checks.{IsStoreSound}

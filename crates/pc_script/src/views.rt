@@ -7,9 +7,10 @@ ghost use Rattle.pc_script.specs.Views.{AnswersView, ShowsCheck, ShowsItsCheck, 
 ghost use Rattle.pc_lines.specs.declared.lines.View.TheVariants as view;
 
 use crate::script::{LineAnswer, refusal_answer};
+use pc_bases::{Base, lay};
 use pc_engine::World;
 use pc_lines::View;
-use pc_part::{Base, Part, lay};
+use pc_part::Part;
 use pc_types::{Items, Refusal, Tally};
 use std::alloc::Global;
 

@@ -8,6 +8,7 @@ use crate::owner::{Unowned, own};
 use crate::recovered::RecoveredFolder;
 use crate::terminal::Typed;
 use itoa::Buffer;
+use pc_bases::Base;
 use pc_disk::{
     Causes, FoundFolder, INPUT, LOG, LateFile, Noted, ReadFolder, open_folder, output_before,
     path_in, tell_unopened,
@@ -16,7 +17,6 @@ use pc_engine::World;
 use pc_explanations::{About, Explained, Explainer, explain_output, is_explained};
 use pc_opening::{OpenedStore, StoreSize, Succession, open_store};
 use pc_options::ServeOptions;
-use pc_part::Base;
 use pc_restore::{Lost, recover_base, tell_lost};
 use pc_texts::{report, report_words};
 use pc_types::{Refusal, Tally};

@@ -18,7 +18,7 @@ use Rattle.pc_model.specs.Replies.{Setting, IsLegal, first_refusal, log_is_full,
 use Rattle.pc_model.proofs.EffectLaws.{first_refusal_refuses}
 use Rattle.pc_model.proofs.ReplyKindLaws.{reply_kind}
 use Rattle.pc_part.specs.Joins.{first_cause}
-use Rattle.pc_part.specs.Layings.{lay_causes}
+use Rattle.pc_bases.specs.Layings.{lay_causes}
 use Rattle.pc_lines.specs.declared.lines.Line.{Line}
 use Rattle.pc_lines.specs.declared.lines.Line.TheVariants as line
 use Rattle.pc_lines.specs.declared.lines.View.{View}

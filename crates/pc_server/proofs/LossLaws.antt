@@ -19,7 +19,7 @@ use Rattle.pc_model.specs.Headline.IsMade.{Shelved}
 use Rattle.pc_model.specs.History.{History, log_of}
 use Rattle.pc_model.specs.Log.{after}
 use Rattle.pc_model.specs.Replies.{Setting}
-use Rattle.pc_part.specs.Lawful.{IsBaseFile, IsBaseText}
+use Rattle.pc_bases.specs.Lawful.{IsBaseFile, IsBaseText}
 use Rattle.pc_log.specs.Texts.{entry_text, header_text, log_text_in}
 use Rattle.pc_log.proofs.EntriesAgain.{second_has_all}
 use Rattle.pc_engine.specs.Stands.{Stands}

@@ -10,7 +10,7 @@ use Rattle.pc_model.specs.History.{History, log_of}
 use Rattle.pc_model.specs.Log.{after}
 use Rattle.pc_model.specs.Replies.{Setting}
 use Rattle.pc_recover.specs.Recovery.{Recovery, recovery}
-use Rattle.pc_part.specs.Lawful.{IsBaseFile, IsBaseText}
+use Rattle.pc_bases.specs.Lawful.{IsBaseFile, IsBaseText}
 use Rattle.pc_recover.specs.Runs.{IsForeign, start_of}
 use Rattle.pc_texts.specs.Texts.{reply_text}
 use Rattle.pc_turn.specs.Devices.{Grows}

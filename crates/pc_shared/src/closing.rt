@@ -12,10 +12,10 @@ ghost use Rattle.pc_shared.specs.Sitters.{sitting_of, IsSeated, IsSitterSettled,
 ghost use Rattle.pc_shared.specs.Lent.{receipt_at, AreLentBy};
 
 use crate::session::{LentReceipt, Session};
+use pc_bases::Base;
 use pc_engine::World;
 use pc_kept_log::Log;
 use pc_latch::{Latched, LogPass, PartTicket, renew_tickets};
-use pc_part::Base;
 use pc_tie::{CheckpointerSeat, Keeper, StoreName, Tie};
 
 /// The remains of a store that was closed.

@@ -23,9 +23,9 @@ use crate::closing::{Closed, close};
 use crate::logged::{LastEntry, LogBatch, Logged};
 use crate::session::Session;
 use crate::written::Written;
+use pc_bases::Base;
 use pc_engine::World;
 use pc_latch::{Latched, LogPass, LogTexts, PartTicket};
-use pc_part::Base;
 use pc_tie::{
     CheckpointerSeat, Keeper, Milestone, SessionSeat, Start, StoreName, Tie, Untied, Witness,
 };

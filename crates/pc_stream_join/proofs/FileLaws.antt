@@ -15,9 +15,8 @@ use Rattle.pc_model.specs.Sets as set
 use Rattle.pc_model.specs.TripleLists.{entry_of, entries_of}
 use Rattle.pc_model.proofs.PairMapLaws as pairs_of
 use Rattle.pc_part.specs.declared.ranges.Range.{Range}
-use Rattle.pc_part.specs.Bases.{IsWithinLimit}
+use Rattle.pc_part.specs.Parts.{IsWithinLimit, AreCovered, AreRanges, bounds, bounds_of, points_in, points_of}
 use Rattle.pc_part.specs.Lawful.{HasLimits, IsPartEntry, IsPartFile, IsPoint}
-use Rattle.pc_part.specs.Parts.{AreCovered, AreRanges, bounds, bounds_of, points_in, points_of}
 use Rattle.pc_types.specs.Fields.{magic_at}
 use Rattle.pc_part.specs.Reading.{header_at, part_at, part_fields_at}
 use Rattle.pc_part.specs.Texts.{bounds_text, end_text, entry_text_in, head_text, part_text, part_text_in, range_text, triple_text}

@@ -22,7 +22,7 @@ use Rattle.pc_streams.specs.Sources.{text_left}
 use Rattle.pc_stream_join.specs.Headers.{AreApart, AreHeaded, AreReadTo, IsHeadersFault, IsHeadersRefusal, IsRead, StayKnown, all_headers, headers_fault, points_of_all, points_read, run_of_all, runs_fault, runs_seen, with_run}
 use Rattle.pc_stream_join.specs.declared.headers.RunsSeen.{RunsSeen}
 use Rattle.pc_stream_join.proofs.StandingLaws.{one_refused}
-use Rattle.pc_stream_join.proofs.UnionLaws.{contains-union}
+use Rattle.pc_model.proofs.ContentLaws.{contains-union}
 
 module _ {R : Type 0} (remaining : R → Option (List ℕ)) where
   abbrev pub Readers : Type 0

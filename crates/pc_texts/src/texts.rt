@@ -10,8 +10,8 @@ ghost use Rattle.pc_texts.specs.Texts.{printed_byte, printed_name, printed, prin
 
 use arrayvec::ArrayVec;
 use itoa::Buffer;
+use pc_bases::Base;
 use pc_lines::is_plain;
-use pc_part::Base;
 use pc_types::{Key, Phase, Point, Refusal, Reply, Tally, Value};
 use std::io::Write;
 

@@ -1,7 +1,7 @@
 //! The start of a store.
 ghost use Rattle.std.specs.Prelude.{◌≡◌};
 
-use pc_part::Base;
+use pc_bases::Base;
 use std::marker::Model;
 use std::snapshot::Snapshot;
 

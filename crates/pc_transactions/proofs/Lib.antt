@@ -1,7 +1,7 @@
 mod Noted
 mod SessionLemmas
 mod Foretelling
-mod PlacedWrites
+pub mod PlacedWrites
 pub mod Together
 mod Counted
 pub mod HeldBack

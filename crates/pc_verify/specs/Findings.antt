@@ -5,7 +5,8 @@ use Rattle.pc_types.specs.declared.Format.TheVariants.{First, Second}
 use Rattle.pc_model.specs.Files.{BaseFile, File}
 use Rattle.pc_model.specs.Maps as map_of
 use Rattle.pc_model.specs.Sets as set
-use Rattle.pc_part.specs.Reading.{base_at, part_at}
+use Rattle.pc_part.specs.Reading.{part_at}
+use Rattle.pc_bases.specs.Reading.{base_at}
 use Rattle.pc_log.specs.Reading.{LogRead, log_at}
 use Rattle.pc_faults.specs.Faults.{IsFaultOf}
 use Rattle.pc_faults.specs.declared.texts.TextKind.TheVariants as text

@@ -6,9 +6,10 @@ ghost use Rattle.pc_log.specs.Reading.{log_at, text_of};
 ghost use Rattle.pc_verify.specs.declared.findings.Finding.TheVariants as found;
 ghost use Rattle.pc_verify.specs.Findings.{IsFinding, format_of, head_of, is_sound};
 
+use pc_bases::Base;
 use pc_faults::{TextKind, locate};
 use pc_log::{LogText, read_log};
-use pc_part::{Base, Part};
+use pc_part::Part;
 use pc_types::{Format, Items, Point, Refusal};
 use std::alloc::{AllocError, Global};
 

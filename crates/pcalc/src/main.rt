@@ -1,5 +1,5 @@
-//! Runs a script of transactions or a workload of clients against a store, joins part files, recovers the state from a folder's files,
-//! prints the entries of a log, checks whether files are whole, or serves the store of a folder.
+//! The program `pcalc`: it runs scripts and workloads, joins, recovers, checks and prints files, dumps and loads pairs, and serves
+//! stores.
 #![tactic(auto)]
 
 mod dumping;

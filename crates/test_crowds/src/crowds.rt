@@ -1,8 +1,8 @@
 //! Sixty-four sessions at one key.
 
 use crate::asker::Asker;
+use pc_bases::Base;
 use pc_engine::World;
-use pc_part::Base;
 use pc_types::{Refusal, Reply};
 use std::alloc::Global;
 use std::hash::RandomState;

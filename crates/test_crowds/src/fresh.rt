@@ -1,8 +1,8 @@
 //! Keys that come and go, in a store with room for two.
 
 use crate::asker::Asker;
+use pc_bases::Base;
 use pc_engine::World;
-use pc_part::Base;
 use pc_types::{Refusal, Reply};
 use std::alloc::Global;
 use std::hash::RandomState;

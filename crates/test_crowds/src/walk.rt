@@ -1,8 +1,8 @@
 //! A long random walk of eight sessions and the checkpointer over fifty keys, with joins now and then.
 
 use crate::asker::Asker;
+use pc_bases::Base;
 use pc_engine::World;
-use pc_part::Base;
 use pc_types::{Phase, Refusal, Reply};
 use std::alloc::Global;
 use std::hash::RandomState;

@@ -1,6 +1,7 @@
 //! Parts and bases go out as far as the writer takes them.
 use crate::sink::stops_at;
-use pc_part::{Base, Part};
+use pc_bases::Base;
+use pc_part::Part;
 use pc_types::{Key, Point, Refusal, Tally, Value};
 use std::alloc::Global;
 use std::test::Fail;

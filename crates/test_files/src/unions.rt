@@ -2,7 +2,8 @@
 use crate::found::{put_refusal, rewritten};
 use crate::items::{put_base, put_hex, put_part};
 use crate::kinds::Kind;
-use pc_part::{Base, Part, join, lay};
+use pc_bases::{Base, lay};
+use pc_part::{Part, join};
 use pc_types::{Refusal, Tally};
 use std::alloc::Global;
 use std::io::Write;

@@ -1,5 +1,5 @@
-//! Tests of growths of memory that are refused of a shared store that one thread uses, and of files that are joined, by one
-//! thread and by several: nothing else is here.
+//! Tests of a shared store whose growths of memory are refused, and of joins of files, by one thread and by several: nothing else is
+//! here.
 //!
 //! A test whose name ends in `at_each_refused_growth` asks again if an allocation failed, and wants in the end what it would
 //! have got with ample memory, so it passes whichever growth is refused. `tools/refused_growths.py` runs each such test once

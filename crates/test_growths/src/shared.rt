@@ -3,7 +3,7 @@ ghost use Rattle.std.specs.Prelude.{◌≡◌, IfOk};
 
 use crate::again::again;
 use crate::sessions::{Ask, Asker, Told};
-use pc_part::Base;
+use pc_bases::Base;
 use pc_shared::{
     CallAnswer, CheckpointerSeat, Closed, LogPass, Opened, PartTicket, Session, Shared,
 };

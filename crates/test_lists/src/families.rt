@@ -1,7 +1,7 @@
 //! The families of lists: what is asked in them, of which store, and how far a list goes.
 
+use pc_bases::Base;
 use pc_engine::World;
-use pc_part::Base;
 use pc_types::{Refusal, Reply};
 use std::alloc::Global;
 use std::hash::RandomState;

@@ -5,10 +5,15 @@
 //! slots there is a request. The checksum is FNV-1a of 64 bits over two bytes a list, in the order of the lists: the answer's
 //! number (0 not asked, 1 granted, 2 queued, 3 died, 4 and 5 released slot 0 and 1, 6 nothing, 7 not previewed), and the
 //! requests then (1, 2 and 4 if the transactions 1, 2 and 3 wait, 8 and 16 if the slots 0 and 1 have a request).
+//!
+//! Its tests, whose names end in `at_each_refused_growth`, ask again if an allocation failed, and pass whichever growth is
+//! refused: `tools/refused_growths.py` runs each of them once for each growth that it asks for, with that growth refused.
 #![tactic(auto)]
 
 mod counts;
 mod lists;
+#[cfg(test)]
+mod locks;
 mod table;
 
 use counts::LockCounts;

@@ -1,14 +1,13 @@
 //! Histories of the worked examples, with their own short keys and values: what `test_scripts` has of them, with growths refused.
 
 use crate::asked::Told;
-use crate::files::Pair;
 use crate::stores::{Ended, RIGHT, StoredFile, ended};
 use crate::worlds::world_again;
 use pc_types::{Phase, Refusal};
 use std::alloc::Global;
 use std::hash::RandomState;
 use std::test::Fail;
-use test_support::Ask;
+use test_support::{Ask, Pair};
 
 // What comes of such a history of at most three sessions, from this pair or from none, and of the files that it leaves.
 fn replayed(

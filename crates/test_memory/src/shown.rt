@@ -1,16 +1,15 @@
 //! What a store shows besides its answers.
 
 use crate::asked::{Told, answer, first_wrong, tell};
-use crate::files::{Pair, are_pairs};
 use crate::worlds::new_world;
 use Phase::{Capture, Prepare, Resolve};
+use pc_bases::Base;
 use pc_engine::{World, run};
-use pc_part::Base;
 use pc_types::{FileNo, Phase, Refusal, Reply};
 use std::alloc::Global;
 use std::hash::RandomState;
 use std::test::Fail;
-use test_support::{Ask, events_of};
+use test_support::{Ask, Pair, are_pairs, events_of};
 
 // The number of replies, and the content of the second one.
 fn second_told(replies: &[Reply]) -> (usize, Told) {

@@ -1,14 +1,14 @@
 //! Stores of one and of three sessions: points, waits, deaths and aborts.
 
 use crate::asked::{Told, first_wrong, is_right};
-use crate::files::{Pair, has_text};
 use crate::worlds::world_again;
 use pc_engine::World;
-use pc_types::{FileNo, Phase, Refusal};
+use pc_part::Part;
+use pc_types::{FileNo, Phase, Refusal, Tally};
 use std::alloc::Global;
 use std::hash::RandomState;
 use std::test::Fail;
-use test_support::Ask;
+use test_support::{Ask, Pair};
 
 // Keys and values that take memory of their own.
 const A: &[u8] = b"a word of 20 letters";
@@ -23,6 +23,21 @@ const THREE: &[u8] = b"3 word of 20 letters";
 
 /// A file's number and its text.
 pub(crate) type StoredFile = (u32, &'static [u8]);
+
+fn text_of(alloc: Global, part: &Part) -> Result<Vec<u8>, Refusal> {
+    let mut out = Tally::new(Vec::new(alloc));
+    part.encode(&mut out)?;
+    Ok(out.into_inner())
+}
+
+// Whether the part's text is this, written again if an allocation failed.
+fn has_text(alloc: Global, part: &Part, text: &[u8]) -> Result<bool, Refusal> {
+    let found = match text_of(alloc, part) {
+        Err(_) => text_of(alloc, part)?,
+        Ok(found) => found,
+    };
+    Ok(found.as_slice() == text)
+}
 
 // Whether the store's file of this number has this text.
 fn is_file(alloc: Global, world: &World, number: u32, text: &[u8]) -> Result<bool, Refusal> {

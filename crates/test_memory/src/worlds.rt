@@ -1,12 +1,12 @@
 //! The stores that the tests begin with.
 ghost use Rattle.std.specs.Prelude.{◌≡◌, ◌≤◌, IfOk};
 
-use crate::files::Pair;
+use pc_bases::Base;
 use pc_engine::World;
-use pc_part::Base;
 use pc_types::{Key, MOST_KEYS, MOST_SESSIONS, Refusal, Value};
 use std::alloc::Global;
 use std::hash::RandomState;
+use test_support::Pair;
 
 // The base of run 7 that has this pair.
 fn base_of_pair(alloc: Global, pair: Pair) -> Result<Base, Refusal>

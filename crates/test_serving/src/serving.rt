@@ -1,7 +1,8 @@
 //! What a served store answers, and what it leaves wherever a device fails.
 use crate::devices::{Files, MemoryLog, Output, Pieces};
+use pc_bases::Base;
 use pc_engine::World;
-use pc_part::{Base, Part};
+use pc_part::Part;
 use pc_recover::recover;
 use pc_server::{CutOff, ServeFault, Service, Stopped, serve_input};
 use pc_types::{Refusal, Tally};

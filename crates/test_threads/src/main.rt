@@ -3,20 +3,13 @@
 //! which is the same in every run.
 #![tactic(auto)]
 
-mod audits;
-mod example;
 mod gate;
-mod jobs;
-mod logged;
 mod meeting;
 mod plans;
-mod receipts;
 mod signs;
-mod writers;
 
-use example::{Example, use_store};
 use meeting::{Left, meet};
-use pc_part::Base;
+use pc_bases::Base;
 use pc_shared::Opened;
 use pc_types::{MOST_SESSIONS, Refusal};
 use plans::{PLANS, Plan};
@@ -27,6 +20,7 @@ use std::marker::Brand;
 use std::process::ExitCode;
 use std::sync::Wait;
 use std::thread::Threads;
+use test_sessions::{Example, use_store};
 
 // The number of keys that a store has room for.
 const CAPACITY: u32 = 8192;

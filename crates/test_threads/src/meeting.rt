@@ -4,13 +4,9 @@ ghost use Rattle.pc_types.specs.declared.Phase.TheVariants.{Rest};
 ghost use Rattle.pc_model.specs.History.{phase_of};
 ghost use Rattle.pc_board.specs.Passes.{IsOfBoard};
 
-use crate::audits::{right_files, take_parts};
 use crate::gate::Meeting;
-use crate::logged::TextOfLog;
 use crate::plans::Plan;
-use crate::receipts::{adds_of, are_exact, count_of, reads_of};
 use crate::signs::Sign;
-use crate::writers::Desk;
 use pc_board::{Board, BoardPass};
 use pc_jobs::Job;
 use pc_shared::{CheckpointerSeat, Closed, LogPass, Opened, PartTicket, Session};
@@ -21,6 +17,9 @@ use std::alloc::Global;
 use std::sync::Wait;
 use std::sync::atomic::{AtomicU64, Ordering};
 use std::thread::{self, Threads, join};
+use test_sessions::{
+    Desk, TextOfLog, adds_of, are_exact, count_of, reads_of, right_files, take_parts,
+};
 
 /// What the threads leave.
 #[derive(Drop)]

@@ -1,8 +1,8 @@
 //! The jobs of each meeting.
 use crate::gate::{Stop, Visit};
-use crate::jobs::Ask::*;
-use crate::jobs::{Asks, Work};
 use crate::signs::Sign::*;
+use test_sessions::Ask::*;
+use test_sessions::{Asks, Work};
 
 /// The jobs in a store, and which thread waits where for which.
 #[derive(Clone, Copy)]

@@ -3,11 +3,7 @@
 #![tactic(auto)]
 
 #[cfg(test)]
-mod boards;
-#[cfg(test)]
 mod changes;
-#[cfg(test)]
-mod collapses;
 #[cfg(test)]
 mod notes;
 #[cfg(test)]

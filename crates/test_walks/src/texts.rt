@@ -2,10 +2,11 @@
 ghost use Rattle.std.specs.Prelude.{All};
 ghost use Rattle.pc_model.specs.FewWrites.{HasFewWrites};
 
+use pc_bases::Base;
 use pc_capture::SharedPart;
 use pc_engine::World;
 use pc_log::{encode_entry, encode_header};
-use pc_part::{Base, Part};
+use pc_part::Part;
 use pc_types::{Entry, Refusal, Tally};
 use std::alloc::Global;
 

@@ -1,8 +1,8 @@
 //! Random walks of three sessions and the checkpointer.
 ghost use Rattle.std.specs.Prelude.{◌≡◌, IfOk};
 
+use pc_bases::Base;
 use pc_engine::World;
-use pc_part::Base;
 use pc_types::{Event, Key, Phase, Refusal, Reply, SessionNo, Value};
 use std::alloc::Global;
 use std::hash::RandomState;

@@ -1,6 +1,6 @@
 use Rattle.std.proofs.Common.{◌∙◌, ◌⊎◌, ℕ, List, OnErr, OnOk, subst}
 use Rattle.pc_generations.specs.Folders.{Counts, IsUnbegun, next_of}
-use Rattle.pc_part.specs.Texts.{base_text}
+use Rattle.pc_bases.specs.Texts.{base_text}
 use Rattle.pc_opening.proofs.opening.begin_texts.Goals as goal
 
 pub returns-clause-begun : goal.returns-clause-begun

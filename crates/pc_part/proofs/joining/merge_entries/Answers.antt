@@ -2,7 +2,7 @@ use Rattle.std.proofs.Common.{refl, subst, sym, ap, ◌∙◌, Err}
 use Rattle.std.proofs.lemmas.Result.{err_from_is_err_and}
 use Rattle.pc_model.specs.Database.{KeysRise}
 use Rattle.pc_part.proofs.JoinedFiles.{joined_list, join_rises, joined_covered, due_conflict, due_full, due_nothing}
-use Rattle.pc_part.proofs.Refused.{refused_with, lacks_memory, succeeds}
+use Rattle.pc_part.proofs.RefusalLaws.{refused_with, lacks_memory, succeeds}
 use Rattle.pc_part.proofs.joining.merge_entries.Goals as goal
 
 pub returns-clause-joined : goal.returns-clause-joined

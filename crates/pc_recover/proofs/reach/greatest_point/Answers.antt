@@ -1,6 +1,6 @@
 use Rattle.std.proofs.Common.{sym, ap, ◌∙◌}
 use Rattle.pc_model.specs.LaidFiles.{greatest}
-use Rattle.pc_part.proofs.GapLaws.{last_is_greatest}
+use Rattle.pc_bases.proofs.GapLaws.{last_is_greatest}
 use Rattle.pc_recover.proofs.reach.greatest_point.Goals as goal
 
 pub returns-in-Some : goal.returns-in-Some

@@ -1,5 +1,0 @@
-use Rattle.pc_part.proofs.BaseFileLaws.{base_again}
-use Rattle.pc_part.proofs.laws.base_texts_are_read.Goals as goal
-
-pub returns : goal.returns
-returns c = base_again

@@ -1,5 +1,0 @@
-use Rattle.pc_part.proofs.CutBaseLaws.{base_cut}
-use Rattle.pc_part.proofs.laws.cut_base_texts_are_short.Goals as goal
-
-pub returns : goal.returns
-returns c = base_cut

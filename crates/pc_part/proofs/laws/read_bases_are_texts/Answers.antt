@@ -1,5 +1,0 @@
-use Rattle.pc_part.proofs.RoundTrips.{read_bases_are_texts}
-use Rattle.pc_part.proofs.laws.read_bases_are_texts.Goals as goal
-
-pub returns : goal.returns
-returns c = read_bases_are_texts
