@@ -36,8 +36,7 @@ use Rattle.pc_model.proofs.DistinctWriteLaws.{seen_of}
 use Rattle.pc_records.proofs.WaitingLaws.{held_writes}
 use Rattle.pc_transactions.specs.Sessions.{number_in, writes_in, left_by, with_session}
 use Rattle.pc_engine.specs.Store.{Store, setting_of, active}
-use Rattle.pc_transactions.specs.Actives.{active_in as session_at}
-use Rattle.pc_transactions.specs.Actives.{Active}
+use Rattle.pc_transactions.specs.Actives.{Active, active_in as session_at}
 use Rattle.pc_engine.specs.Steps.{open_causes, begin_causes, abort_causes, Begins as BeginsIn, Commits as CommitsIn, Aborts as AbortsIn}
 use Rattle.pc_engine.specs.Stands.{Stands, Follows}
 use Rattle.pc_engine.proofs.ActiveSessions.{is_past, active_now, active_by, same_number, one_session}
