@@ -1,6 +1,6 @@
 //! The head of a key, of its bytes.
 ghost use Rattle.std.specs.Prelude.{◌≡◌, ◌≤◌, ◌<◌, ◌∷◌, length};
-ghost use Rattle.pc_types.specs.FieldForms.{IsBytes};
+ghost use Rattle.pc_types.specs.Bytes.{IsBytes};
 ghost use Rattle.pc_types.specs.Heads.{head, spelled};
 ghost use Rattle.pc_part.specs.Lent.{IsHead};
 
