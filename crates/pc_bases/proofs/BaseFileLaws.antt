@@ -10,11 +10,12 @@ use Rattle.std.proofs.lemmas.List.Elements.{All-from_recursion}
 use Rattle.pc_types.specs.declared.Refusal.{Refusal}
 use Rattle.pc_types.specs.declared.Refusal.TheVariants.{Short, BadRanges, Trailing}
 use Rattle.pc_types.specs.Limits.{IsKey}
-use Rattle.pc_types.specs.declared.formats.Format.{Format}
-use Rattle.pc_types.specs.declared.formats.Format.TheVariants.{First, Second}
-use Rattle.pc_types.specs.Fields.{◌>>=◌, Gives, HasKey, where_true, number_at, magic_at}
-use Rattle.pc_types.proofs.FieldLaws.{bind_ok, where_ok, ok_is, TakesText-then, wide32, wide64, number_takes, number_again}
-use Rattle.pc_types.specs.FieldForms.{IsBytes, TakesText}
+use Rattle.pc_io.specs.declared.formats.Format.{Format}
+use Rattle.pc_io.specs.declared.formats.Format.TheVariants.{First, Second}
+use Rattle.pc_io.specs.Fields.{◌>>=◌, Gives, HasKey, where_true, number_at, magic_at}
+use Rattle.pc_io.proofs.FieldLaws.{bind_ok, where_ok, ok_is, TakesText-then, wide32, wide64, number_takes, number_again}
+use Rattle.pc_types.specs.Bytes.{IsBytes}
+use Rattle.pc_io.specs.FieldForms.{TakesText}
 use Rattle.pc_model.specs.Maps as map_of
 use Rattle.pc_model.specs.Database.{KeysRise, database_of}
 use Rattle.pc_model.specs.Files.{BaseFile}

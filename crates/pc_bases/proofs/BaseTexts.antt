@@ -1,8 +1,8 @@
 -- The text of a base, by its pairs, and that it is valid.
 use Rattle.std.proofs.Common.{◌≡◌, ◌≤◌, ◌<◌, ◌^◌, ℕ, List, ◌++◌, length, refl, sym, ap, subst, ◌∙◌}
 use Rattle.std.specs.List.{All, flat_map}
-use Rattle.pc_types.specs.declared.formats.Format.{Format}
-use Rattle.pc_types.specs.declared.formats.Format.TheVariants.{Second}
+use Rattle.pc_io.specs.declared.formats.Format.{Format}
+use Rattle.pc_io.specs.declared.formats.Format.TheVariants.{Second}
 use Rattle.pc_model.specs.Database.{KeysRise, database_of}
 use Rattle.pc_model.specs.Files.{BaseFile}
 use Rattle.pc_model.proofs.PairMapLaws as pairs_of

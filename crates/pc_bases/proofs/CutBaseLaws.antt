@@ -3,10 +3,10 @@ use Rattle.std.proofs.Common.{◌≡◌, ℕ, ◌<◌, List, [], ◌∷◌, ◌+
 use Rattle.std.specs.Prelude.{nat_le}
 use Rattle.std.specs.Int.{w16, w32, w64}
 use Rattle.pc_types.specs.declared.Refusal.TheVariants.{Short, BadRanges}
-use Rattle.pc_types.proofs.CutFieldLaws.{IsCut, ReadsAlike, Never, cut_then, cut_where, cut_end, cut_is_short, number_cut, magic_cut, value_cut}
-use Rattle.pc_types.proofs.FieldLaws.{bind_ok}
-use Rattle.pc_types.specs.declared.formats.Format.{Format}
-use Rattle.pc_types.specs.declared.formats.Format.TheVariants.{First, Second}
+use Rattle.pc_io.proofs.CutFieldLaws.{IsCut, ReadsAlike, Never, cut_then, cut_where, cut_end, cut_is_short, number_cut, magic_cut, value_cut}
+use Rattle.pc_io.proofs.FieldLaws.{bind_ok}
+use Rattle.pc_io.specs.declared.formats.Format.{Format}
+use Rattle.pc_io.specs.declared.formats.Format.TheVariants.{First, Second}
 use Rattle.pc_model.specs.Files.{BaseFile}
 use Rattle.pc_bases.specs.Lawful.{IsBaseFile, HasBase}
 use Rattle.pc_bases.specs.Reading.{pair_at, BaseFields, base_fields_at, base_of_fields, base_at}

@@ -6,10 +6,11 @@ use Rattle.std.specs.Ordering.{is_lt}
 use Rattle.std.specs.Int.{w16, to_be_bytes}
 use Rattle.std.proofs.lemmas.List.{length-append}
 use Rattle.pc_types.specs.declared.Refusal.TheVariants.{Short}
-use Rattle.pc_types.specs.declared.formats.Format.{Format}
-use Rattle.pc_types.specs.Fields.{◌>>=◌, number_at, value_at, key_text_in, sized_key_text, HasKey, value_text}
-use Rattle.pc_types.proofs.FieldLaws.{bind_ok, ok_is, TakesText-then, wide16, number_takes, number_again, value_takes, value_again}
-use Rattle.pc_types.specs.FieldForms.{IsBytes, TakesText}
+use Rattle.pc_io.specs.declared.formats.Format.{Format}
+use Rattle.pc_io.specs.Fields.{◌>>=◌, number_at, value_at, key_text_in, sized_key_text, HasKey, value_text}
+use Rattle.pc_io.proofs.FieldLaws.{bind_ok, ok_is, TakesText-then, wide16, number_takes, number_again, value_takes, value_again}
+use Rattle.pc_types.specs.Bytes.{IsBytes}
+use Rattle.pc_io.specs.FieldForms.{TakesText}
 use Rattle.pc_model.specs.Database.{key_cmp}
 use Rattle.pc_part.specs.Reading.{next_key_at}
 use Rattle.pc_part.proofs.ItemLaws.{items_take, items_again}

@@ -2,8 +2,8 @@
 use Rattle.std.specs.Prelude.{◌≡◌, ℕ, ◌≤◌, ◌<◌, ◌^◌, List}
 use Rattle.std.specs.List.{All}
 use Rattle.pc_types.specs.Limits.{IsKey, IsValue}
-use Rattle.pc_types.specs.Fields.{HasKey}
-use Rattle.pc_types.specs.declared.formats.Format.{Format}
+use Rattle.pc_io.specs.Fields.{HasKey}
+use Rattle.pc_io.specs.declared.formats.Format.{Format}
 use Rattle.pc_types.specs.declared.limits.TheConstants.{MOST_POINTS}
 use Rattle.pc_model.specs.Files.{BaseFile}
 use Rattle.pc_part.specs.Parts.{IsWithinLimit}

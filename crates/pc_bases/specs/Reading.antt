@@ -4,10 +4,10 @@ use Rattle.std.specs.Prelude.{ℕ, ◌-◌, ◌==◌, nat_le, List, [], length, 
 use Rattle.std.specs.Int.{w16, w32, w64}
 use Rattle.pc_types.specs.declared.Refusal.{Refusal}
 use Rattle.pc_types.specs.declared.Refusal.TheVariants.{Short, BadRanges, Trailing}
-use Rattle.pc_types.specs.declared.formats.Format.{Format}
-use Rattle.pc_types.specs.declared.formats.Format.TheVariants.{First, Second}
+use Rattle.pc_io.specs.declared.formats.Format.{Format}
+use Rattle.pc_io.specs.declared.formats.Format.TheVariants.{First, Second}
 use Rattle.pc_types.specs.declared.limits.TheConstants.{MOST_POINTS}
-use Rattle.pc_types.specs.Fields.{◌>>=◌, where_true, number_at, magic_at, value_at}
+use Rattle.pc_io.specs.Fields.{◌>>=◌, where_true, number_at, magic_at, value_at}
 use Rattle.pc_model.specs.Database.{database_of}
 use Rattle.pc_model.specs.Files.{BaseFile}
 use Rattle.pc_part.specs.Reading.{items_at, next_key_at}

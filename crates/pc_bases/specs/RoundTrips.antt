@@ -2,7 +2,7 @@
 use Rattle.std.specs.Prelude.{◌≡◌, ℕ, ◌<◌, List, length, take, Ok, Err}
 use Rattle.std.specs.List.{All}
 use Rattle.pc_types.specs.declared.Refusal.TheVariants.{Short}
-use Rattle.pc_types.specs.declared.formats.Format.{Format}
+use Rattle.pc_io.specs.declared.formats.Format.{Format}
 use Rattle.pc_model.specs.Files.{BaseFile}
 use Rattle.pc_bases.specs.Lawful.{IsBaseFile, HasBase, IsBaseText}
 use Rattle.pc_bases.specs.Reading.{base_at}

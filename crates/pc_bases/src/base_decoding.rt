@@ -1,16 +1,14 @@
 //! A base file is read from its text.
 ghost use Rattle.std.specs.Prelude.{◌≡◌, [], IfOk, Ok};
-ghost use Rattle.pc_types.specs.Fields.{Gives};
+ghost use Rattle.pc_io.specs.Fields.{Gives};
 ghost use Rattle.pc_model.specs.Files.{BaseFile};
 ghost use Rattle.pc_bases.specs.Lawful.{IsBaseFile, IsBaseText};
 ghost use Rattle.pc_bases.specs.Reading.{pair_at, pairs_at, last_pair_key, base_fields_at, base_at};
 
 use crate::base::Base;
+use pc_io::{Format, read_magic, read_u16, read_u32, read_u64, read_value};
 use pc_part::read_next_key;
-use pc_types::{
-    Format, Key, MOST_POINTS, Point, Refusal, Value, read_magic, read_u16, read_u32, read_u64,
-    read_value,
-};
+use pc_types::{Key, MOST_POINTS, Point, Refusal, Value};
 use std::alloc::Global;
 
 const FIRST: [u8; 8] = *b"PCALCB01";

@@ -1,13 +1,14 @@
 //! The text of a base file goes out.
 ghost use Rattle.std.specs.Prelude.{◌≡◌, OnOk};
 ghost use Rattle.std.specs.List.{All, flat_map};
-ghost use Rattle.pc_types.specs.Tallies.{Puts};
+ghost use Rattle.pc_io.specs.Tallies.{Puts};
 ghost use Rattle.pc_bases.specs.Lawful.{IsPair, IsBaseFile};
 ghost use Rattle.pc_bases.specs.Texts.{base_head_text, pair_text, base_text};
 
 use crate::base::Base;
 use byteorder::{BigEndian, ByteOrder};
-use pc_types::{Key, Refusal, SPACE_BYTES, Tally, Value};
+use pc_io::Tally;
+use pc_types::{Key, Refusal, SPACE_BYTES, Value};
 use std::io::Write;
 
 const MAGIC: [u8; 8] = *b"PCALCB02";

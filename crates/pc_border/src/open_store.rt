@@ -9,10 +9,11 @@ ghost use Rattle.pc_border.specs.Stores.{IsCalled, IsReplied, IsShown, IsFileSho
 
 use crate::sources::copied;
 use pc_engine::World;
+use pc_io::Tally;
 use pc_kept_log::LentTexts;
 use pc_log::encode_header;
 use pc_part::Part;
-use pc_types::{FileNo, Items, Refusal, Reply, Tally};
+use pc_types::{FileNo, Items, Refusal, Reply};
 use pc_wire::codes::{BASE, ENTRIES, LOG, PART};
 use pc_wire::{Answer, Call, Shown, event_of, refused, text_told, told_of};
 use std::alloc::Global;

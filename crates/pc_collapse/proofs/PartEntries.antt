@@ -5,7 +5,7 @@ use Rattle.std.specs.Prelude.{IsTrue}
 use Rattle.std.specs.FinMap.{find}
 use Rattle.std.specs.Iterator.{YieldsFirst}
 use Rattle.std.proofs.lemmas.List.Elements.{All-contains, All-head, All-map, All-nil, All-tail}
-use Rattle.pc_types.specs.Counted.{HasRisen}
+use Rattle.pc_io.specs.Counted.{HasRisen}
 use Rattle.pc_types.specs.declared.Refusal.TheVariants.{Device}
 use Rattle.pc_types.specs.declared.Triple.{Triple}
 use Rattle.pc_model.specs.Database.{key_cmp, key_order, KeysRise}

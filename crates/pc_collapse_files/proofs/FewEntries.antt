@@ -2,13 +2,13 @@
 use Rattle.std.proofs.Common.{◌≡◌, ℕ, zero, suc, ◌+◌, ◌^◌, ◌<◌, eqb, cond, Bool, true, false, List, [], ◌∷◌, ◌++◌, length, Option, Some, None, Result, Ok, Err, refl, sym, ap, subst, ◌∙◌, append_assoc, append-nil, arith}
 use Rattle.std.specs.Int.{w32}
 use Rattle.std.proofs.lemmas.List.{length-append}
-use Rattle.pc_types.specs.Counted.{one_more}
-use Rattle.pc_types.specs.Fields.{◌>>=◌, where_true, number_at}
+use Rattle.pc_io.specs.Counted.{one_more}
+use Rattle.pc_io.specs.Fields.{◌>>=◌, where_true, number_at}
 use Rattle.pc_types.specs.declared.Refusal.{Refusal}
 use Rattle.pc_types.specs.declared.Refusal.TheVariants.{Short, BadLength, Trailing}
 use Rattle.pc_types.specs.declared.Triple.{Triple}
-use Rattle.pc_types.specs.declared.formats.Format.{Format}
-use Rattle.pc_types.proofs.FieldLaws.{ok_is}
+use Rattle.pc_io.specs.declared.formats.Format.{Format}
+use Rattle.pc_io.proofs.FieldLaws.{ok_is}
 use Rattle.pc_part.specs.declared.ranges.Range.{Range}
 use Rattle.pc_part.specs.Reading.{next_entry_at, entries_from, entries_at, header_at, PartFields, part_fields_at, part_of_fields, part_at}
 use Rattle.pc_merge.specs.Coming.{Coming, ended, refused}

@@ -5,9 +5,9 @@ use Rattle.std.specs.List.{All}
 use Rattle.std.proofs.lemmas.Bool.{ltb-true}
 use Rattle.std.proofs.lemmas.List.{length-map}
 use Rattle.std.proofs.lemmas.List.Elements.{All-head, All-tail}
-use Rattle.pc_types.specs.Fields.{◌>>=◌}
-use Rattle.pc_types.specs.Tallies.{failures_of}
-use Rattle.pc_types.specs.declared.tally.Tally.{Tally}
+use Rattle.pc_io.specs.Fields.{◌>>=◌}
+use Rattle.pc_io.specs.Tallies.{failures_of}
+use Rattle.pc_io.specs.declared.tally.Tally.{Tally}
 use Rattle.pc_types.specs.declared.Refusal.{Refusal}
 use Rattle.pc_types.specs.declared.Triple.{Triple}
 use Rattle.pc_model.specs.Files.{File}

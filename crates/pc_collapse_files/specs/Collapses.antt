@@ -5,10 +5,10 @@ use Rattle.std.specs.List.{list_any}
 use Rattle.std.specs.Str.{bytes_eq}
 use Rattle.pc_types.specs.declared.refusal.Refusal.{Refusal}
 use Rattle.pc_types.specs.declared.refusal.Refusal.TheVariants.{OutOfMemory, Device, NoFile, OtherRun, Short}
-use Rattle.pc_types.specs.declared.tally.Tally.{Tally}
-use Rattle.pc_types.specs.Counted.{HasRisen, AppendsBeginning}
-use Rattle.pc_types.specs.Fields.{◌>>=◌}
-use Rattle.pc_types.specs.Tallies.{Puts, inner_of, failures_of}
+use Rattle.pc_io.specs.declared.tally.Tally.{Tally}
+use Rattle.pc_io.specs.Counted.{HasRisen, AppendsBeginning}
+use Rattle.pc_io.specs.Fields.{◌>>=◌}
+use Rattle.pc_io.specs.Tallies.{Puts, inner_of, failures_of}
 use Rattle.pc_model.specs.Maps as map_of
 use Rattle.pc_model.specs.Sets as set
 use Rattle.pc_model.specs.Files.{File}

@@ -2,8 +2,8 @@
 use Rattle.std.specs.Prelude.{◌≡◌, ◌⊎◌, ℕ, List, Option, Some, None, MatchBool, MatchOption, map, nat_lt}
 use Rattle.pc_types.specs.declared.refusal.Refusal.{Refusal}
 use Rattle.pc_types.specs.declared.refusal.Refusal.TheVariants.{OutOfMemory}
-use Rattle.pc_types.specs.declared.tally.Tally.{Tally}
-use Rattle.pc_types.specs.Tallies.{failures_of}
+use Rattle.pc_io.specs.declared.tally.Tally.{Tally}
+use Rattle.pc_io.specs.Tallies.{failures_of}
 use Rattle.pc_model.specs.Maps as map_of
 use Rattle.pc_model.specs.Sets as set
 use Rattle.pc_model.specs.Files.{File}

@@ -2,14 +2,15 @@
 ghost use Rattle.std.specs.Prelude.{◌≡◌, ◌⊎◌, None, IfErr, MatchBool, OnOk};
 ghost use Rattle.std.specs.declared.result.Result.{Result};
 ghost use Rattle.pc_types.specs.declared.refusal.Refusal.{Refusal};
-ghost use Rattle.pc_types.specs.Tallies.{Puts};
+ghost use Rattle.pc_io.specs.Tallies.{Puts};
 ghost use Rattle.pc_collapse_files.specs.Collapses.{IsCollapseCause, IsCollapseDone, IsCollapseFailed, IsLeftByCollapse, IsCollapseTold, TellsUsage, is_one_of, usage_text};
 
 use crate::inputs::{CollapseFault, UnopenedInputs, is_input, open_inputs};
 use crate::output::{Maker, Unfinished, WrittenFile, name_file, print, unmade, write_file};
+use pc_io::Tally;
 use pc_streams::PartReader;
 use pc_texts::{NamedFile, report, report_words};
-use pc_types::{Refusal, Tally};
+use pc_types::Refusal;
 use std::alloc::Global;
 use std::io::{Read, Write};
 

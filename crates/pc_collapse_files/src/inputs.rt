@@ -12,11 +12,12 @@ ghost use Rattle.pc_collapse_files.specs.Reads.{AreSound, sound};
 ghost use Rattle.pc_collapse_files.specs.Inputs.{AreReadersOf, IsHeadFault, IsOpenedAs, IsReaderOf};
 ghost use Rattle.pc_collapse_files.specs.declared.inputs.CollapseFault.{CollapseFault};
 
+use pc_io::Tally;
 use pc_part::{PartHeader, points_in};
 use pc_stream_join::read_headers;
 use pc_streams::PartReader;
 use pc_texts::NamedFile;
-use pc_types::{Items, Point, Refusal, Tally};
+use pc_types::{Items, Point, Refusal};
 use std::alloc::Global;
 use std::io::Read;
 

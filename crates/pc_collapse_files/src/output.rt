@@ -2,8 +2,8 @@
 ghost use Rattle.std.specs.Prelude.{◌≡◌, ◌⊎◌, ℕ, List, Some, None, IfOk, IfErr, OnOk, OnErr};
 ghost use Rattle.std.specs.Io.KnownBytes.{Appends};
 ghost use Rattle.pc_types.specs.declared.refusal.Refusal.{Refusal};
-ghost use Rattle.pc_types.specs.Counted.{HasRisen, AppendsBeginning};
-ghost use Rattle.pc_types.specs.Tallies.{inner_of, failures_of};
+ghost use Rattle.pc_io.specs.Counted.{HasRisen, AppendsBeginning};
+ghost use Rattle.pc_io.specs.Tallies.{inner_of, failures_of};
 ghost use Rattle.pc_texts.specs.Texts.{joined_line};
 ghost use Rattle.pc_texts.specs.declared.files.NamedFile.{NamedFile};
 ghost use Rattle.pc_stream_join.specs.Headers.{AreHeaded};
@@ -12,10 +12,11 @@ ghost use Rattle.pc_collapse_files.specs.Inputs.{IsFaultOf, IsOpenedAs, IsUnwrit
 ghost use Rattle.pc_collapse_files.specs.declared.inputs.CollapseFault.{CollapseFault};
 
 use crate::inputs::{CollapseFault, OpenedInputs};
+use pc_io::Tally;
 use pc_stream_join::join_entries;
 use pc_streams::PartReader;
 use pc_texts::{end_output, put_joined};
-use pc_types::{Items, Point, Refusal, Tally};
+use pc_types::{Items, Point, Refusal};
 use std::alloc::Global;
 use std::io::{Read, Write};
 

@@ -1,6 +1,6 @@
 //! The system's error for a file that couldn't be opened or read, kept until it is printed.
+use pc_io::Tally;
 use pc_texts::put_name;
-use pc_types::Tally;
 use std::alloc::{AllocError, Global};
 use std::fs::File;
 use std::io;

@@ -1,9 +1,10 @@
 //! The files of a folder that recovery reads.
 use crate::causes::{Causes, Doing};
 use crate::late::LateFile;
+use pc_io::{Tally, read_all};
 use pc_restore::Folder;
 use pc_texts::{NamedFile, report};
-use pc_types::{Refusal, Tally, read_all};
+use pc_types::Refusal;
 use std::alloc::{AllocError, Global};
 use std::fs::{FileType, Files};
 use std::io::{ErrorKind, Write};

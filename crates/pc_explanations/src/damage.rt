@@ -7,11 +7,12 @@ use pc_disk::{
     BASE, Causes, FoundFolder, LOG, PART_END, ReadFolder, names_in, open_folder, path_in,
 };
 use pc_faults::{TextKind, locate};
+use pc_io::Tally;
 use pc_log::read_log;
 use pc_part::{Part, join};
 use pc_restore::run_recover;
 use pc_texts::put_name;
-use pc_types::{Refusal, Tally};
+use pc_types::Refusal;
 
 /// A search for the file whose fault was reported by this word.
 #[derive(Clone, Copy)]

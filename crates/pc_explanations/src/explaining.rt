@@ -2,8 +2,9 @@
 use crate::damage::Damage;
 use crate::meanings::meaning_of;
 use pc_disk::{BASE, Cause, Causes, Doing, INPUT, OUTPUT};
+use pc_io::Tally;
 use pc_texts::put_name;
-use pc_types::{Refusal, Tally};
+use pc_types::Refusal;
 use std::fs::File;
 use std::io;
 use std::io::{IsTerminal, Read, Write};

@@ -5,11 +5,12 @@ use crate::meanings::meaning_of;
 use itoa::Buffer;
 use pc_disk::{LOG, PART_END, ReadFolder, names_in, path_in};
 use pc_faults::TextKind;
+use pc_io::Tally;
 use pc_log::read_log;
 use pc_part::Part;
 use pc_restore::{Lacks, LogHeader};
 use pc_texts::put_name;
-use pc_types::{Refusal, Tally};
+use pc_types::Refusal;
 use std::io::Write;
 
 /// A folder that was recovered, and what it lacks.

@@ -1,6 +1,6 @@
 -- Laws of the faults of texts.
 use Rattle.std.proofs.Common.{◌≡◌, ◌<◌, ◌∙◌, ℕ, Bool, true, false, true≢false, List, [], ◌∷◌, length, refl, sym, arith}
-use Rattle.pc_types.specs.Fields.{magic_at}
+use Rattle.pc_io.specs.Fields.{magic_at}
 use Rattle.pc_part.specs.Reading.{header_at, part_fields_at}
 use Rattle.pc_bases.specs.Reading.{base_fields_at}
 use Rattle.pc_faults.specs.declared.texts.TextKind.{TextKind}

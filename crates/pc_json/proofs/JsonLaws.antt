@@ -7,7 +7,7 @@ use Rattle.std.proofs.lemmas.Bool.{false_from_ne_true}
 use Rattle.std.proofs.lemmas.Bool.Decides.{nat_tests}
 use Rattle.std.proofs.lemmas.Fmt.{IsAscii-decimal}
 use Rattle.std.proofs.lemmas.Str.{IsUtf8-append, IsUtf8-nil, IsUtf8-from_ascii, IsUtf8-from_is_utf8, is_utf8-from_IsUtf8}
-use Rattle.pc_types.specs.FieldForms.{IsBytes}
+use Rattle.pc_types.specs.Bytes.{IsBytes}
 use Rattle.base64.specs.Engines.{standard}
 use Rattle.base64.specs.GeneralPurpose.{decode_of, encode_of}
 use Rattle.base64.proofs.EngineFacts.{IsAscii-encode_of, decode_of-encode_of}

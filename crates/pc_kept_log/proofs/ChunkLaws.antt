@@ -11,7 +11,7 @@ use Rattle.std.proofs.lemmas.List.Elements.{All-append}
 use Rattle.std.proofs.lemmas.Option.{get_or_from_slice_get}
 use Rattle.pc_types.specs.declared.refusal.Refusal.{Refusal}
 use Rattle.pc_types.specs.declared.Entry.{Entry}
-use Rattle.pc_types.proofs.FieldLaws.{ok_is}
+use Rattle.pc_io.proofs.FieldLaws.{ok_is}
 use Rattle.pc_log.specs.Texts.{entry_text, IsEntry}
 use Rattle.pc_log.specs.Plain.{plain_entry_at, plain_entries_at, entries_in}
 use Rattle.pc_kept_log.specs.Placing.{ArePut}

@@ -9,7 +9,7 @@ use Rattle.pc_types.specs.declared.Entry.{Entry}
 use Rattle.pc_types.specs.declared.Entry.TheVariants.{Commit, Token}
 use Rattle.pc_types.specs.declared.Phase.{Phase}
 use Rattle.pc_types.specs.declared.limits.TheConstants.{MOST_POINTS}
-use Rattle.pc_types.proofs.FieldLaws.{wide32}
+use Rattle.pc_io.proofs.FieldLaws.{wide32}
 use Rattle.pc_log.specs.Texts.{entry_text, IsEntry}
 use Rattle.pc_log.specs.Reading.{phase_numbered}
 use Rattle.pc_log.proofs.TokenOrders.{numbered_is}

@@ -8,9 +8,9 @@ use Rattle.pc_types.specs.declared.refusal.Refusal.TheVariants.{BadLength}
 use Rattle.pc_types.specs.declared.Entry.{Entry}
 use Rattle.pc_types.specs.declared.Entry.TheVariants.{Commit, Token}
 use Rattle.pc_types.specs.declared.Write.{Write}
-use Rattle.pc_types.specs.declared.Format.TheVariants.{Second}
-use Rattle.pc_types.specs.Fields.{key_text}
-use Rattle.pc_types.proofs.FieldLaws.{wide16, key_again}
+use Rattle.pc_io.specs.declared.Format.TheVariants.{Second}
+use Rattle.pc_io.specs.Fields.{key_text}
+use Rattle.pc_io.proofs.FieldLaws.{wide16, key_again}
 use Rattle.pc_log.specs.Texts.{change_text, write_text, entry_text, IsWrite, IsEntry}
 use Rattle.pc_log.proofs.ChangeTexts.{change_again}
 use Rattle.pc_kept_log.specs.Logs.{writes_of_entry}

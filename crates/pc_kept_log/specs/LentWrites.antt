@@ -3,8 +3,8 @@ use Rattle.std.specs.Prelude.{ℕ, zero, suc, List, [], ◌∷◌, Result, Ok, E
 use Rattle.pc_types.specs.declared.refusal.Refusal.{Refusal}
 use Rattle.pc_types.specs.declared.refusal.Refusal.TheVariants.{BadLength}
 use Rattle.pc_types.specs.declared.Write.{Write}
-use Rattle.pc_types.specs.declared.Format.TheVariants.{Second}
-use Rattle.pc_types.specs.Fields.{◌>>=◌, key_at}
+use Rattle.pc_io.specs.declared.Format.TheVariants.{Second}
+use Rattle.pc_io.specs.Fields.{◌>>=◌, key_at}
 use Rattle.pc_log.specs.Reading.{change_at}
 
 -- a write, whatever writes were before it

@@ -1,9 +1,9 @@
 //! Views of the writes of an entry, from its text, without memory.
 ghost use Rattle.std.specs.Prelude.{◌≡◌, ◌<◌, [], length, slice_get, IfOk};
 ghost use Rattle.std.specs.Iterator.{YieldsFirst, item_count};
-ghost use Rattle.pc_types.specs.Fields.{Reads, key_at, value_at};
+ghost use Rattle.pc_io.specs.Fields.{Reads, key_at, value_at};
 ghost use Rattle.pc_types.specs.declared.refusal.Refusal.TheVariants.{BadLength};
-ghost use Rattle.pc_types.specs.declared.formats.Format.TheVariants.{Second};
+ghost use Rattle.pc_io.specs.declared.formats.Format.TheVariants.{Second};
 ghost use Rattle.pc_types.specs.Limits.{IsKey, IsValue};
 ghost use Rattle.pc_log.specs.Reading.{change_at};
 ghost use Rattle.pc_kept_log.specs.Logs.{entries_of, writes_of_entry};
@@ -12,11 +12,9 @@ ghost use Rattle.pc_kept_log.specs.LentWrites.{plain_write_at};
 
 use crate::chunk::Chunk;
 use crate::log::Log;
+use pc_io::{Format, read_bytes, read_key_text, read_u16, read_u32, read_u64};
 use pc_log::COMMIT;
-use pc_types::{
-    Change, Format, Key, MOST_VALUE_BYTES, Refusal, Value, Write, read_bytes, read_key_text,
-    read_u16, read_u32, read_u64,
-};
+use pc_types::{Change, Key, MOST_VALUE_BYTES, Refusal, Value, Write};
 use std::alloc::{AllocError, Global};
 use std::marker::Model;
 
@@ -187,7 +185,7 @@ fn lend_write(bytes: &[u8]) -> Result<(LentWrite<'_>, &[u8]), Refusal>
 }
 
 // A key, the length of its own bytes before it.
-#[tactic(auto, unfolding(pc_types::specs::Fields::key_at))]
+#[tactic(auto, unfolding(pc_io::specs::Fields::key_at))]
 fn lend_key(bytes: &[u8]) -> Result<(&[u8], &[u8]), Refusal>
     ensures read { Reads (λ x. (x.0.now, x.1.now)) result (key_at Second BadLength bytes.now) }
     ensures in_limits { IfOk result (λ x. IsKey x.0.now) }
@@ -218,7 +216,7 @@ fn lend_change(bytes: &[u8]) -> Result<(LentChange<'_>, &[u8]), Refusal>
 }
 
 // A value, its length before it.
-#[tactic(auto, unfolding(pc_types::specs::Fields::value_at))]
+#[tactic(auto, unfolding(pc_io::specs::Fields::value_at))]
 fn lend_value(bytes: &[u8]) -> Result<(&[u8], &[u8]), Refusal>
     ensures read { Reads (λ x. (x.0.now, x.1.now)) result (value_at BadLength bytes.now) }
     ensures in_limits { IfOk result (λ x. IsValue x.0.now) }

@@ -3,7 +3,7 @@ ghost use Rattle.std.specs.Prelude.{◌≤◌, length, Some, All};
 ghost use Rattle.std.specs.List.{flat_map};
 ghost use Rattle.pc_types.specs.declared.Change.TheVariants.{Add};
 ghost use Rattle.pc_types.specs.declared.Entry.TheVariants.{Commit, Token};
-ghost use Rattle.pc_types.specs.Fields.{content_text};
+ghost use Rattle.pc_io.specs.Fields.{content_text};
 ghost use Rattle.pc_types.specs.Limits.{IsValue};
 ghost use Rattle.pc_log.specs.Texts.{change_text, write_text, commit_head_text, entry_text, IsChange, IsWrite};
 ghost use Rattle.pc_kept_log.specs.Placing.{ArePut, HasSpace};

@@ -8,9 +8,11 @@ use Rattle.pc_types.specs.declared.refusal.Refusal.TheVariants.{BadLength}
 use Rattle.pc_types.specs.declared.Change.{Change}
 use Rattle.pc_types.specs.declared.Change.TheVariants.{Set, Remove, Add}
 use Rattle.pc_types.specs.Changes.{fits, number_text}
-use Rattle.pc_types.specs.Fields.{◌>>=◌, number_at, value_at, value_text}
-use Rattle.pc_types.specs.FieldForms.{IsBytes, TakesText}
-use Rattle.pc_types.proofs.FieldLaws.{IsBytes-rest, ok_is, wide64, number_takes, number_again, value_takes, value_again}
+use Rattle.pc_io.specs.Fields.{◌>>=◌, number_at, value_at, value_text}
+use Rattle.pc_types.specs.Bytes.{IsBytes}
+use Rattle.pc_io.specs.FieldForms.{TakesText}
+use Rattle.pc_types.proofs.ByteLaws.{IsBytes-rest}
+use Rattle.pc_io.proofs.FieldLaws.{ok_is, wide64, number_takes, number_again, value_takes, value_again}
 use Rattle.pc_types.proofs.NumberLaws.{fits_is, is_fit, small}
 use Rattle.pc_log.specs.Texts.{change_text, IsChange}
 use Rattle.pc_log.specs.Reading.{change_at}

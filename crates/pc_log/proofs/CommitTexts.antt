@@ -1,13 +1,13 @@
 -- The text of a commit goes out in two pieces: its head, and its writes.
 use Rattle.std.proofs.Common.{◌≡◌, ℕ, List, ◌++◌, Option, Result, Ok, Err, sym, ap, subst, ◌∙◌}
 use Rattle.std.specs.List.{flat_map}
-use Rattle.pc_types.specs.Tallies.{Puts}
-use Rattle.pc_types.specs.declared.tally.Tally.{Tally}
+use Rattle.pc_io.specs.Tallies.{Puts}
+use Rattle.pc_io.specs.declared.tally.Tally.{Tally}
 use Rattle.pc_types.specs.declared.refusal.Refusal.{Refusal}
 use Rattle.pc_types.specs.declared.Entry.{Entry}
 use Rattle.pc_types.specs.declared.Entry.TheVariants.{Commit}
 use Rattle.pc_types.specs.declared.Write.{Write}
-use Rattle.pc_types.proofs.PutsLaws.{puts_then, puts_stop}
+use Rattle.pc_io.proofs.PutsLaws.{puts_then, puts_stop}
 use Rattle.pc_log.specs.Texts.{write_text, commit_head_text, entry_text}
 
 module _ {T : Type 0} (contents : T → Option (List ℕ)) (entry : Entry) (session : ℕ) (writes here : List Write) (is_commit : entry ≡ Commit session writes) (same : here ≡ writes) where

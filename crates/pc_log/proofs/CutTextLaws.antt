@@ -11,10 +11,10 @@ use Rattle.std.proofs.lemmas.List.Elements.{recursion_from_All}
 use Rattle.pc_types.specs.declared.refusal.Refusal.{Refusal}
 use Rattle.pc_types.specs.declared.refusal.Refusal.TheVariants.{Short}
 use Rattle.pc_types.specs.declared.Entry.{Entry}
-use Rattle.pc_types.specs.declared.Format.{Format}
-use Rattle.pc_types.specs.declared.Format.TheVariants.{First, Second}
-use Rattle.pc_types.specs.Fields.{bytes_at, number_at, magic_at}
-use Rattle.pc_types.proofs.FieldLaws.{wide32, wide64, number_again}
+use Rattle.pc_io.specs.declared.Format.{Format}
+use Rattle.pc_io.specs.declared.Format.TheVariants.{First, Second}
+use Rattle.pc_io.specs.Fields.{bytes_at, number_at, magic_at}
+use Rattle.pc_io.proofs.FieldLaws.{wide32, wide64, number_again}
 use Rattle.pc_log.specs.declared.order.LastToken.{LastToken}
 use Rattle.pc_log.specs.Texts.{log_magic, header_text_in, body_text_in, entry_text_in, log_text_in, IsEntry, HasEntry, HasLog}
 use Rattle.pc_log.specs.Orders.{token_after, no_token, FollowFrom, InOrder}

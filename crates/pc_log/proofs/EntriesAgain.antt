@@ -8,14 +8,14 @@ use Rattle.std.proofs.lemmas.List.{append-nil, length-append, length-drop}
 use Rattle.pc_types.specs.declared.refusal.Refusal.{Refusal}
 use Rattle.pc_types.specs.declared.refusal.Refusal.TheVariants.{Short, BadLength, TokenOrder}
 use Rattle.pc_types.specs.declared.Entry.{Entry}
-use Rattle.pc_types.specs.declared.Format.{Format}
-use Rattle.pc_types.specs.declared.Format.TheVariants.{First, Second}
+use Rattle.pc_io.specs.declared.Format.{Format}
+use Rattle.pc_io.specs.declared.Format.TheVariants.{First, Second}
 use Rattle.pc_types.specs.declared.Entry.TheVariants.{Commit, Token}
 use Rattle.pc_types.specs.declared.Phase.{Phase}
 use Rattle.pc_types.specs.declared.Write.{Write}
 use Rattle.pc_types.specs.Limits.{IsKey}
-use Rattle.pc_types.specs.Fields.{◌>>=◌, where_true, number_at, magic_at, space_bytes, key_text_in, HasKey}
-use Rattle.pc_types.proofs.FieldLaws.{wide16, wide32, wide64, bytes_again, number_again, told, magic_again, key_again}
+use Rattle.pc_io.specs.Fields.{◌>>=◌, where_true, number_at, magic_at, space_bytes, key_text_in, HasKey}
+use Rattle.pc_io.proofs.FieldLaws.{wide16, wide32, wide64, bytes_again, number_again, told, magic_again, key_again}
 use Rattle.pc_log.specs.declared.order.LastToken.{LastToken}
 use Rattle.pc_log.specs.Texts.{log_magic, header_text_in, change_text, write_text_in, phase_number, body_text_in, entry_text_in, same_key, keys_of, IsWrite, IsEntry, IsCommit, IsTokenPoint, HasEntry, HasLog}
 use Rattle.pc_log.specs.Orders.{comes_next, token_after, no_token, FollowFrom}

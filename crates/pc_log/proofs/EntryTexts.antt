@@ -13,13 +13,15 @@ use Rattle.std.proofs.lemmas.Map.Keys.{IsDistinct-push}
 use Rattle.pc_types.specs.declared.refusal.Refusal.{Refusal}
 use Rattle.pc_types.specs.declared.refusal.Refusal.TheVariants.{Short, KeyOrder, BadLength, Trailing, TokenOrder}
 use Rattle.pc_types.specs.declared.Entry.{Entry}
-use Rattle.pc_types.specs.declared.Format.{Format}
+use Rattle.pc_io.specs.declared.Format.{Format}
 use Rattle.pc_types.specs.declared.Entry.TheVariants.{Commit, Token}
 use Rattle.pc_types.specs.declared.Change.{Change}
 use Rattle.pc_types.specs.declared.Write.{Write}
-use Rattle.pc_types.specs.Fields.{◌>>=◌, where_true, bytes_at, number_at, key_at, key_text_in, HasKey}
-use Rattle.pc_types.proofs.FieldLaws.{IsBytes-take, IsBytes-rest, bind_ok, guard_ok, where_ok, ok_is, TakesText-then, bytes_take, wide16, wide32, number_takes, key_takes}
-use Rattle.pc_types.specs.FieldForms.{IsBytes, TakesText}
+use Rattle.pc_io.specs.Fields.{◌>>=◌, where_true, bytes_at, number_at, key_at, key_text_in, HasKey}
+use Rattle.pc_types.proofs.ByteLaws.{IsBytes-take, IsBytes-rest}
+use Rattle.pc_io.proofs.FieldLaws.{bind_ok, guard_ok, where_ok, ok_is, TakesText-then, bytes_take, wide16, wide32, number_takes, key_takes}
+use Rattle.pc_types.specs.Bytes.{IsBytes}
+use Rattle.pc_io.specs.FieldForms.{TakesText}
 use Rattle.pc_log.specs.declared.order.LastToken.{LastToken}
 use Rattle.pc_model.specs.FewWrites.{HasFewWrites}
 use Rattle.pc_log.specs.Texts.{change_text, write_text_in, phase_number, body_text_in, entry_text_in, same_key, keys_of, IsWrite, IsEntry, HasEntry}

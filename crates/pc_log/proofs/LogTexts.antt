@@ -9,11 +9,12 @@ use Rattle.std.proofs.lemmas.List.Elements.{All-from_recursion, recursion_from_A
 use Rattle.pc_types.specs.declared.refusal.Refusal.{Refusal}
 use Rattle.pc_types.specs.declared.refusal.Refusal.TheVariants.{Short, BadRanges}
 use Rattle.pc_types.specs.declared.Entry.{Entry}
-use Rattle.pc_types.specs.declared.Format.{Format}
-use Rattle.pc_types.specs.declared.Format.TheVariants.{First, Second}
-use Rattle.pc_types.specs.Fields.{◌>>=◌, where_true, number_at, magic_at, Gives}
-use Rattle.pc_types.proofs.FieldLaws.{bind_ok, ok_is, where_ok, TakesText-then, wide32, wide64, number_takes, magic_takes}
-use Rattle.pc_types.specs.FieldForms.{IsBytes, TakesText}
+use Rattle.pc_io.specs.declared.Format.{Format}
+use Rattle.pc_io.specs.declared.Format.TheVariants.{First, Second}
+use Rattle.pc_io.specs.Fields.{◌>>=◌, where_true, number_at, magic_at, Gives}
+use Rattle.pc_io.proofs.FieldLaws.{bind_ok, ok_is, where_ok, TakesText-then, wide32, wide64, number_takes, magic_takes}
+use Rattle.pc_types.specs.Bytes.{IsBytes}
+use Rattle.pc_io.specs.FieldForms.{TakesText}
 use Rattle.pc_log.specs.declared.order.LastToken.{LastToken}
 use Rattle.pc_log.specs.Texts.{log_magic, header_text_in, entry_text_in, log_text_in, IsEntry, HasEntry, HasLog, IsLogText}
 use Rattle.pc_log.specs.Orders.{token_after, no_token, FollowFrom, InOrder}

@@ -2,7 +2,7 @@
 use Rattle.std.proofs.Common.{◌≡◌, ℕ, suc, ◌-◌, ◌+◌, ◌≤◌, ◌<◌, List, [], ◌∷◌, ◌++◌, Result, Ok, Err, refl, sym, ◌∙◌, arith}
 use Rattle.pc_types.specs.declared.refusal.Refusal.{Refusal}
 use Rattle.pc_types.specs.declared.Write.{Write}
-use Rattle.pc_types.specs.declared.Format.{Format}
+use Rattle.pc_io.specs.declared.Format.{Format}
 use Rattle.pc_log.specs.Reading.{write_at, writes_at}
 
 -- ---- writes, at one turn of the loop

@@ -9,11 +9,11 @@ use Rattle.std.proofs.lemmas.List.Elements.{recursion_from_All}
 use Rattle.pc_types.specs.declared.refusal.Refusal.{Refusal}
 use Rattle.pc_types.specs.declared.refusal.Refusal.TheVariants.{Short, BadLength, TokenOrder}
 use Rattle.pc_types.specs.declared.Entry.{Entry}
-use Rattle.pc_types.specs.declared.Format.TheVariants.{Second}
+use Rattle.pc_io.specs.declared.Format.TheVariants.{Second}
 use Rattle.pc_types.specs.declared.Entry.TheVariants.{Commit, Token}
 use Rattle.pc_types.specs.declared.Phase.{Phase}
-use Rattle.pc_types.specs.Fields.{◌>>=◌, where_true, number_at}
-use Rattle.pc_types.proofs.FieldLaws.{wide32, bytes_again, number_again}
+use Rattle.pc_io.specs.Fields.{◌>>=◌, where_true, number_at}
+use Rattle.pc_io.proofs.FieldLaws.{wide32, bytes_again, number_again}
 use Rattle.pc_log.specs.Texts.{phase_number, body_text, entry_text, IsEntry, IsTokenPoint}
 use Rattle.pc_log.specs.Plain.{plain_token_at, plain_kind_at, plain_body_at, plain_entry_at, and_behind, plain_entries_at, entries_in}
 use Rattle.pc_log.proofs.TokenOrders.{numbered_is}

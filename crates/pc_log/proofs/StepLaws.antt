@@ -1,8 +1,8 @@
 -- Steps of a reader that did not fail.
 use Rattle.std.proofs.Common.{◌≡◌, Bool, true, false, Result, Ok, Err, refl}
 use Rattle.pc_types.specs.declared.refusal.Refusal.{Refusal}
-use Rattle.pc_types.specs.Fields.{◌>>=◌, where_true}
-use Rattle.pc_types.proofs.FieldLaws.{ok_is}
+use Rattle.pc_io.specs.Fields.{◌>>=◌, where_true}
+use Rattle.pc_io.proofs.FieldLaws.{ok_is}
 
 -- a test that held, and then a step that did not fail
 pub where_then : {A B : Type 0} (b : Bool) (d : Refusal) (x : A) (f : A → Result B Refusal) (y : B) → (where_true b d x >>= f) ≡ Ok y → (b ≡ true) × (f x ≡ Ok y)

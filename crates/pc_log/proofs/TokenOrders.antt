@@ -7,7 +7,7 @@ use Rattle.pc_types.specs.declared.Entry.{Entry}
 use Rattle.pc_types.specs.declared.Entry.TheVariants.{Commit, Token}
 use Rattle.pc_types.specs.declared.Phase.{Phase}
 use Rattle.pc_types.specs.declared.Phase.TheVariants.{Rest, Prepare, Resolve, Capture, Complete}
-use Rattle.pc_types.proofs.FieldLaws.{ok_is}
+use Rattle.pc_io.proofs.FieldLaws.{ok_is}
 use Rattle.pc_log.specs.declared.order.LastToken.{LastToken}
 use Rattle.pc_log.specs.Texts.{phase_number, IsEntry, IsTokenPoint}
 use Rattle.pc_log.specs.Orders.{FollowFrom, comes_next, token_after}

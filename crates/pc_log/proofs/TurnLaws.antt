@@ -8,9 +8,9 @@ use Rattle.std.proofs.lemmas.List.{append-nil, length-drop, nil_from_length}
 use Rattle.pc_types.specs.declared.refusal.Refusal.{Refusal}
 use Rattle.pc_types.specs.declared.refusal.Refusal.TheVariants.{OutOfMemory, Short, BadLength}
 use Rattle.pc_types.specs.declared.Entry.{Entry}
-use Rattle.pc_types.specs.declared.Format.{Format}
-use Rattle.pc_types.specs.Fields.{◌>>=◌, where_true, bytes_at, number_at, Gives}
-use Rattle.pc_types.proofs.FieldLaws.{bind_ok, guard_ok}
+use Rattle.pc_io.specs.declared.Format.{Format}
+use Rattle.pc_io.specs.Fields.{◌>>=◌, where_true, bytes_at, number_at, Gives}
+use Rattle.pc_io.proofs.FieldLaws.{bind_ok, guard_ok}
 use Rattle.pc_log.proofs.StepLaws.{where_then, made_ok}
 use Rattle.pc_log.specs.declared.order.LastToken.{LastToken}
 use Rattle.pc_log.specs.Orders.{token_after}

@@ -3,7 +3,7 @@ use Rattle.std.specs.Prelude.{◌≡◌, ℕ, ◌+◌, ◌-◌, ◌<◌, ◌≤�
 use Rattle.std.specs.List.{flat_map}
 use Rattle.pc_types.specs.declared.refusal.Refusal.TheVariants.{Short}
 use Rattle.pc_types.specs.declared.Entry.{Entry}
-use Rattle.pc_types.specs.declared.Format.{Format}
+use Rattle.pc_io.specs.declared.Format.{Format}
 use Rattle.pc_types.specs.declared.limits.TheConstants.{MOST_SESSIONS}
 use Rattle.pc_model.specs.History.{History, log_of}
 use Rattle.pc_model.specs.Replies.{Setting}

@@ -6,8 +6,8 @@ use Rattle.pc_types.specs.declared.refusal.Refusal.TheVariants.{Short, BadKind, 
 use Rattle.pc_types.specs.declared.limits.TheConstants.{MOST_POINTS}
 use Rattle.pc_types.specs.declared.Entry.{Entry}
 use Rattle.pc_types.specs.declared.Entry.TheVariants.{Token}
-use Rattle.pc_types.specs.declared.Format.TheVariants.{Second}
-use Rattle.pc_types.specs.Fields.{◌>>=◌, where_true, bytes_at, number_at}
+use Rattle.pc_io.specs.declared.Format.TheVariants.{Second}
+use Rattle.pc_io.specs.Fields.{◌>>=◌, where_true, bytes_at, number_at}
 use Rattle.pc_log.specs.Reading.{byte_at, phase_numbered, commit_at}
 
 -- what a token has after its kind

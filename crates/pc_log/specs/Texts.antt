@@ -13,9 +13,9 @@ use Rattle.pc_types.specs.declared.Change.{Change}
 use Rattle.pc_types.specs.declared.Change.TheVariants.{Set, Remove, Add}
 use Rattle.pc_types.specs.declared.Write.{Write}
 use Rattle.pc_types.specs.Changes.{fits, number_text}
-use Rattle.pc_types.specs.declared.Format.{Format}
-use Rattle.pc_types.specs.declared.Format.TheVariants.{First, Second}
-use Rattle.pc_types.specs.Fields.{key_text_in, content_text, HasKey}
+use Rattle.pc_io.specs.declared.Format.{Format}
+use Rattle.pc_io.specs.declared.Format.TheVariants.{First, Second}
+use Rattle.pc_io.specs.Fields.{key_text_in, content_text, HasKey}
 use Rattle.pc_types.specs.Limits.{IsKey, IsValue}
 use Rattle.pc_types.specs.declared.limits.TheConstants.{MOST_POINTS, MOST_SESSIONS, MOST_WRITES}
 

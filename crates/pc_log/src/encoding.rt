@@ -2,16 +2,15 @@
 ghost use Rattle.std.specs.Prelude.{ℕ, ◌≡◌, ◌≤◌, ◌*◌, length, All};
 ghost use Rattle.std.specs.List.{flat_map};
 ghost use Rattle.pc_types.specs.Changes.{number_text};
-ghost use Rattle.pc_types.specs.Tallies.{Puts};
+ghost use Rattle.pc_io.specs.Tallies.{Puts};
 ghost use Rattle.pc_model.specs.FewWrites.{HasFewWrites};
 ghost use Rattle.pc_log.specs.Texts.{header_text, write_text, body_text, commit_head_text, entry_text, log_text};
 ghost use Rattle.pc_types.specs.declared.Entry.TheVariants.{Commit, Token};
 
 use crate::phases;
 use byteorder::{BigEndian, ByteOrder};
-use pc_types::{
-    Change, Entry, MOST_WRITES, Phase, Point, Refusal, SPACE_BYTES, SessionNo, Tally, Write,
-};
+use pc_io::Tally;
+use pc_types::{Change, Entry, MOST_WRITES, Phase, Point, Refusal, SPACE_BYTES, SessionNo, Write};
 use std::io;
 
 const MAGIC: [u8; 8] = *b"PCALCL02";

@@ -1,6 +1,6 @@
 //! The numbers that represent phases in a text.
 ghost use Rattle.std.specs.Prelude.{◌≡◌};
-ghost use Rattle.pc_types.specs.Fields.{Reads};
+ghost use Rattle.pc_io.specs.Fields.{Reads};
 ghost use Rattle.pc_log.specs.Texts.{phase_number};
 ghost use Rattle.pc_log.specs.Reading.{phase_numbered};
 

@@ -1,10 +1,11 @@
 //! An entry is read by itself, whatever token was before it, of bytes that are known to be entries' texts in format 02.
-ghost use Rattle.pc_types.specs.Fields.{Gives, Reads};
+ghost use Rattle.pc_io.specs.Fields.{Gives, Reads};
 ghost use Rattle.pc_log.specs.Plain.{plain_token_at, plain_kind_at, plain_body_at, plain_entry_at};
 
 use crate::phases;
 use crate::reading::{read_byte, read_commit};
-use pc_types::{Entry, Format, MOST_POINTS, Point, Refusal, read_bytes, read_u32};
+use pc_io::{Format, read_bytes, read_u32};
+use pc_types::{Entry, MOST_POINTS, Point, Refusal};
 use std::alloc::Global;
 
 /// Reads the entry with which the bytes begin in format 02, whatever token was before it: the entry, and the bytes after it. Of

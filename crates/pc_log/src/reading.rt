@@ -1,16 +1,16 @@
 //! A log is read from its text, which may have been truncated.
 ghost use Rattle.std.specs.Prelude.{◌≡◌, ◌<◌, [], length, IfOk, Ok, Err, Some};
-ghost use Rattle.pc_types.specs.Fields.{Gives, Reads};
+ghost use Rattle.pc_io.specs.Fields.{Gives, Reads};
 ghost use Rattle.pc_log.specs.Reading.{byte_at, change_at, write_at, writes_at, commit_at, token_at, kind_at, body_at, most_body_bytes, entry_at, entries_at, header_at, log_at, text_of, of_run, is_written};
 ghost use Rattle.pc_log.specs.Orders.{no_token};
 ghost use Rattle.pc_log.specs.Laws.{AreWholeEntries};
 
 use crate::order::LastToken;
 use crate::phases;
+use pc_io::{Format, read_bytes, read_key, read_magic, read_u16, read_u32, read_u64, read_value};
 use pc_types::{
-    Change, Entry, Format, Items, Key, MOST_KEY_BYTES, MOST_SESSIONS, MOST_VALUE_BYTES,
-    MOST_WRITES, Point, Refusal, SPACE_BYTES, SessionNo, Write, read_bytes, read_key, read_magic,
-    read_u16, read_u32, read_u64, read_value,
+    Change, Entry, Items, Key, MOST_KEY_BYTES, MOST_SESSIONS, MOST_VALUE_BYTES, MOST_WRITES, Point,
+    Refusal, SPACE_BYTES, SessionNo, Write,
 };
 use std::alloc::Global;
 

@@ -3,12 +3,12 @@ use Rattle.std.proofs.Common.{◌≡◌, ◌≢◌, ◌⊎◌, inl, inr, ℕ, Li
 use Rattle.std.specs.Prelude.{IsOk, OnOk}
 use Rattle.std.specs.Io.KnownBytes.{Appends, Keeps}
 use Rattle.std.proofs.lemmas.List.{append-nil, length-append, take-append-le}
-use Rattle.pc_types.specs.Counted.{AppendsBeginning, HasRisen}
-use Rattle.pc_types.specs.Tallies.{Puts, failures_of}
+use Rattle.pc_io.specs.Counted.{AppendsBeginning, HasRisen}
+use Rattle.pc_io.specs.Tallies.{Puts, failures_of}
 use Rattle.pc_types.specs.declared.refusal.Refusal.{Refusal}
 use Rattle.pc_types.specs.declared.refusal.Refusal.TheVariants.{OutOfMemory}
-use Rattle.pc_types.specs.declared.tally.Tally.{Tally}
-use Rattle.pc_types.proofs.KnownBytesLaws.{appends_then, begins_after, part_after, part_begins}
+use Rattle.pc_io.specs.declared.tally.Tally.{Tally}
+use Rattle.pc_io.proofs.KnownBytesLaws.{appends_then, begins_after, part_after, part_begins}
 use Rattle.pc_texts.specs.Outputs.{IsUnprinted}
 use Rattle.pc_texts.proofs.Begun.{appends_kept, begins_kept, whole_begins}
 use Rattle.pc_log_lines.specs.declared.reading.EntryRange.{EntryRange}

@@ -2,11 +2,11 @@
 use Rattle.std.specs.Prelude.{◌≡◌, ◌⊎◌, ℕ, List, Option, IsOk}
 use Rattle.std.specs.declared.result.Result.{Result}
 use Rattle.std.specs.Io.KnownBytes.{Appends}
-use Rattle.pc_types.specs.Counted.{AppendsBeginning, HasRisen}
-use Rattle.pc_types.specs.Tallies.{failures_of, inner_of}
+use Rattle.pc_io.specs.Counted.{AppendsBeginning, HasRisen}
+use Rattle.pc_io.specs.Tallies.{failures_of, inner_of}
 use Rattle.pc_types.specs.declared.refusal.Refusal.{Refusal}
 use Rattle.pc_types.specs.declared.refusal.Refusal.TheVariants.{OutOfMemory, Device}
-use Rattle.pc_types.specs.declared.tally.Tally.{Tally}
+use Rattle.pc_io.specs.declared.tally.Tally.{Tally}
 use Rattle.pc_texts.specs.Files.{HoldsBytes, IsUnread, TellsOf, refusal_of}
 use Rattle.pc_log_lines.specs.declared.reading.EntryRange.{EntryRange}
 use Rattle.pc_log_lines.specs.declared.run.LostLog.{LostLog}

@@ -1,14 +1,15 @@
 //! A log's entries are read in order, and the line of each goes out before the next one is read.
 ghost use Rattle.std.specs.Prelude.{◌≡◌, ◌⊎◌, length, ◌-◌, Some, Ok, Err, IfOk, IfErr, IsErr, OnOk};
-ghost use Rattle.pc_types.specs.Tallies.{Puts};
+ghost use Rattle.pc_io.specs.Tallies.{Puts};
 ghost use Rattle.pc_log.specs.Orders.{no_token};
 ghost use Rattle.pc_log.specs.Reading.{all_at, log_at};
 ghost use Rattle.pc_log_lines.specs.Lines.{entry_lines, line_of, line_within, lines_behind, log_lines, log_status, rest_found, rest_of, status_of};
 ghost use Rattle.pc_log_lines.specs.Runs.{IsCutOff, PutsAll};
 
 use crate::lines::{put_entry_line, put_fault_line};
+use pc_io::{Format, Tally};
 use pc_log::{LastToken, read_entry, read_header};
-use pc_types::{Entry, Format, Refusal, Tally};
+use pc_types::{Entry, Refusal};
 use std::alloc::Global;
 use std::io::Write;
 

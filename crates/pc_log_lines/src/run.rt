@@ -1,15 +1,16 @@
 //! The lines of a log, from its reader to the status.
 ghost use Rattle.std.specs.Prelude.{◌≡◌, ◌≢◌, ◌⊎◌, ℕ, List, IfOk, IfErr, IsOk, MatchOption, OnOk};
 ghost use Rattle.pc_types.specs.declared.refusal.Refusal.{Refusal};
-ghost use Rattle.pc_types.specs.Tallies.{failures_of};
+ghost use Rattle.pc_io.specs.Tallies.{failures_of};
 ghost use Rattle.pc_texts.specs.Files.{HoldsBytes, IsUnread};
 ghost use Rattle.pc_texts.specs.declared.files.Unread.{Unread};
 ghost use Rattle.pc_log_lines.specs.declared.run.LostLog.{LostLog};
 ghost use Rattle.pc_log_lines.specs.Runs.{IsLogLost, IsLostTold, PrintsLines};
 
 use crate::reading::{EntryRange, put_log};
+use pc_io::Tally;
 use pc_texts::{Unread, end_output, read_opened, report};
-use pc_types::{Refusal, Tally};
+use pc_types::Refusal;
 use std::alloc::Global;
 use std::io::{Read, Write};
 

@@ -1,7 +1,7 @@
 -- The states of inputs after a draw, and which points they keep to.
 use Rattle.std.proofs.Common.{◌≡◌, ◌≢◌, ℕ, suc, ◌++◌, option_to_list, Bool, IsTrue, true, false, nat_eq, arith, ◌<◌, ◌⊎◌, List, Option, Some, None, Result, Ok, Err, length, set, map, get_or, All, IfOk, inl, inr, refl, sym, ap, ◌∙◌, subst, IsErr, IsErrAnd}
 use Rattle.std.proofs.lemmas.List.{get_or-map, get_or-set_same, get_or-set_other, length-map, map-set, set-get_or}
-use Rattle.pc_types.specs.Counted.{HasRisen}
+use Rattle.pc_io.specs.Counted.{HasRisen}
 use Rattle.pc_types.specs.declared.Refusal.{Refusal}
 use Rattle.pc_types.specs.declared.Refusal.TheVariants.{Device}
 use Rattle.std.proofs.lemmas.List.Elements.{All-get_or, All-set}

@@ -1,6 +1,6 @@
 -- The future of a stream of entries.
 use Rattle.std.specs.Prelude.{◌≡◌, ◌≢◌, ◌⊎◌, ℕ, Bool, IsTrue, List, [], ◌∷◌, Option, Some, None, Result, Ok, Err, ⊤}
-use Rattle.pc_types.specs.Counted.{HasRisen}
+use Rattle.pc_io.specs.Counted.{HasRisen}
 use Rattle.pc_types.specs.declared.Refusal.{Refusal}
 use Rattle.pc_types.specs.declared.Refusal.TheVariants.{OutOfMemory, Device}
 use Rattle.pc_types.specs.declared.Triple.{Triple}

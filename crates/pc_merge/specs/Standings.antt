@@ -1,7 +1,7 @@
 -- The states of a merge's inputs, and which points they keep to.
 use Rattle.std.specs.Prelude.{◌≡◌, ◌≢◌, ◌<◌, ◌⊎◌, ℕ, Bool, List, Option, Some, None, Result, Ok, Err, length, map, slice_index_or, ⊤}
 use Rattle.std.specs.List.{All}
-use Rattle.pc_types.specs.Counted.{HasRisen}
+use Rattle.pc_io.specs.Counted.{HasRisen}
 use Rattle.pc_types.specs.declared.Refusal.{Refusal}
 use Rattle.pc_types.specs.declared.Refusal.TheVariants.{Device}
 use Rattle.pc_types.specs.declared.Triple.{Triple}

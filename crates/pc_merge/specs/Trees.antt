@@ -1,7 +1,7 @@
 -- The tree over places: which place each node has, and the numbers that represent keys.
 use Rattle.std.specs.Prelude.{◌≡◌, ℕ, zero, suc, ◌+◌, ◌*◌, ◌/◌, ◌^◌, ◌<◌, ◌≤◌, List, Option, Some, None, length, slice_index}
 use Rattle.pc_types.specs.declared.Triple.{Triple}
-use Rattle.pc_types.specs.FieldForms.{IsBytes}
+use Rattle.pc_types.specs.Bytes.{IsBytes}
 use Rattle.pc_types.specs.Heads.{head}
 use Rattle.pc_merge.specs.declared.limits.TheConstants.{MOST_INPUTS}
 use Rattle.pc_merge.specs.Tournaments.{at, IsNoLater}

@@ -16,8 +16,9 @@ ghost use Rattle.pc_opening.specs.Openings.{CountsWith, IsCutOff, KeepsBefore};
 use pc_bases::Base;
 use pc_engine::World;
 use pc_generations::{Generations, begin_generation, remove_older};
+use pc_io::Tally;
 use pc_log::encode_header;
-use pc_types::{MOST_FILE_ENTRIES, Refusal, Tally};
+use pc_types::{MOST_FILE_ENTRIES, Refusal};
 use std::alloc::Global;
 use std::hash::RandomState;
 

@@ -1,11 +1,12 @@
 //! The report of a run, and its text.
 ghost use Rattle.std.specs.Prelude.{◌≡◌};
-ghost use Rattle.pc_types.specs.Tallies.{Puts};
+ghost use Rattle.pc_io.specs.Tallies.{Puts};
 ghost use Rattle.pc_outcomes.specs.Outcomes.{number_line, collapsed_lines, file_lines, left_text, counts_text, outcome_text, printed_text, status_of};
 
 use itoa::Buffer;
+use pc_io::Tally;
 use pc_texts::{put_check, put_collapsed};
-use pc_types::{Items, Point, Refusal, Tally};
+use pc_types::{Items, Point, Refusal};
 use std::io::Write;
 
 /// The report of a run.

@@ -4,12 +4,12 @@ use Rattle.std.specs.Prelude.{IfOk, IfErr, OnOk}
 use Rattle.std.specs.List.{flat_map}
 use Rattle.std.specs.Io.KnownBytes.{Appends, Keeps}
 use Rattle.std.proofs.lemmas.List.{take-append-le}
-use Rattle.pc_types.specs.Counted.{AppendsBeginning, HasRisen}
-use Rattle.pc_types.specs.Tallies.{Puts, failures_of, inner_of}
+use Rattle.pc_io.specs.Counted.{AppendsBeginning, HasRisen}
+use Rattle.pc_io.specs.Tallies.{Puts, failures_of, inner_of}
 use Rattle.pc_types.specs.declared.refusal.Refusal.{Refusal}
 use Rattle.pc_types.specs.declared.refusal.Refusal.TheVariants.{Device, OutOfMemory}
-use Rattle.pc_types.specs.declared.tally.Tally.{Tally}
-use Rattle.pc_types.proofs.KnownBytesLaws.{begins_after, part_begins}
+use Rattle.pc_io.specs.declared.tally.Tally.{Tally}
+use Rattle.pc_io.proofs.KnownBytesLaws.{begins_after, part_begins}
 use Rattle.pc_model.specs.Database.{Database, KeysRise, database_of}
 use Rattle.pc_model.proofs.PairMapLaws.{entries_of}
 use Rattle.pc_texts.specs.Outputs.{IsUnprinted}

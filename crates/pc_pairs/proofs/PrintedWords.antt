@@ -9,7 +9,7 @@ use Rattle.std.proofs.lemmas.Bool.Decides.{nat_tests}
 use Rattle.std.proofs.lemmas.Str.Parse.{digit_from_value}
 use Rattle.std.proofs.lemmas.Fmt.{decimal_is_IsNumeral, first_decimal, length-decimal-le}
 use Rattle.std.proofs.lemmas.List.Folds.{list_all-append}
-use Rattle.pc_types.specs.FieldForms.{IsBytes}
+use Rattle.pc_types.specs.Bytes.{IsBytes}
 use Rattle.pc_types.specs.Keys.{key_of, space_of, own_bytes}
 use Rattle.pc_lines.specs.Words.{escaped, hex_byte, hex_value, is_digit, is_numeral, is_plain, key_at_colon, key_behind, key_in, key_text_of, number_of, space_in, space_within, text_of, unescaped, with_byte, with_escape, with_plain}
 use Rattle.pc_texts.specs.Texts.{printed, printed_byte, printed_key, printed_space}

@@ -2,12 +2,12 @@
 use Rattle.std.specs.Prelude.{◌≡◌, ◌⊎◌, ◌==◌, ◌&&◌, ◌++◌, ℕ, Bool, true, false, is_ok, List, [], ◌∷◌, Option, Some, None, Result, Ok, Err, filter}
 use Rattle.std.specs.List.{flat_map, starts_with}
 use Rattle.std.specs.Io.KnownBytes.{Appends}
-use Rattle.pc_types.specs.Counted.{AppendsBeginning, HasRisen}
+use Rattle.pc_io.specs.Counted.{AppendsBeginning, HasRisen}
 use Rattle.pc_types.specs.Keys.{space_of, own_bytes}
-use Rattle.pc_types.specs.Tallies.{failures_of, inner_of}
+use Rattle.pc_io.specs.Tallies.{failures_of, inner_of}
 use Rattle.pc_types.specs.declared.refusal.Refusal.{Refusal}
 use Rattle.pc_types.specs.declared.refusal.Refusal.TheVariants.{Device, OutOfMemory}
-use Rattle.pc_types.specs.declared.tally.Tally.{Tally}
+use Rattle.pc_io.specs.declared.tally.Tally.{Tally}
 use Rattle.pc_model.specs.Database.{Database}
 use Rattle.pc_recover.specs.Recovery.{Recovery, recovery}
 use Rattle.pc_restore.specs.Bases.{IsBaseUnmade, TellsDamage}

@@ -1,7 +1,7 @@
 -- The database that lines of pairs give.
 use Rattle.std.specs.Prelude.{◌≡◌, ℕ, ◌+◌, ◌<◌, ◌==◌, List, [], ◌∷◌, Option, Some, None, Result, Ok, Err, if◌then◌else◌, is_some, take, drop, codes, ⊤}
 use Rattle.std.specs.List.{position}
-use Rattle.pc_types.specs.FieldForms.{IsBytes}
+use Rattle.pc_types.specs.Bytes.{IsBytes}
 use Rattle.pc_types.specs.declared.limits.TheConstants.{MOST_FILE_ENTRIES}
 use Rattle.pc_bases.specs.Lawful.{IsPair}
 use Rattle.pc_model.specs.Files.{BaseFile}

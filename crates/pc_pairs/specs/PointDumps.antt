@@ -1,10 +1,10 @@
 -- The lines of the pairs of a point's state, and those of what a choice has as its point.
 use Rattle.std.specs.Prelude.{◌≡◌, ◌⊎◌, ℕ, Bool, List, Option, Some, None, Ok}
 use Rattle.std.specs.Io.KnownBytes.{Appends}
-use Rattle.pc_types.specs.Counted.{HasRisen}
-use Rattle.pc_types.specs.Tallies.{failures_of, inner_of}
+use Rattle.pc_io.specs.Counted.{HasRisen}
+use Rattle.pc_io.specs.Tallies.{failures_of, inner_of}
 use Rattle.pc_types.specs.declared.refusal.Refusal.TheVariants.{OutOfMemory}
-use Rattle.pc_types.specs.declared.tally.Tally.{Tally}
+use Rattle.pc_io.specs.declared.tally.Tally.{Tally}
 use Rattle.pc_model.specs.Database.{Database}
 use Rattle.pc_restore.specs.Recoveries.{AreAllOpened, HoldsAll}
 use Rattle.pc_restore.specs.declared.recovery.Folder.{Folder}

@@ -1,6 +1,6 @@
 //! The pairs of a folder are written, a line for each.
 ghost use Rattle.std.specs.Prelude.{◌≡◌, ◌≢◌, None, Some, IfErr, IfSome, IsSome, OnOk};
-ghost use Rattle.pc_types.specs.Tallies.{failures_of};
+ghost use Rattle.pc_io.specs.Tallies.{failures_of};
 ghost use Rattle.pc_types.specs.declared.refusal.Refusal.{Refusal};
 ghost use Rattle.pc_model.specs.Database.{KeysRise, database_of};
 ghost use Rattle.pc_restore.specs.declared.recovery.Lost.{Lost};
@@ -10,10 +10,11 @@ ghost use Rattle.pc_pairs.specs.PointDumps.{DumpsAsChosen, DumpsPoint, IsPointUn
 use crate::choice::Choice;
 use crate::form::Form;
 use crate::json::put_json;
+use pc_io::Tally;
 use pc_points::read_point;
 use pc_restore::{Folder, Lost, recover_base};
 use pc_texts::{end_output, put_pairs};
-use pc_types::{Key, Point, Refusal, Tally, Value};
+use pc_types::{Key, Point, Refusal, Value};
 use std::alloc::Global;
 use std::io::{Read, Write};
 

@@ -7,9 +7,10 @@ ghost use Rattle.pc_types.specs.Keys.{key_of};
 
 use crate::form::Form;
 use crate::reading::{Fault, PairLine, pair_of};
+use pc_io::Tally;
 use pc_json::{JsonPair, json_line, read_json};
 use pc_lines::KeyText;
-use pc_types::{Key, Refusal, Tally, Value};
+use pc_types::{Key, Refusal, Value};
 use std::alloc::Global;
 use std::borrow::CowSlice;
 use std::io::Write;

@@ -4,11 +4,11 @@ use Rattle.std.proofs.lemmas.List.{length-append}
 use Rattle.std.specs.Prelude.{◌==◌}
 use Rattle.std.specs.Int.{w32}
 use Rattle.pc_types.specs.declared.Refusal.TheVariants.{Short, BadLength}
-use Rattle.pc_types.proofs.CutFieldLaws.{IsCut, ReadsAlike, Never, short_is_cut, cut_then, cut_where, cut_end, cut_is_short, number_cut}
-use Rattle.pc_types.proofs.FieldLaws.{bind_ok}
+use Rattle.pc_io.proofs.CutFieldLaws.{IsCut, ReadsAlike, Never, short_is_cut, cut_then, cut_where, cut_end, cut_is_short, number_cut}
+use Rattle.pc_io.proofs.FieldLaws.{bind_ok}
 use Rattle.pc_model.specs.Files.{File}
 use Rattle.pc_types.specs.declared.Triple.{Triple}
-use Rattle.pc_types.specs.declared.formats.Format.{Format}
+use Rattle.pc_io.specs.declared.formats.Format.{Format}
 use Rattle.pc_part.specs.declared.ranges.Range.{Range}
 use Rattle.pc_part.specs.Lawful.{IsPartFile, HasPart}
 use Rattle.pc_part.specs.Reading.{next_key_at, next_entry_at, entries_from, entries_at, header_at, PartFields, part_fields_at, part_of_fields, part_at}

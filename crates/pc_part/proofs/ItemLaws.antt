@@ -4,10 +4,11 @@ use Rattle.std.specs.List.{flat_map}
 use Rattle.std.proofs.lemmas.List.{append-nil}
 use Rattle.std.proofs.lemmas.List.Concat.{flat_map-cons}
 use Rattle.pc_types.specs.declared.Refusal.{Refusal}
-use Rattle.pc_types.specs.Fields.{◌>>=◌}
-use Rattle.pc_types.specs.FieldForms.{IsBytes, TakesText}
-use Rattle.pc_types.proofs.CutFieldLaws.{IsCut, ReadsAlike, cut_then}
-use Rattle.pc_types.proofs.FieldLaws.{bind_ok, ok_is, TakesText-then}
+use Rattle.pc_io.specs.Fields.{◌>>=◌}
+use Rattle.pc_types.specs.Bytes.{IsBytes}
+use Rattle.pc_io.specs.FieldForms.{TakesText}
+use Rattle.pc_io.proofs.CutFieldLaws.{IsCut, ReadsAlike, cut_then}
+use Rattle.pc_io.proofs.FieldLaws.{bind_ok, ok_is, TakesText-then}
 use Rattle.pc_part.specs.Reading.{items_at}
 
 module _ {X : Type 0} where

@@ -7,11 +7,11 @@ use Rattle.std.proofs.lemmas.List.{take-append-le, take-append-drop, drop-append
 use Rattle.std.proofs.lemmas.Bool.{ltb-false, le-ltb}
 use Rattle.pc_types.specs.declared.Refusal.{Refusal}
 use Rattle.pc_types.specs.declared.Refusal.TheVariants.{Short, BadLength, BadRanges, KeyOrder, NotCovered}
-use Rattle.pc_types.specs.declared.formats.Format.{Format}
-use Rattle.pc_types.specs.declared.formats.Format.TheVariants.{First, Second}
-use Rattle.pc_types.specs.Fields.{◌>>=◌, where_true, bytes_at, number_at, format_told, magic_at, space_bytes, key_behind, sized_key_at, value_at, content_at}
-use Rattle.pc_types.proofs.CutFieldLaws.{IsCut, ReadsAlike}
-use Rattle.pc_types.proofs.FieldLaws.{bind_ok, guard_ok, ok_is}
+use Rattle.pc_io.specs.declared.formats.Format.{Format}
+use Rattle.pc_io.specs.declared.formats.Format.TheVariants.{First, Second}
+use Rattle.pc_io.specs.Fields.{◌>>=◌, where_true, bytes_at, number_at, format_told, magic_at, space_bytes, key_behind, sized_key_at, value_at, content_at}
+use Rattle.pc_io.proofs.CutFieldLaws.{IsCut, ReadsAlike}
+use Rattle.pc_io.proofs.FieldLaws.{bind_ok, guard_ok, ok_is}
 use Rattle.pc_model.specs.Database.{key_cmp}
 use Rattle.pc_model.specs.Points.{AtPoint}
 use Rattle.pc_types.specs.declared.Triple.{Triple}

@@ -1,10 +1,11 @@
 -- The magics of parts tell the format.
 use Rattle.std.proofs.Common.{◌≡◌, ℕ, List, ◌++◌, Ok, refl, subst}
-use Rattle.pc_types.specs.declared.formats.Format.{Format}
-use Rattle.pc_types.specs.declared.formats.Format.TheVariants.{First, Second}
-use Rattle.pc_types.specs.Fields.{magic_at}
-use Rattle.pc_types.specs.FieldForms.{IsBytes, TakesText}
-use Rattle.pc_types.proofs.FieldLaws.{told, magic_takes, magic_again}
+use Rattle.pc_io.specs.declared.formats.Format.{Format}
+use Rattle.pc_io.specs.declared.formats.Format.TheVariants.{First, Second}
+use Rattle.pc_io.specs.Fields.{magic_at}
+use Rattle.pc_types.specs.Bytes.{IsBytes}
+use Rattle.pc_io.specs.FieldForms.{TakesText}
+use Rattle.pc_io.proofs.FieldLaws.{told, magic_takes, magic_again}
 use Rattle.pc_part.specs.Texts.{part_magic}
 
 told_of_parts : (format : Format) → told format (part_magic First) (part_magic Second) ≡ part_magic format

@@ -4,10 +4,11 @@ use Rattle.std.specs.Ordering.{is_lt}
 use Rattle.std.specs.Int.{w16, to_be_bytes}
 use Rattle.pc_types.specs.declared.Refusal.TheVariants.{Short, KeyOrder}
 use Rattle.pc_types.specs.Limits.{IsKey}
-use Rattle.pc_types.specs.declared.formats.Format.{Format}
-use Rattle.pc_types.specs.Fields.{where_true, sized_key_at, key_text_in, sized_key_text, HasKey}
-use Rattle.pc_types.proofs.FieldLaws.{bind_ok, where_ok, TakesText-then, sized_key_takes, sized_key_again}
-use Rattle.pc_types.specs.FieldForms.{IsBytes, TakesText}
+use Rattle.pc_io.specs.declared.formats.Format.{Format}
+use Rattle.pc_io.specs.Fields.{where_true, sized_key_at, key_text_in, sized_key_text, HasKey}
+use Rattle.pc_io.proofs.FieldLaws.{bind_ok, where_ok, TakesText-then, sized_key_takes, sized_key_again}
+use Rattle.pc_types.specs.Bytes.{IsBytes}
+use Rattle.pc_io.specs.FieldForms.{TakesText}
 use Rattle.pc_model.specs.Database.{key_cmp}
 use Rattle.pc_part.specs.Reading.{next_key_at}
 

@@ -6,10 +6,10 @@ use Rattle.std.proofs.lemmas.List.{length-map}
 use Rattle.std.proofs.lemmas.List.Elements.{All-from_recursion}
 use Rattle.pc_types.specs.declared.Refusal.{Refusal}
 use Rattle.pc_types.specs.Limits.{IsKey}
-use Rattle.pc_types.specs.declared.formats.Format.{Format}
-use Rattle.pc_types.specs.Fields.{Gives, HasKey}
-use Rattle.pc_types.proofs.FieldLaws.{bind_ok, ok_is}
-use Rattle.pc_types.specs.FieldForms.{IsBytes}
+use Rattle.pc_io.specs.declared.formats.Format.{Format}
+use Rattle.pc_io.specs.Fields.{Gives, HasKey}
+use Rattle.pc_io.proofs.FieldLaws.{bind_ok, ok_is}
+use Rattle.pc_types.specs.Bytes.{IsBytes}
 use Rattle.pc_model.specs.Maps as map_of
 use Rattle.pc_model.specs.Sets as set
 use Rattle.pc_model.specs.Database.{KeysRise}

@@ -8,8 +8,8 @@ use Rattle.pc_model.specs.Files.{File}
 use Rattle.pc_model.specs.TripleLists.{entry_of, entries_of}
 use Rattle.pc_model.specs.Ranges.{ranges_of}
 use Rattle.pc_types.specs.declared.Triple.{Triple}
-use Rattle.pc_types.specs.declared.formats.Format.{Format}
-use Rattle.pc_types.specs.declared.formats.Format.TheVariants.{Second}
+use Rattle.pc_io.specs.declared.formats.Format.{Format}
+use Rattle.pc_io.specs.declared.formats.Format.TheVariants.{Second}
 use Rattle.pc_part.specs.declared.ranges.Range.{Range}
 use Rattle.pc_part.specs.Parts.{RangesFrom, bounds, bounds_of}
 use Rattle.pc_part.specs.Texts.{head_text, head_text_in, range_text, bounds_text, entry_text_in, triple_text, triple_text_in, end_text, part_text, part_text_in}

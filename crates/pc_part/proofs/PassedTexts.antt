@@ -2,10 +2,10 @@
 use Rattle.std.proofs.Common.{◌≡◌, ℕ, List, ◌∷◌, ◌++◌, Option, Ok, Err, sym, subst}
 use Rattle.std.proofs.lemmas.List.Concat.{flat_map-append}
 use Rattle.std.specs.List.{flat_map}
-use Rattle.pc_types.specs.Tallies.{Puts}
-use Rattle.pc_types.specs.declared.tally.Tally.{Tally}
+use Rattle.pc_io.specs.Tallies.{Puts}
+use Rattle.pc_io.specs.declared.tally.Tally.{Tally}
 use Rattle.pc_types.specs.declared.refusal.Refusal.{Refusal}
-use Rattle.pc_types.proofs.PutsLaws.{puts_then, puts_stop}
+use Rattle.pc_io.proofs.PutsLaws.{puts_then, puts_stop}
 
 module _ {T : Type 0} (contents : T → Option (List ℕ)) {X : Type 0} (f : X → List ℕ) (a b c : Tally T) (done : List X) (x : X) (so_far : Puts contents a b (Ok tt) (flat_map f done)) where
   text_of_more : (rest : List X) → flat_map f done ++ (f x ++ flat_map f rest) ≡ flat_map f (done ++ x ∷ rest)

@@ -10,10 +10,11 @@ use Rattle.std.proofs.lemmas.List.{length-append}
 use Rattle.std.proofs.lemmas.List.Concat.{flat_map-cons}
 use Rattle.pc_types.specs.declared.Refusal.TheVariants.{Short, NotCovered}
 use Rattle.pc_types.specs.Limits.{IsValue}
-use Rattle.pc_types.specs.declared.formats.Format.{Format}
-use Rattle.pc_types.specs.Fields.{◌>>=◌, where_true, number_at, content_at, key_text_in, sized_key_text, HasKey, content_text}
-use Rattle.pc_types.proofs.FieldLaws.{bind_ok, where_ok, ok_is, TakesText-then, wide16, wide32, number_takes, number_again, content_takes, content_again}
-use Rattle.pc_types.specs.FieldForms.{IsBytes, TakesText}
+use Rattle.pc_io.specs.declared.formats.Format.{Format}
+use Rattle.pc_io.specs.Fields.{◌>>=◌, where_true, number_at, content_at, key_text_in, sized_key_text, HasKey, content_text}
+use Rattle.pc_io.proofs.FieldLaws.{bind_ok, where_ok, ok_is, TakesText-then, wide16, wide32, number_takes, number_again, content_takes, content_again}
+use Rattle.pc_types.specs.Bytes.{IsBytes}
+use Rattle.pc_io.specs.FieldForms.{TakesText}
 use Rattle.pc_model.specs.Database.{key_cmp}
 use Rattle.pc_model.specs.Points.{AtPoint}
 use Rattle.pc_types.specs.declared.Triple.{Triple}

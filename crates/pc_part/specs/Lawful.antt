@@ -3,8 +3,8 @@
 use Rattle.std.specs.Prelude.{◌≡◌, ℕ, ◌≤◌, ◌<◌, ◌^◌, List, IfSome, IsTrue}
 use Rattle.std.specs.List.{All}
 use Rattle.pc_types.specs.Limits.{IsKey, IsValue}
-use Rattle.pc_types.specs.Fields.{HasKey}
-use Rattle.pc_types.specs.declared.formats.Format.{Format}
+use Rattle.pc_io.specs.Fields.{HasKey}
+use Rattle.pc_io.specs.declared.formats.Format.{Format}
 use Rattle.pc_model.specs.Sets as set
 use Rattle.pc_model.specs.Sets.{Set, number_order}
 use Rattle.pc_model.specs.Points.{AtPoint}

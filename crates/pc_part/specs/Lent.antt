@@ -1,9 +1,9 @@
 -- Entries whose fields lie in their text.
 use Rattle.std.specs.Prelude.{◌≡◌, ℕ, ◌+◌, ◌==◌, ◌≤◌, if◌then◌else◌, List, length, take, drop, slice_index_or, Option, Some, None}
-use Rattle.pc_types.specs.FieldForms.{IsBytes}
+use Rattle.pc_types.specs.Bytes.{IsBytes}
 use Rattle.pc_types.specs.Heads.{head}
 use Rattle.pc_types.specs.declared.Triple.{Triple}
-use Rattle.pc_types.specs.declared.formats.Format.{Format}
+use Rattle.pc_io.specs.declared.formats.Format.{Format}
 use Rattle.pc_part.specs.Lawful.{HasLimits}
 use Rattle.pc_part.specs.Texts.{triple_text, triple_text_in}
 

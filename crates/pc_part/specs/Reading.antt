@@ -5,9 +5,9 @@ use Rattle.std.specs.Int.{w16, w32, w64}
 use Rattle.std.specs.Ordering.{is_lt}
 use Rattle.pc_types.specs.declared.Refusal.{Refusal}
 use Rattle.pc_types.specs.declared.Refusal.TheVariants.{Short, BadRanges, KeyOrder, BadLength, Trailing, NotCovered}
-use Rattle.pc_types.specs.declared.formats.Format.{Format}
-use Rattle.pc_types.specs.declared.formats.Format.TheVariants.{First, Second}
-use Rattle.pc_types.specs.Fields.{◌>>=◌, where_true, number_at, magic_at, sized_key_at, content_at}
+use Rattle.pc_io.specs.declared.formats.Format.{Format}
+use Rattle.pc_io.specs.declared.formats.Format.TheVariants.{First, Second}
+use Rattle.pc_io.specs.Fields.{◌>>=◌, where_true, number_at, magic_at, sized_key_at, content_at}
 use Rattle.pc_model.specs.Database.{key_cmp}
 use Rattle.pc_model.specs.Points.{AtPoint}
 use Rattle.pc_model.specs.Files.{File}

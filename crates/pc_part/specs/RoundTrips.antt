@@ -3,7 +3,7 @@ use Rattle.std.specs.Prelude.{◌≡◌, ◌⊎◌, ℕ, ◌<◌, List, ◌++◌
 use Rattle.std.specs.List.{All}
 use Rattle.pc_types.specs.declared.Refusal.{Refusal}
 use Rattle.pc_types.specs.declared.Refusal.TheVariants.{Short}
-use Rattle.pc_types.specs.declared.formats.Format.{Format}
+use Rattle.pc_io.specs.declared.formats.Format.{Format}
 use Rattle.pc_model.specs.Files.{File}
 use Rattle.pc_part.specs.declared.ranges.Range.{Range}
 use Rattle.pc_part.specs.Lawful.{IsPartFile, HasPart, IsPartText}

@@ -2,7 +2,7 @@
 ghost use Rattle.std.specs.Prelude.{◌≡◌, ◌<◌, ◌≤◌, [], length, IfOk, Ok};
 ghost use Rattle.std.specs.List.Sorted.{IsPartitionPoint};
 ghost use Rattle.std.specs.Ordering.{is_lt};
-ghost use Rattle.pc_types.specs.Fields.{Reads, Gives};
+ghost use Rattle.pc_io.specs.Fields.{Reads, Gives};
 ghost use Rattle.pc_model.specs.Database.{key_cmp};
 ghost use Rattle.pc_model.specs.Files.{File};
 ghost use Rattle.pc_part.specs.Lawful.{IsPartFile, IsPartText};
@@ -11,10 +11,8 @@ ghost use Rattle.pc_part.specs.Reading.{range_at, ranges_at, next_key_at, point_
 
 use crate::part::Part;
 use crate::ranges::Range;
-use pc_types::{
-    Format, Key, MOST_POINTS, Point, Refusal, Triple, Value, read_content, read_magic,
-    read_sized_key, read_u16, read_u32, read_u64,
-};
+use pc_io::{Format, read_content, read_magic, read_sized_key, read_u16, read_u32, read_u64};
+use pc_types::{Key, MOST_POINTS, Point, Refusal, Triple, Value};
 use std::alloc::Global;
 
 const FIRST: [u8; 8] = *b"PCALCP01";

@@ -1,15 +1,16 @@
 //! The text of a part file goes out.
 ghost use Rattle.std.specs.Prelude.{OnOk};
 ghost use Rattle.std.specs.List.{All, flat_map};
-ghost use Rattle.pc_types.specs.Tallies.{Puts};
+ghost use Rattle.pc_io.specs.Tallies.{Puts};
 ghost use Rattle.pc_part.specs.Lawful.{HasLimits, IsPartFile};
 ghost use Rattle.pc_part.specs.Texts.{head_text, bounds_text, triple_text, end_text, part_text};
 
 use crate::part::Part;
 use crate::ranges::Range;
 use byteorder::{BigEndian, ByteOrder};
+use pc_io::Tally;
 use pc_taken::{LentTriple, Pass};
-use pc_types::{Refusal, SPACE_BYTES, Tally};
+use pc_types::{Refusal, SPACE_BYTES};
 use std::io::Write;
 
 const MAGIC: [u8; 8] = *b"PCALCP02";

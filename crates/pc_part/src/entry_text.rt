@@ -1,6 +1,6 @@
 //! An entry of a part that is kept as its text.
 ghost use Rattle.std.specs.Prelude.{◌≡◌, ◌≤◌, ◌+◌, ◌∷◌, ◌++◌, length, take, drop, IfOk, OnOk, option_map};
-ghost use Rattle.pc_types.specs.FieldForms.{IsBytes};
+ghost use Rattle.pc_types.specs.Bytes.{IsBytes};
 ghost use Rattle.pc_types.specs.Heads.{head};
 ghost use Rattle.pc_types.specs.Limits.{IsKey};
 ghost use Rattle.pc_part.specs.Lawful.{HasLimits};
@@ -9,8 +9,9 @@ ghost use Rattle.pc_part.specs.Texts.{triple_text};
 
 use crate::encoding::put_entry;
 use crate::lent_entry::LentEntry;
+use pc_io::{Format, Tally};
 use pc_taken::LentTriple;
-use pc_types::{Format, Key, Point, SPACE_BYTES, Tally, Triple, Value, head_of, pairs_are_keys};
+use pc_types::{Key, Point, SPACE_BYTES, Triple, Value, head_of, pairs_are_keys};
 use std::alloc::{AllocError, Global};
 use std::marker::Model;
 

@@ -2,7 +2,7 @@
 ghost use Rattle.std.specs.Prelude.{◌≡◌, ◌∷◌, zero, IfOk, option_map};
 ghost use Rattle.std.specs.Ordering.{is_lt, nat_cmp};
 ghost use Rattle.std.specs.Cmp.Lexicographic.{slice_cmp};
-ghost use Rattle.pc_types.specs.Fields.{Reads, content_at, key_behind, value_at};
+ghost use Rattle.pc_io.specs.Fields.{Reads, content_at, key_behind, value_at};
 ghost use Rattle.pc_types.specs.Limits.{IsKey};
 ghost use Rattle.pc_types.specs.declared.refusal.Refusal.TheVariants.{Short};
 ghost use Rattle.pc_model.specs.Database.{key_cmp};
@@ -13,9 +13,8 @@ ghost use Rattle.pc_part.specs.Reading.{entry_at, next_entry_at, next_key_at};
 use crate::decoding::read_point;
 use crate::heads::head_in_space_0;
 use crate::ranges::Range;
-use pc_types::{
-    Format, MOST_VALUE_BYTES, Refusal, head_of, read_bytes, read_key_text, read_u16, read_u32,
-};
+use pc_io::{Format, read_bytes, read_key_text, read_u16, read_u32};
+use pc_types::{MOST_VALUE_BYTES, Refusal, head_of};
 use std::marker::Model;
 
 /// An entry of a part, borrowed from its text. A contract sees the entry.
@@ -32,7 +31,7 @@ pub struct LentEntry<'a> {
 
 impl<'a> Model for LentEntry<'a> {
     ghost use Rattle.std.specs.Prelude.{option_map};
-    ghost use Rattle.pc_types.specs.Fields.{key_behind};
+    ghost use Rattle.pc_io.specs.Fields.{key_behind};
     ghost use Rattle.pc_types.specs.declared.Triple.{Triple};
     ghost use Rattle.pc_part.specs.Lent.{IsEntryIn};
 
@@ -163,7 +162,7 @@ fn lend_entry<'a>(
 }
 
 // The content of a key: a kind of 0 and nothing, or a kind of 1 and a value.
-#[tactic(auto, unfolding(pc_types::specs::Fields::content_at))]
+#[tactic(auto, unfolding(pc_io::specs::Fields::content_at))]
 #[inline(always)]
 fn lend_content(bytes: &[u8]) -> Result<(Option<&[u8]>, &[u8]), Refusal>
     ensures { Reads (λ x. (option_map (λ value. value.now) x.0, x.1.now)) result (content_at Short bytes.now) }
@@ -180,7 +179,7 @@ fn lend_content(bytes: &[u8]) -> Result<(Option<&[u8]>, &[u8]), Refusal>
 }
 
 // A value, its length before it.
-#[tactic(auto, unfolding(pc_types::specs::Fields::value_at))]
+#[tactic(auto, unfolding(pc_io::specs::Fields::value_at))]
 #[inline(always)]
 fn lend_value(bytes: &[u8]) -> Result<(&[u8], &[u8]), Refusal>
     ensures { Reads (λ x. (x.0.now, x.1.now)) result (value_at Short bytes.now) }

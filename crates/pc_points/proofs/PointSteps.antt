@@ -2,7 +2,7 @@
 use Rattle.std.proofs.Common.{◌≡◌, ℕ, true, false, cond, List, [], Option, Some, Result, Ok, Err, Bor, refl, sym, ap, ◌∙◌}
 use Rattle.std.specs.Prelude.{◌==◌, map}
 use Rattle.pc_types.specs.declared.refusal.Refusal.{Refusal}
-use Rattle.pc_types.specs.Fields.{◌>>=◌}
+use Rattle.pc_io.specs.Fields.{◌>>=◌}
 use Rattle.pc_model.specs.Database.{Database}
 use Rattle.pc_model.specs.Files.{BaseFile}
 use Rattle.pc_bases.specs.Reading.{base_at}

@@ -8,7 +8,7 @@ use Rattle.pc_types.specs.declared.limits.TheConstants.{MOST_POINTS}
 use Rattle.pc_types.specs.declared.refusal.Refusal.{Refusal}
 use Rattle.pc_types.specs.declared.refusal.Refusal.TheVariants.{OtherRun}
 use Rattle.pc_types.specs.declared.Entry.{Entry}
-use Rattle.pc_types.specs.Fields.{◌>>=◌, where_true}
+use Rattle.pc_io.specs.Fields.{◌>>=◌, where_true}
 use Rattle.pc_model.specs.Database.{Database}
 use Rattle.pc_model.specs.Files.{BaseFile, numbers_to}
 use Rattle.pc_model.specs.Log.{after, front, has_token}

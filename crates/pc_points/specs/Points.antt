@@ -3,7 +3,7 @@ use Rattle.std.specs.Prelude.{ℕ, ◌==◌, not, nat_lt, Bool, false, List, [],
 use Rattle.std.specs.Global.{Vec}
 use Rattle.pc_types.specs.declared.refusal.Refusal.{Refusal}
 use Rattle.pc_types.specs.declared.Entry.{Entry}
-use Rattle.pc_types.specs.Fields.{◌>>=◌}
+use Rattle.pc_io.specs.Fields.{◌>>=◌}
 use Rattle.pc_model.specs.Database.{Database, database_of}
 use Rattle.pc_model.specs.Files.{File}
 use Rattle.pc_model.specs.LaidFiles.{greatest}

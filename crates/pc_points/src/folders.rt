@@ -1,6 +1,6 @@
 //! The state of a point that a folder's files have, from their readers.
 ghost use Rattle.std.specs.Prelude.{IfOk, IfErr, IfSome, OnOk};
-ghost use Rattle.pc_types.specs.Fields.{Gives};
+ghost use Rattle.pc_io.specs.Fields.{Gives};
 ghost use Rattle.pc_model.specs.Database.{KeysRise};
 ghost use Rattle.pc_restore.specs.declared.recovery.Lost.{Lost};
 ghost use Rattle.pc_restore.specs.Recoveries.{AreAllOpened, bytes_of};

@@ -1,16 +1,17 @@
 //! What the log has up to a point's token, read and applied entry by entry.
 ghost use Rattle.std.specs.Prelude.{◌≡◌, ◌≢◌, [], false, IfOk, IfErr, MatchOption, Ok};
-ghost use Rattle.pc_types.specs.Fields.{Gives};
+ghost use Rattle.pc_io.specs.Fields.{Gives};
 ghost use Rattle.pc_model.specs.Log.{behind};
 ghost use Rattle.pc_log.specs.Orders.{no_token};
 ghost use Rattle.pc_log.specs.Reading.{all_at};
 ghost use Rattle.pc_recover.specs.Recovery.{entries_after};
 ghost use Rattle.pc_points.specs.Points.{log_state, state_before};
 
+use pc_io::Format;
 use pc_log::{LastToken, read_entry, read_header};
 use pc_recover::{is_token_of, with_entry};
 use pc_replay::Overlay;
-use pc_types::{Format, Point, Refusal};
+use pc_types::{Point, Refusal};
 use std::alloc::Global;
 
 // A log's text begins with a header of this length.

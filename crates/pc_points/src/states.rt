@@ -1,6 +1,6 @@
 //! The state of a point.
 ghost use Rattle.std.specs.Prelude.{map, IfOk, IfSome};
-ghost use Rattle.pc_types.specs.Fields.{Gives};
+ghost use Rattle.pc_io.specs.Fields.{Gives};
 ghost use Rattle.pc_model.specs.Database.{KeysRise};
 ghost use Rattle.pc_points.specs.Points.{found_database, point_state};
 

@@ -4,9 +4,9 @@ use Rattle.std.specs.List.{flat_map}
 use Rattle.std.proofs.lemmas.List.{take_more, append-nil}
 use Rattle.std.proofs.lemmas.List.Concat.{flat_map-append}
 use Rattle.std.specs.Io.KnownBytes.{Appends}
-use Rattle.pc_types.specs.Tallies.{Puts}
-use Rattle.pc_types.specs.declared.tally.Tally.{Tally}
-use Rattle.pc_types.proofs.PutsLaws.{puts_then}
+use Rattle.pc_io.specs.Tallies.{Puts}
+use Rattle.pc_io.specs.declared.tally.Tally.{Tally}
+use Rattle.pc_io.proofs.PutsLaws.{puts_then}
 
 pub sent_more : {T X : Type 0} (contents : T → Option (List ℕ)) (f : X → List ℕ) (xs : List X) (i : ℕ) (d : X) (a b c : Tally T) → i < length xs
     → Appends (contents a.inner) (contents b.inner) (flat_map f (take i xs)) → b.failures ≡ a.failures

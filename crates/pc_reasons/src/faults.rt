@@ -1,9 +1,10 @@
 //! The fault of a line by itself, and its reason in words.
 ghost use Rattle.std.specs.Prelude.{◌≡◌, ◌++◌, codes};
-ghost use Rattle.pc_types.specs.Tallies.{Puts};
+ghost use Rattle.pc_io.specs.Tallies.{Puts};
 ghost use Rattle.pc_reasons.specs.Sentences.{place_name, kind_name, fault_sentence};
 
-use pc_types::{Refusal, Tally};
+use pc_io::Tally;
+use pc_types::Refusal;
 use std::io::Write;
 
 /// The place of a word in its line, after the first.

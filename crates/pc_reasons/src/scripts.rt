@@ -9,8 +9,9 @@ use crate::faults::{LineFault, WordKind};
 use crate::kinds::{no_word, one_word, three_words, two_words};
 use crate::line_lists::{lines_in, told_of};
 use crate::told_lines::{BadLine, put_bad_lines};
+use pc_io::Tally;
 use pc_lines::{first_words, is_comment};
-use pc_types::{Refusal, Tally};
+use pc_types::Refusal;
 use std::alloc::{AllocError, Global};
 use std::io::Write;
 

@@ -1,7 +1,8 @@
 //! Bad lines of scripts and workloads, and their reasons.
 use crate::{put_script_faults, put_workload_fault, workload_fault};
+use pc_io::Tally;
 use pc_jobs::{WorkloadReading, read_workload};
-use pc_types::{Refusal, Tally};
+use pc_types::Refusal;
 use std::alloc::Global;
 use std::test::Fail;
 

@@ -1,15 +1,16 @@
 //! The lines that report which lines of a script are bad, and why.
 ghost use Rattle.std.specs.Prelude.{◌<◌, ◌-◌, ◌++◌, length, take, codes, decimal};
 ghost use Rattle.std.specs.List.{flat_map};
-ghost use Rattle.pc_types.specs.Tallies.{Puts};
+ghost use Rattle.pc_io.specs.Tallies.{Puts};
 ghost use Rattle.pc_texts.specs.Texts.{printed_name};
 ghost use Rattle.pc_reasons.specs.Sentences.{fault_sentence};
 ghost use Rattle.pc_reasons.specs.Told.{place_text, bad_line_text, bad_lines_text, more_text};
 
 use crate::faults::LineFault;
 use itoa::Buffer;
+use pc_io::Tally;
 use pc_texts::put_name;
-use pc_types::{Refusal, Tally};
+use pc_types::Refusal;
 use std::io::Write;
 
 /// A bad line of a script.

@@ -1,7 +1,7 @@
 //! Why a line of a workload is bad, by itself or by its place.
 ghost use Rattle.std.specs.Prelude.{◌≡◌, ◌<◌, ◌++◌, length, codes, IfOk, map};
 ghost use Rattle.std.specs.List.{list_any};
-ghost use Rattle.pc_types.specs.Tallies.{Puts};
+ghost use Rattle.pc_io.specs.Tallies.{Puts};
 ghost use Rattle.pc_lines.specs.Lines.{lines_in};
 ghost use Rattle.pc_jobs.specs.declared.workloads.WorkloadReading.TheVariants.{BadLine};
 ghost use Rattle.pc_jobs.specs.Workloads.{reading_of, phrases_in};
@@ -13,8 +13,9 @@ use crate::faults::{LineFault, WordKind};
 use crate::kinds::{no_word, one_word, three_words, two_words};
 use crate::line_lists::{ends_with_cr, lines_in};
 use crate::told_lines::put_place;
+use pc_io::Tally;
 use pc_lines::{first_words, is_comment};
-use pc_types::{Refusal, Tally};
+use pc_types::Refusal;
 use std::alloc::{AllocError, Global};
 use std::io::Write;
 

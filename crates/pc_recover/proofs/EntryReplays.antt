@@ -4,9 +4,9 @@ use Rattle.std.specs.Prelude.{◌==◌}
 use Rattle.pc_types.specs.declared.refusal.Refusal.{Refusal}
 use Rattle.pc_types.specs.declared.refusal.Refusal.TheVariants.{OutOfMemory}
 use Rattle.pc_types.specs.declared.Entry.{Entry}
-use Rattle.pc_types.specs.declared.Format.{Format}
+use Rattle.pc_io.specs.declared.Format.{Format}
 use Rattle.pc_types.specs.declared.Entry.TheVariants.{Commit, Token}
-use Rattle.pc_types.specs.Fields.{Gives}
+use Rattle.pc_io.specs.Fields.{Gives}
 use Rattle.pc_model.specs.Database.{Database}
 use Rattle.pc_model.specs.Log.{after, is_token_of}
 use Rattle.pc_log.specs.declared.order.LastToken.{LastToken}

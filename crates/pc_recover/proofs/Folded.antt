@@ -4,7 +4,7 @@ use Rattle.std.specs.Prelude.{◌≢◌}
 use Rattle.std.specs.Result.{IsErr, IsErrAnd}
 use Rattle.pc_types.specs.declared.refusal.Refusal.{Refusal}
 use Rattle.pc_types.specs.declared.refusal.Refusal.TheVariants.{OutOfMemory}
-use Rattle.pc_types.specs.Fields.{◌>>=◌, Gives}
+use Rattle.pc_io.specs.Fields.{◌>>=◌, Gives}
 use Rattle.pc_model.specs.Files.{File, BaseFile}
 use Rattle.pc_recover.specs.Recovery.{folded, with_files}
 use Rattle.pc_recover.specs.Folding.{join_due, lay_due, joined_on}

@@ -6,7 +6,7 @@ use Rattle.std.proofs.lemmas.Bool.Decides.{nat_tests}
 use Rattle.std.proofs.lemmas.List.Elements.{Contains-append_right}
 use Rattle.pc_types.specs.declared.refusal.Refusal.{Refusal}
 use Rattle.pc_types.specs.declared.refusal.Refusal.TheVariants.{OtherRun, Conflict, Full}
-use Rattle.pc_types.specs.Fields.{◌>>=◌}
+use Rattle.pc_io.specs.Fields.{◌>>=◌}
 use Rattle.pc_model.specs.Maps.{len}
 use Rattle.pc_model.specs.Files.{File, joined_file, conflict}
 use Rattle.pc_part.specs.Joins.{JoinsAssociate, JoinsMakeNoConflict}

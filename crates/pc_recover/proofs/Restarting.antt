@@ -9,8 +9,8 @@ use Rattle.std.proofs.lemmas.List.Elements.{recursion_from_All}
 use Rattle.pc_types.specs.declared.refusal.Refusal.{Refusal}
 use Rattle.pc_types.specs.declared.refusal.Refusal.TheVariants.{OtherRun, Short}
 use Rattle.pc_types.specs.declared.Entry.{Entry}
-use Rattle.pc_types.specs.declared.Format.{Format}
-use Rattle.pc_types.specs.Fields.{◌>>=◌, where_true}
+use Rattle.pc_io.specs.declared.Format.{Format}
+use Rattle.pc_io.specs.Fields.{◌>>=◌, where_true}
 use Rattle.pc_model.specs.Database.{Database}
 use Rattle.pc_model.specs.Log.{after, has_token, state_at}
 use Rattle.pc_model.specs.Files.{File, BaseFile, numbers_to}

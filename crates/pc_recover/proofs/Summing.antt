@@ -4,7 +4,7 @@ use Rattle.std.specs.Prelude.{◌≢◌}
 use Rattle.std.specs.Result.{IsErr, IsErrAnd}
 use Rattle.pc_types.specs.declared.refusal.Refusal.{Refusal}
 use Rattle.pc_types.specs.declared.refusal.Refusal.TheVariants.{OutOfMemory}
-use Rattle.pc_types.specs.Fields.{◌>>=◌, Gives}
+use Rattle.pc_io.specs.Fields.{◌>>=◌, Gives}
 use Rattle.pc_model.specs.Database.{Database}
 use Rattle.pc_model.specs.Log.{after}
 use Rattle.pc_model.specs.Files.{File, BaseFile}

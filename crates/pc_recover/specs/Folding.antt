@@ -1,7 +1,7 @@
 -- Joining files in order, and applying one to a base.
 use Rattle.std.specs.Prelude.{ℕ, ◌≡◌, IsTrue, List, [], ◌∷◌, Option, Some, None, Result, Ok}
 use Rattle.pc_types.specs.declared.refusal.Refusal.{Refusal}
-use Rattle.pc_types.specs.Fields.{◌>>=◌}
+use Rattle.pc_io.specs.Fields.{◌>>=◌}
 use Rattle.pc_model.specs.Maps as map_of
 use Rattle.pc_model.specs.Sets as set
 use Rattle.pc_model.specs.Points.{AtPoint}

@@ -4,7 +4,7 @@ use Rattle.std.specs.List.{list_any, list_all}
 use Rattle.pc_types.specs.declared.refusal.Refusal.{Refusal}
 use Rattle.pc_types.specs.declared.refusal.Refusal.TheVariants.{OtherRun, Gap}
 use Rattle.pc_types.specs.declared.Entry.{Entry}
-use Rattle.pc_types.specs.Fields.{◌>>=◌, where_true}
+use Rattle.pc_io.specs.Fields.{◌>>=◌, where_true}
 use Rattle.pc_types.specs.declared.limits.TheConstants.{MOST_POINTS}
 use Rattle.pc_model.specs.Sets as set
 use Rattle.pc_model.specs.Database.{Database, database_of}

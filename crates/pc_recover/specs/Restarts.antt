@@ -2,7 +2,7 @@
 use Rattle.std.specs.Prelude.{◌≡◌, ℕ, ◌+◌, ◌≤◌, ◌<◌, ◌==◌, ◌⊎◌, max, List, length, take, All, Some, None, Ok, MatchResult, IsTrue, if◌then◌else◌}
 use Rattle.pc_types.specs.declared.refusal.Refusal.TheVariants.{Short, Full}
 use Rattle.pc_types.specs.declared.Entry.{Entry}
-use Rattle.pc_types.specs.declared.Format.{Format}
+use Rattle.pc_io.specs.declared.Format.{Format}
 use Rattle.pc_model.specs.Database.{Database}
 use Rattle.pc_model.specs.Log.{after, front, has_token, state_at}
 use Rattle.pc_model.specs.Files.{File, BaseFile}

@@ -6,7 +6,7 @@ use Rattle.pc_model.specs.Files.{File, BaseFile, shelf}
 use Rattle.pc_model.specs.Headline.{IsMade, TakesPointValue}
 use Rattle.pc_model.specs.Standing.{HasLegalEffects}
 use Rattle.pc_model.specs.Limits.{AreInLimits}
-use Rattle.pc_types.specs.declared.Format.{Format}
+use Rattle.pc_io.specs.declared.Format.{Format}
 use Rattle.pc_types.specs.declared.refusal.Refusal.TheVariants.{Full}
 use Rattle.pc_types.specs.declared.limits.TheConstants.{MOST_SESSIONS}
 use Rattle.pc_part.specs.Lawful.{IsPartFile, IsPartText}

@@ -1,6 +1,6 @@
 //! The join of parts: in one pass over all of them, if that gives the same as joining them in order.
 ghost use Rattle.std.specs.Prelude.{◌≡◌, None, Some, Ok, ◌∷◌, [], IfOk, IfErr, IfSome, IsTrue};
-ghost use Rattle.pc_types.specs.Fields.{Gives};
+ghost use Rattle.pc_io.specs.Fields.{Gives};
 ghost use Rattle.pc_merge.specs.Folds.{NoneConflict};
 ghost use Rattle.pc_part.specs.Parts.{IsWithinLimit};
 ghost use Rattle.pc_recover.specs.Folding.{IsOfPoints, join_due, joined_on};

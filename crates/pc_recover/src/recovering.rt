@@ -1,6 +1,6 @@
 //! Recovery by its rules.
 ghost use Rattle.std.specs.Prelude.{map, IfOk};
-ghost use Rattle.pc_types.specs.Fields.{Gives};
+ghost use Rattle.pc_io.specs.Fields.{Gives};
 ghost use Rattle.pc_model.specs.Database.{KeysRise};
 ghost use Rattle.pc_recover.specs.Recovery.{IsOfRun, recovery, recovery_of};
 

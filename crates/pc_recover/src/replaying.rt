@@ -1,14 +1,15 @@
 //! The log's entries after the state of the recovered point, read and applied entry by entry.
 ghost use Rattle.std.specs.Prelude.{◌≡◌, ◌∷◌, [], ◌||◌, length, IfOk, OnOk, Ok, Err, Some};
-ghost use Rattle.pc_types.specs.Fields.{Gives};
+ghost use Rattle.pc_io.specs.Fields.{Gives};
 ghost use Rattle.pc_model.specs.Log.{after};
 ghost use Rattle.pc_log.specs.Orders.{no_token};
 ghost use Rattle.pc_log.specs.Reading.{entries_at};
 ghost use Rattle.pc_recover.specs.Replaying.{counting, found_replay, is_point_token, log_replay, replay_by};
 
+use pc_io::Format;
 use pc_log::{LastToken, read_entry, read_header};
 use pc_replay::Overlay;
-use pc_types::{Entry, Format, Phase, Point, Refusal};
+use pc_types::{Entry, Phase, Point, Refusal};
 use std::alloc::{AllocError, Global};
 
 // A log's text begins with this many bytes, which were written before the first entry.

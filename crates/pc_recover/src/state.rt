@@ -1,6 +1,6 @@
 //! The state of the recovered point: the used files joined and applied to the base.
 ghost use Rattle.std.specs.Prelude.{◌≡◌, ◌++◌, None, ◌∷◌, [], IfOk};
-ghost use Rattle.pc_types.specs.Fields.{Gives};
+ghost use Rattle.pc_io.specs.Fields.{Gives};
 ghost use Rattle.pc_recover.specs.Recovery.{files_to, read_files, with_files};
 ghost use Rattle.pc_recover.specs.Folding.{joined_on, lay_due};
 

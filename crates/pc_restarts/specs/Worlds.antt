@@ -1,6 +1,6 @@
 -- The files that come back of a world, and the state recovered from them.
 use Rattle.std.specs.Prelude.{◌≡◌, ℕ, ◌⊎◌, List, All, MatchResult, take}
-use Rattle.pc_types.specs.declared.Format.{Format}
+use Rattle.pc_io.specs.declared.Format.{Format}
 use Rattle.pc_types.specs.declared.refusal.Refusal.TheVariants.{Full}
 use Rattle.pc_model.specs.History.{History}
 use Rattle.pc_model.specs.Files.{File}

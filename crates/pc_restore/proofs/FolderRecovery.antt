@@ -1,6 +1,6 @@
 -- The recovery of a folder whose files were read.
 use Rattle.std.proofs.Common.{◌≡◌, ◌≢◌, ◌⊎◌, inl, inr, ℕ, Bool, List, Option, Result, refl}
-use Rattle.pc_types.specs.declared.tally.Tally.{Tally}
+use Rattle.pc_io.specs.declared.tally.Tally.{Tally}
 use Rattle.pc_types.specs.declared.refusal.Refusal.{Refusal}
 use Rattle.pc_types.specs.declared.refusal.Refusal.TheVariants as why
 use Rattle.pc_recover.specs.Recovery.{Recovery, recovery}

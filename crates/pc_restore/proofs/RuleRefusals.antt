@@ -6,9 +6,9 @@ use Rattle.std.specs.Cmp.Lexicographic.{pointwise}
 use Rattle.std.specs.Int.{w16, w32, w64, Width, byte_len, from_be_bytes}
 use Rattle.pc_types.specs.declared.refusal.Refusal.{Refusal}
 use Rattle.pc_types.specs.declared.refusal.Refusal.TheVariants as why
-use Rattle.pc_types.specs.declared.formats.Format.{Format}
-use Rattle.pc_types.specs.declared.formats.Format.TheVariants.{First, Second}
-use Rattle.pc_types.specs.Fields.{◌>>=◌, where_true, bytes_at, number_at, space_bytes, format_told, magic_at, sized_key_at, value_at}
+use Rattle.pc_io.specs.declared.formats.Format.{Format}
+use Rattle.pc_io.specs.declared.formats.Format.TheVariants.{First, Second}
+use Rattle.pc_io.specs.Fields.{◌>>=◌, where_true, bytes_at, number_at, space_bytes, format_told, magic_at, sized_key_at, value_at}
 use Rattle.pc_model.specs.Database.{key_cmp}
 use Rattle.pc_model.specs.Files.{File, BaseFile, joined_file}
 use Rattle.pc_model.specs.LaidFiles.{gap_above, laid_file}

@@ -6,9 +6,9 @@ use Rattle.std.specs.Io.KnownBytes.{Appends}
 use Rattle.pc_types.specs.declared.refusal.Refusal.{Refusal}
 use Rattle.pc_types.specs.declared.refusal.Refusal.TheVariants as refusal
 use Rattle.pc_types.specs.declared.refusal.Refusal.TheVariants.{OutOfMemory, NoFile}
-use Rattle.pc_types.specs.Counted.{HasRisen, AppendsBeginning}
-use Rattle.pc_types.specs.Tallies.{Puts, inner_of, failures_of}
-use Rattle.pc_types.specs.declared.tally.Tally.{Tally}
+use Rattle.pc_io.specs.Counted.{HasRisen, AppendsBeginning}
+use Rattle.pc_io.specs.Tallies.{Puts, inner_of, failures_of}
+use Rattle.pc_io.specs.declared.tally.Tally.{Tally}
 use Rattle.pc_recover.specs.Recovery.{Recovery, recovery}
 use Rattle.pc_restore.specs.declared.recovery.Folder.{Folder}
 use Rattle.pc_texts.specs.declared.files.NamedFile.{NamedFile}

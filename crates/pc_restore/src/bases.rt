@@ -10,8 +10,9 @@ use crate::lacks::Lacks;
 use crate::recovery::{Folder, Lost, Worth, recover_read};
 use crate::reports::put_damage;
 use pc_bases::Base;
+use pc_io::Tally;
 use pc_recover::Recovered;
-use pc_types::{MOST_FILE_ENTRIES, Refusal, Tally};
+use pc_types::{MOST_FILE_ENTRIES, Refusal};
 use std::alloc::Global;
 use std::io::{Read, Write};
 

@@ -8,9 +8,10 @@ ghost use Rattle.pc_recover.specs.Replaying.{is_point_token};
 ghost use Rattle.pc_restore.specs.Lacks.{entries_of, header_of, is_bad, is_damaged, is_there, is_whole, lacks_of, unused_of};
 
 use crate::reports::is_cut;
+use pc_io::Format;
 use pc_log::{LastToken, read_entry, read_header};
 use pc_recover::Recovered;
-use pc_types::{Entry, Format, Phase, Point, Refusal};
+use pc_types::{Entry, Phase, Point, Refusal};
 use std::alloc::{AllocError, Global};
 
 /// The state of the header with which a log begins.

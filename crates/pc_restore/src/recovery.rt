@@ -3,8 +3,8 @@ ghost use Rattle.std.specs.Prelude.{◌≡◌, ◌≢◌, ◌⊎◌, ℕ, List, 
 ghost use Rattle.std.specs.declared.result.Result.{Result};
 ghost use Rattle.std.specs.Io.KnownBytes.{Keeps};
 ghost use Rattle.pc_types.specs.declared.refusal.Refusal.{Refusal};
-ghost use Rattle.pc_types.specs.Tallies.{Puts, inner_of, failures_of};
-ghost use Rattle.pc_types.specs.Fields.{Gives};
+ghost use Rattle.pc_io.specs.Tallies.{Puts, inner_of, failures_of};
+ghost use Rattle.pc_io.specs.Fields.{Gives};
 ghost use Rattle.pc_model.specs.Database.{KeysRise};
 ghost use Rattle.pc_recover.specs.Recovery.{IsOfRun, recovery, recovery_of};
 ghost use Rattle.pc_restore.specs.declared.recovery.Lost.{Lost};
@@ -14,9 +14,10 @@ ghost use Rattle.pc_restore.specs.Recoveries.{AreAllOpened, GoesOutUnrecovered, 
 use crate::lacks::{Lacks, lacks_of};
 use crate::reading::{FolderBytes, PartBytes, part_slices, read_folder};
 use crate::reports::put_recovered;
+use pc_io::Tally;
 use pc_recover::{Recovered, recover};
 use pc_texts::{NamedFile, Unread, end_output, report, report_words};
-use pc_types::{Refusal, Tally};
+use pc_types::Refusal;
 use std::alloc::Global;
 use std::io::{Read, Write};
 

@@ -1,7 +1,7 @@
 //! The output of `pcalc recover`. It goes out piece by piece and allocates nothing.
 ghost use Rattle.std.specs.Prelude.{◌≡◌, ◌++◌, codes, length, slice_get};
 ghost use Rattle.std.specs.List.{flat_map};
-ghost use Rattle.pc_types.specs.Tallies.{Puts};
+ghost use Rattle.pc_io.specs.Tallies.{Puts};
 ghost use Rattle.pc_model.specs.Database.{KeysRise};
 ghost use Rattle.pc_recover.specs.Recovery.{recovery_of};
 ghost use Rattle.pc_texts.specs.Texts.{printed_name, refusal_text};
@@ -10,9 +10,10 @@ ghost use Rattle.pc_restore.specs.Recoveries.{names_of};
 
 use crate::reading::PartBytes;
 use itoa::Buffer;
+use pc_io::Tally;
 use pc_recover::{Recovered, Skipped};
 use pc_texts::{put_name, put_pairs, put_reason};
-use pc_types::{Key, Point, Refusal, Tally, Value};
+use pc_types::{Key, Point, Refusal, Value};
 use std::io::Write;
 
 /// Writes the recovered state of parts with these names.

@@ -1,9 +1,9 @@
 -- The files of a run in its folder.
 use Rattle.std.specs.Prelude.{◌≡◌, ◌⊎◌, ◌≤◌, ◌++◌, ⊤, ℕ, Bool, true, false, List, Option, Some, None, Ok}
-use Rattle.pc_types.specs.Tallies.{Puts, inner_of}
+use Rattle.pc_io.specs.Tallies.{Puts, inner_of}
 use Rattle.pc_types.specs.declared.Entry.{Entry}
 use Rattle.pc_types.specs.declared.refusal.Refusal.{Refusal}
-use Rattle.pc_types.specs.declared.tally.Tally.{Tally}
+use Rattle.pc_io.specs.declared.tally.Tally.{Tally}
 use Rattle.pc_model.specs.Files.{BaseFile}
 use Rattle.pc_model.specs.Replies.{Setting}
 use Rattle.pc_model.specs.Sets as set

@@ -1,11 +1,11 @@
 -- A run of a workload: the state that its store starts from, the reading of its text, its output, why it may fail, and the report of that.
 use Rattle.std.specs.Prelude.{◌≡◌, ℕ, Bool, List, Option, Result, Err, [], is_some, IsOk, IfOk, IfSome, MatchOption, codes}
 use Rattle.std.specs.Io.KnownBytes.{Appends}
-use Rattle.pc_types.specs.Counted.{HasRisen, AppendsBeginning}
-use Rattle.pc_types.specs.Tallies.{inner_of, failures_of}
+use Rattle.pc_io.specs.Counted.{HasRisen, AppendsBeginning}
+use Rattle.pc_io.specs.Tallies.{inner_of, failures_of}
 use Rattle.pc_types.specs.declared.limits.TheConstants.{MOST_SESSIONS}
 use Rattle.pc_types.specs.declared.refusal.Refusal.{Refusal}
-use Rattle.pc_types.specs.declared.tally.Tally.{Tally}
+use Rattle.pc_io.specs.declared.tally.Tally.{Tally}
 use Rattle.pc_model.specs.Database.{database_of}
 use Rattle.pc_model.specs.Files.{BaseFile, File}
 use Rattle.pc_model.specs.History.{History, log_of}

@@ -1,17 +1,17 @@
 //! The reports of a run that failed, and of an output that did.
 ghost use Rattle.std.specs.Prelude.{◌≡◌, IfErr, IfOk, OnOk, is_some};
 ghost use Rattle.std.specs.Io.KnownBytes.{Appends};
-ghost use Rattle.pc_types.specs.Counted.{HasRisen, AppendsBeginning};
-ghost use Rattle.pc_types.specs.Tallies.{inner_of, failures_of};
+ghost use Rattle.pc_io.specs.Counted.{HasRisen, AppendsBeginning};
+ghost use Rattle.pc_io.specs.Tallies.{inner_of, failures_of};
 ghost use Rattle.pc_outcomes.specs.Outcomes.{printed_text};
 ghost use Rattle.pc_runs.specs.Runs.{IsRunTold, IsUsable, IsUnusable};
 
 use crate::files::{RunFolder, Unusable, report_unmade};
+use pc_io::Tally;
 use pc_outcomes::Printed;
 use pc_restore::{Lost, tell_lost, tell_reason};
 use pc_texts::{Unread, end_output, report};
 use pc_threads::ThreadsFault;
-use pc_types::Tally;
 use std::io::Write;
 
 /// Why nothing, or not all, is printed of a workload. An input file whose device failed is returned, and has counted the failure.

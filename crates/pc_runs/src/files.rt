@@ -1,6 +1,6 @@
 //! The files that a run leaves in a folder.
 ghost use Rattle.std.specs.Prelude.{◌≡◌, IfErr, IfOk, OnOk};
-ghost use Rattle.pc_types.specs.Tallies.{Puts, inner_of};
+ghost use Rattle.pc_io.specs.Tallies.{Puts, inner_of};
 ghost use Rattle.pc_bases.specs.Texts.{base_text};
 ghost use Rattle.pc_texts.specs.Files.{report_text};
 ghost use Rattle.pc_texts.specs.declared.file_names.FileName.TheVariants as file;
@@ -9,9 +9,10 @@ ghost use Rattle.pc_threads.specs.Faults.{IsFileLost};
 ghost use Rattle.pc_runs.specs.Folders.{IsBeginLost};
 
 use pc_bases::Base;
+use pc_io::Tally;
 use pc_texts::{FileName, part_name, report};
 use pc_threads::{FileFault, NewFiles, finish_file, make_file};
-use pc_types::{Refusal, Tally};
+use pc_types::Refusal;
 use std::io::Write;
 
 /// Why the files of a run aren't made in a folder.

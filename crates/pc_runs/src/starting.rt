@@ -5,8 +5,8 @@ ghost use Rattle.pc_runs.specs.Runs.{IsStart, IsUnstarted};
 use crate::failure::RunFailure;
 use crate::origin::{NamedFolder, Start};
 use pc_bases::Base;
+use pc_io::Tally;
 use pc_restore::recover_base;
-use pc_types::Tally;
 use std::alloc::Global;
 use std::io::{Read, Write};
 

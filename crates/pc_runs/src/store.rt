@@ -24,6 +24,7 @@ use crate::crew::Crew;
 use crate::pace::every_of;
 use pc_board::{Board, BoardPass};
 use pc_capture::SharedPart;
+use pc_io::Tally;
 use pc_jobs::{Workload, deal};
 use pc_outcomes::{RunReport, StoreReport, commits_in, left_by};
 use pc_shared::{CheckpointerSeat, Closed, Opened, PartTicket, Session, Shared};
@@ -33,7 +34,7 @@ use pc_threads::{
     finish_file, hands_of, run_threads, seat_workers,
 };
 use pc_tie::StoreName;
-use pc_types::{Gate, Tally};
+use pc_types::Gate;
 use pc_workers::{ClientGate, log_rest, with_missing_points};
 use std::alloc::{AllocError, Global};
 use std::hash::RandomState;

@@ -3,12 +3,12 @@ use Rattle.std.proofs.Common.{◌≡◌, ◌⊎◌, ℕ, List, [], Option, Some,
 use Rattle.std.specs.Prelude.{IfOk, IfErr, IfSome}
 use Rattle.std.specs.Io.KnownBytes.{Appends, Keeps}
 use Rattle.std.proofs.lemmas.List.{append-nil}
-use Rattle.pc_types.specs.Counted.{HasRisen, AppendsBeginning}
-use Rattle.pc_types.specs.Tallies.{inner_of, failures_of}
+use Rattle.pc_io.specs.Counted.{HasRisen, AppendsBeginning}
+use Rattle.pc_io.specs.Tallies.{inner_of, failures_of}
 use Rattle.pc_types.specs.declared.refusal.Refusal.{Refusal}
 use Rattle.pc_types.specs.declared.refusal.Refusal.TheVariants.{OutOfMemory, Device}
-use Rattle.pc_types.specs.declared.tally.Tally.{Tally}
-use Rattle.pc_types.proofs.KnownBytesLaws.{appends_nothing}
+use Rattle.pc_io.specs.declared.tally.Tally.{Tally}
+use Rattle.pc_io.proofs.KnownBytesLaws.{appends_nothing}
 use Rattle.pc_model.specs.Maps.{empty}
 use Rattle.pc_script.specs.declared.script.Status.{Status}
 use Rattle.pc_script.specs.declared.setup.Setup.{Setup}

@@ -4,7 +4,7 @@ use Rattle.pc_types.specs.declared.Refusal.{Refusal}
 use Rattle.std.specs.Prelude.{Result, Ok, Err, IfErr, if◌then◌else◌, ◌||◌, ⊤}
 use Rattle.std.specs.Io.KnownBytes.{Appends}
 use Rattle.std.proofs.lemmas.List.{append-nil}
-use Rattle.pc_types.specs.Counted.{AppendsBeginning}
+use Rattle.pc_io.specs.Counted.{AppendsBeginning}
 use Rattle.pc_types.specs.declared.Event.{Event}
 use Rattle.pc_types.specs.declared.Reply.{Reply}
 use Rattle.pc_model.specs.Maps.{empty, len}
@@ -13,7 +13,7 @@ use Rattle.pc_engine.specs.Stands.{Stands}
 use Rattle.pc_model.specs.Database.{Database}
 use Rattle.pc_model.specs.History.{History}
 use Rattle.pc_model.specs.Replies.{Setting, IsLegal}
-use Rattle.pc_types.proofs.KnownBytesLaws.{appends_nothing, appends_then, begins_after}
+use Rattle.pc_io.proofs.KnownBytesLaws.{appends_nothing, appends_then, begins_after}
 use Rattle.pc_lines.specs.declared.lines.Line.{Line}
 use Rattle.pc_lines.specs.declared.lines.Line.TheVariants as line
 use Rattle.pc_script.specs.declared.script.LineAnswer.{LineAnswer}

@@ -3,9 +3,9 @@ use Rattle.std.specs.Prelude.{◌≡◌, ◌⊎◌, ℕ, List, Option, IsOk, IfO
 use Rattle.std.specs.declared.result.Result.{Result}
 use Rattle.std.specs.Io.KnownBytes.{Appends}
 use Rattle.pc_types.specs.declared.refusal.Refusal.{Refusal}
-use Rattle.pc_types.specs.Counted.{HasRisen, AppendsBeginning}
-use Rattle.pc_types.specs.Tallies.{inner_of, failures_of}
-use Rattle.pc_types.specs.declared.tally.Tally.{Tally}
+use Rattle.pc_io.specs.Counted.{HasRisen, AppendsBeginning}
+use Rattle.pc_io.specs.Tallies.{inner_of, failures_of}
+use Rattle.pc_io.specs.declared.tally.Tally.{Tally}
 use Rattle.pc_script.specs.declared.setup.Setup.{Setup}
 use Rattle.pc_script.specs.declared.run.ScriptFault.{ScriptFault}
 use Rattle.pc_script.specs.declared.run.ScriptFault.TheVariants as fault

@@ -2,8 +2,8 @@
 ghost use Rattle.std.specs.Prelude.{◌≡◌, IfOk, IfErr};
 ghost use Rattle.std.specs.Io.KnownBytes.{Keeps};
 ghost use Rattle.pc_types.specs.declared.refusal.Refusal.{Refusal};
-ghost use Rattle.pc_types.specs.Tallies.{inner_of, failures_of};
-ghost use Rattle.pc_types.specs.Counted.{HasRisen};
+ghost use Rattle.pc_io.specs.Tallies.{inner_of, failures_of};
+ghost use Rattle.pc_io.specs.Counted.{HasRisen};
 ghost use Rattle.pc_script.specs.declared.script.Status.{Status};
 ghost use Rattle.pc_script.specs.Runs.{exit_of, AnswersAll, AnswersInPart, IsCause, IsFault};
 ghost use Rattle.pc_texts.specs.Files.{TellsOf};
@@ -11,8 +11,9 @@ ghost use Rattle.pc_texts.specs.declared.files.Unread.TheVariants as Unread;
 
 use crate::script::{Status, answer_script};
 use crate::setup::Setup;
+use pc_io::Tally;
 use pc_texts::{Unread, end_output, read_opened, report};
-use pc_types::{Refusal, Tally};
+use pc_types::Refusal;
 use std::alloc::Global;
 use std::hash::RandomState;
 use std::io::{Read, Write};

@@ -1,8 +1,8 @@
 //! A script's lines are answered in order.
 ghost use Rattle.std.specs.Prelude.{◌≡◌, ◌≤◌, ◌⊎◌, ℕ, List, [], IfOk, IfErr, IfSome, OnErr, MatchResult, if◌then◌else◌};
 ghost use Rattle.std.specs.Io.KnownBytes.{Appends};
-ghost use Rattle.pc_types.specs.Counted.{HasRisen, AppendsBeginning};
-ghost use Rattle.pc_types.specs.Tallies.{inner_of, failures_of, Puts};
+ghost use Rattle.pc_io.specs.Counted.{HasRisen, AppendsBeginning};
+ghost use Rattle.pc_io.specs.Tallies.{inner_of, failures_of, Puts};
 ghost use Rattle.pc_model.specs.Maps.{len};
 ghost use Rattle.pc_model.specs.History.{History};
 ghost use Rattle.pc_engine.specs.Stands.{Stands};
@@ -17,10 +17,11 @@ use crate::views::answer_view;
 use bstr::ByteSlice;
 use pc_bases::Base;
 use pc_engine::World;
+use pc_io::Tally;
 use pc_lines::{Line, read_line};
 use pc_replay::Pairs;
 use pc_texts::{put_check, put_reply, put_state, put_text};
-use pc_types::{Items, Key, Refusal, Reply, Tally, Value};
+use pc_types::{Items, Key, Refusal, Reply, Value};
 use std::alloc::Global;
 use std::hash::RandomState;
 use std::io::Write;

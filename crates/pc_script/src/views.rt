@@ -9,9 +9,10 @@ ghost use Rattle.pc_lines.specs.declared.lines.View.TheVariants as view;
 use crate::script::{LineAnswer, refusal_answer};
 use pc_bases::{Base, lay};
 use pc_engine::World;
+use pc_io::Tally;
 use pc_lines::View;
 use pc_part::Part;
-use pc_types::{Items, Refusal, Tally};
+use pc_types::{Items, Refusal};
 use std::alloc::Global;
 
 /// Shows what the line asks for.

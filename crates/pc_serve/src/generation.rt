@@ -8,9 +8,10 @@ use crate::points::DiskPoints;
 use crate::serving::{Store, open};
 use pc_disk::{LOG, path_in};
 use pc_engine::World;
+use pc_io::Tally;
 use pc_opening::{OpenedStore, next_base};
 use pc_server::{CutOff, ServeFault, Service, Stopped, serve_input};
-use pc_types::{Refusal, Tally};
+use pc_types::Refusal;
 use std::alloc::AllocError;
 use std::io::{BufReader, Read, Write};
 

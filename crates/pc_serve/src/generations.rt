@@ -7,8 +7,7 @@ use std::io::{ErrorKind, Write};
 use std::string::String;
 use std::{fs, io};
 
-/// A folder of generations. Each is a folder in it, with the files of a run. What is written there is on the disk once the call has
-/// ended.
+/// A folder of generations, each a folder with the files of a run. What is written there is on the disk once the call has ended.
 #[derive(Clone, Copy)]
 pub struct GenerationFolders<'a> {
     pub dir: ReadFolder<'a>,

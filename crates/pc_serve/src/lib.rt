@@ -1,5 +1,4 @@
-//! The command that serves a store: the folder of its generations on the disk, who owns that, the log's file, and the lines of standard
-//! input, which may be typed; and the folder in it whose files are recovered.
+//! The command that serves a store: the folder of its generations, its owner, its log, its input, and what is recovered of it.
 #![tactic(auto)]
 
 mod generation;

@@ -1,9 +1,10 @@
 //! The files of points of a store that is served, on the disk.
 use pc_disk::{Noted, ReadFolder, Target, path_in};
+use pc_io::Tally;
 use pc_part::Part;
 use pc_server::PointFiles;
 use pc_texts::part_name;
-use pc_types::{Point, Refusal, Tally};
+use pc_types::{Point, Refusal};
 use std::fs::File;
 use std::io::{BufWriter, Write};
 

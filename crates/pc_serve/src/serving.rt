@@ -15,11 +15,12 @@ use pc_disk::{
 };
 use pc_engine::World;
 use pc_explanations::{About, Explained, Explainer, explain_output, is_explained};
+use pc_io::Tally;
 use pc_opening::{OpenedStore, StoreSize, Succession, open_store};
 use pc_options::ServeOptions;
 use pc_restore::{Lost, recover_base, tell_lost};
 use pc_texts::{report, report_words};
-use pc_types::{Refusal, Tally};
+use pc_types::Refusal;
 use std::alloc::AllocError;
 use std::hash::RandomState;
 use std::io;

@@ -5,10 +5,11 @@ ghost use Rattle.pc_reasons.specs.Scripts.{script_fault};
 ghost use Rattle.pc_serving.specs.Requests.{request_of};
 ghost use Rattle.pc_serving.specs.declared.request.Request.TheVariants as request;
 
+use pc_io::Tally;
 use pc_lines::Line;
 use pc_reasons::{LineFault, script_fault};
 use pc_serving::{Request, read_request};
-use pc_types::{Refusal, Tally};
+use pc_types::Refusal;
 use std::alloc::Global;
 use std::io;
 use std::io::{IsTerminal, Read, Write};
@@ -16,8 +17,7 @@ use std::io::{IsTerminal, Read, Write};
 /// The prompt on standard error before each line that is typed.
 const PROMPT: &[u8] = b"> ";
 
-/// Standard input. If it is a terminal a prompt is printed on standard error before each line, and after a bad line the reason why
-/// it is bad; otherwise nothing is.
+/// Standard input. Only if it is a terminal, a prompt is printed before each line, and the reason after a bad line, on standard error.
 #[derive(Drop)]
 pub struct Typed<'a, R> {
     inner: R,

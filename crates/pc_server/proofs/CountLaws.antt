@@ -16,7 +16,7 @@ use Rattle.pc_model.specs.History.{History, Effect, effect_of, entries_by, log_o
 use Rattle.pc_model.specs.Replies.{Setting, IsLegalHistory}
 use Rattle.pc_model.proofs.EffectCases.{begin_case, get_case, write_case, add_case, commit_case, abort_case, move_case, take_case, done_case}
 use Rattle.pc_log.specs.Texts.{entry_text, header_text, log_text}
-use Rattle.pc_types.specs.declared.Format.TheVariants as format
+use Rattle.pc_io.specs.declared.Format.TheVariants as format
 use Rattle.pc_log.proofs.EntriesAgain.{header_length}
 use Rattle.pc_serving.specs.Points.{is_checkpoint}
 use Rattle.pc_serving.specs.Serving.{is_of_client}

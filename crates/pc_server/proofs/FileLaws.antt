@@ -23,7 +23,7 @@ use Rattle.pc_model.proofs.EffectCases.{begin_case, get_case, write_case, add_ca
 use Rattle.pc_model.proofs.FileNumberLaws.{files_numbered}
 use Rattle.pc_model.proofs.ReplyKindLaws.{reply_kind}
 use Rattle.pc_model.proofs.LegalEffectLaws.{legal_has_legal_effects, settled}
-use Rattle.pc_types.specs.declared.Format.TheVariants.{Second}
+use Rattle.pc_io.specs.declared.Format.TheVariants.{Second}
 use Rattle.pc_part.specs.Lawful.{HasPart}
 use Rattle.pc_part.specs.Texts.{part_text}
 use Rattle.pc_lines.specs.declared.lines.Line.TheVariants as line

@@ -7,11 +7,11 @@ use Rattle.std.proofs.Math.Seq.{take-add}
 use Rattle.std.proofs.lemmas.Bool.Decides.{nat_tests}
 use Rattle.std.proofs.lemmas.List.{append_cancel_left, length-append, take-append-drop, take-append-le}
 use Rattle.std.proofs.lemmas.List.Concat.{flat_map-append}
-use Rattle.pc_types.specs.Counted.{AppendsBeginning}
-use Rattle.pc_types.specs.Tallies.{inner_of}
+use Rattle.pc_io.specs.Counted.{AppendsBeginning}
+use Rattle.pc_io.specs.Tallies.{inner_of}
 use Rattle.pc_types.specs.declared.Entry.{Entry}
 use Rattle.pc_types.specs.declared.Entry.TheVariants.{Commit}
-use Rattle.pc_types.specs.declared.Format.TheVariants.{Second}
+use Rattle.pc_io.specs.declared.Format.TheVariants.{Second}
 use Rattle.pc_types.specs.declared.refusal.Refusal.TheVariants.{Full}
 use Rattle.pc_types.specs.declared.limits.TheConstants.{MOST_LOG_ENTRIES}
 use Rattle.pc_model.specs.Files.{BaseFile, File, file_at, shelf}

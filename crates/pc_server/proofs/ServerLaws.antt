@@ -4,14 +4,14 @@ use Rattle.std.specs.Prelude.{codes, Option, Result, OnOk, IfSome, Some, None, M
 use Rattle.std.specs.Global.{Vec}
 use Rattle.std.proofs.lemmas.Bool.Decides.{nat_tests}
 use Rattle.std.proofs.lemmas.List.{length-append, append-nil}
-use Rattle.pc_types.specs.Tallies.{Puts, inner_of}
+use Rattle.pc_io.specs.Tallies.{Puts, inner_of}
 use Rattle.pc_types.specs.declared.Event.{Event}
 use Rattle.pc_types.specs.declared.Reply.{Reply}
 use Rattle.pc_types.specs.declared.Phase.{Phase}
 use Rattle.pc_types.specs.declared.Phase.TheVariants.{Rest, Prepare, Resolve, Capture, Complete}
 use Rattle.pc_types.specs.declared.Refusal.{Refusal}
 use Rattle.pc_types.specs.declared.Step.{Step}
-use Rattle.pc_types.specs.declared.tally.Tally.{Tally}
+use Rattle.pc_io.specs.declared.tally.Tally.{Tally}
 use Rattle.pc_model.specs.History.{History, contents, log_of, effect, entries_by, phase_of}
 use Rattle.pc_model.specs.Log.{after}
 use Rattle.pc_model.specs.Maps.{len}

@@ -1,6 +1,6 @@
 -- The recovery of a process that served: nothing that was answered is lost.
 use Rattle.std.specs.Prelude.{◌≡◌, ◌≤◌, ◌<◌, ◌+◌, ◌^◌, ℕ, List, [], ◌∷◌, ◌++◌, codes, length, take, Option, Some, All, ◌⊎◌, MatchResult}
-use Rattle.pc_types.specs.Counted.{AppendsBeginning}
+use Rattle.pc_io.specs.Counted.{AppendsBeginning}
 use Rattle.pc_types.specs.declared.Entry.{Entry}
 use Rattle.pc_types.specs.declared.Entry.TheVariants.{Commit}
 use Rattle.pc_types.specs.declared.Reply.TheVariants as told

@@ -2,8 +2,8 @@
 use Rattle.std.specs.Prelude.{◌≡◌, ◌≤◌, ◌+◌, ℕ, List, [], Option, take, length}
 use Rattle.std.specs.List.{flat_map}
 use Rattle.std.specs.Io.KnownBytes.{Appends}
-use Rattle.pc_types.specs.Counted.{AppendsBeginning}
-use Rattle.pc_types.specs.Tallies.{inner_of}
+use Rattle.pc_io.specs.Counted.{AppendsBeginning}
+use Rattle.pc_io.specs.Tallies.{inner_of}
 use Rattle.pc_types.specs.declared.Entry.{Entry}
 use Rattle.pc_model.specs.History.{History, log_of}
 use Rattle.pc_model.specs.Replies.{Setting}

@@ -1,6 +1,6 @@
 //! The law of a store that is served. The function does nothing, and its contract is the law.
 ghost use Rattle.std.specs.Prelude.{◌≡◌, ◌⊎◌, ◌++◌, ℕ, List, Option, Some};
-ghost use Rattle.pc_types.specs.Tallies.{inner_of};
+ghost use Rattle.pc_io.specs.Tallies.{inner_of};
 ghost use Rattle.pc_model.specs.Files.{File};
 ghost use Rattle.pc_model.specs.Replies.{Setting};
 ghost use Rattle.pc_log.specs.Texts.{header_text};

@@ -1,7 +1,7 @@
 //! The lines of an input are answered until it ends.
 ghost use Rattle.std.specs.Prelude.{◌≡◌, ◌≤◌, ◌++◌, ◌∷◌, [], not, true, length, ℕ, List, Option, Some, MatchResult, MatchBool, IfOk, OnOk};
 ghost use Rattle.std.specs.Io.Buffered.{reader_remaining};
-ghost use Rattle.pc_types.specs.Tallies.{inner_of};
+ghost use Rattle.pc_io.specs.Tallies.{inner_of};
 ghost use Rattle.pc_model.specs.Files.{File, file_at};
 ghost use Rattle.pc_model.specs.Replies.{Setting};
 ghost use Rattle.pc_serving.specs.Requests.{request_of};

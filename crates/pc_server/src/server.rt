@@ -1,6 +1,6 @@
 //! The store that is served, in turns.
 ghost use Rattle.std.specs.Prelude.{◌≡◌, ◌⊎◌, ◌≤◌, ◌+◌, ◌++◌, ◌∷◌, [], not, true, ℕ, List, length, option_copied, Some, Ok, OnOk, IfOk, IfErr};
-ghost use Rattle.pc_types.specs.Tallies.{Puts, inner_of};
+ghost use Rattle.pc_io.specs.Tallies.{Puts, inner_of};
 ghost use Rattle.pc_types.specs.declared.Step.{Step};
 ghost use Rattle.pc_model.specs.History.{History, log_of};
 ghost use Rattle.pc_model.specs.Replies.{Setting};
@@ -21,11 +21,12 @@ ghost use Rattle.pc_server.specs.Turns.{IsNoted, Stays, paced};
 use crate::counts::Counts;
 use itoa::Buffer;
 use pc_engine::World;
+use pc_io::Tally;
 use pc_lines::Line;
 use pc_part::Part;
 use pc_serving::{Pace, Request, Served, Turned, read_request};
 use pc_turn::{LogDevice, TurnEnd, end_turn};
-use pc_types::{FileNo, Refusal, Tally};
+use pc_types::{FileNo, Refusal};
 use std::alloc::Global;
 use std::io::Write;
 use std::mem;

@@ -1,6 +1,6 @@
 //! The store that is served, with the devices to which its log and its answers go.
 ghost use Rattle.std.specs.Prelude.{◌≡◌, ◌⊎◌, ◌≤◌, ◌+◌, ◌++◌, ◌∷◌, [], not, ℕ, List, length, Option, option_copied, Ok, OnOk, OnErr, IfOk, IfErr, MatchResult};
-ghost use Rattle.pc_types.specs.Tallies.{inner_of};
+ghost use Rattle.pc_io.specs.Tallies.{inner_of};
 ghost use Rattle.pc_types.specs.declared.Step.{Step};
 ghost use Rattle.pc_model.specs.History.{History};
 ghost use Rattle.pc_model.specs.Replies.{Setting};
@@ -19,10 +19,11 @@ ghost use Rattle.pc_server.specs.Services.{Holds, IsCutOff};
 
 use crate::server::Server;
 use pc_engine::World;
+use pc_io::Tally;
 use pc_part::Part;
 use pc_serving::Turned;
 use pc_turn::{LogDevice, TurnEnd};
-use pc_types::{FileNo, Refusal, Tally};
+use pc_types::{FileNo, Refusal};
 use std::alloc::Global;
 use std::io::Write;
 

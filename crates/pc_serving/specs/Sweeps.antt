@@ -1,10 +1,10 @@
 -- The lines, after an event, to the sessions that wait.
 use Rattle.std.specs.Prelude.{◌≡◌, ◌==◌, ◌&&◌, not, ℕ, zero, suc, Bool, List, [], ◌++◌, Option, Result, Ok, Err, if◌then◌else◌}
-use Rattle.pc_types.specs.Counted.{HasRisen}
-use Rattle.pc_types.specs.Tallies.{Puts}
+use Rattle.pc_io.specs.Counted.{HasRisen}
+use Rattle.pc_io.specs.Tallies.{Puts}
 use Rattle.pc_types.specs.declared.refusal.Refusal.{Refusal}
 use Rattle.pc_types.specs.declared.refusal.Refusal.TheVariants.{Device}
-use Rattle.pc_types.specs.declared.tally.Tally.{Tally}
+use Rattle.pc_io.specs.declared.tally.Tally.{Tally}
 use Rattle.pc_transactions.specs.Sessions.{waits_in}
 use Rattle.pc_engine.specs.Store.{Store, active_of}
 use Rattle.pc_serving.specs.Serving.{granted_line}

@@ -1,7 +1,7 @@
 //! The lines of a store that is served, each with its answer.
 ghost use Rattle.std.specs.Prelude.{◌≡◌, ◌==◌, ◌&&◌, ◌||◌, ◌++◌, not, ℕ, List, codes, [], Ok, OnOk, MatchResult};
-ghost use Rattle.pc_types.specs.Counted.{HasRisen};
-ghost use Rattle.pc_types.specs.Tallies.{Puts, failures_of};
+ghost use Rattle.pc_io.specs.Counted.{HasRisen};
+ghost use Rattle.pc_io.specs.Tallies.{Puts, failures_of};
 ghost use Rattle.pc_types.specs.declared.limits.TheConstants.{MOST_SESSIONS};
 ghost use Rattle.pc_sessions.specs.SessionSets.{has_session, is_number};
 ghost use Rattle.pc_model.specs.Calls.{session_of};
@@ -18,11 +18,12 @@ ghost use Rattle.pc_serving.specs.Sweeps.{IsTold, swept_line, swept_to, waits_no
 
 use itoa::Buffer;
 use pc_engine::World;
+use pc_io::Tally;
 use pc_lines::Line;
 use pc_script::{LineAnswer, answer_stored, put_answer};
 use pc_sessions::SessionSet;
 use pc_texts::put_reply;
-use pc_types::{Event, MOST_SESSIONS, Refusal, Reply, SessionNo, Tally};
+use pc_types::{Event, MOST_SESSIONS, Refusal, Reply, SessionNo};
 use std::alloc::Global;
 use std::io::Write;
 

@@ -1,9 +1,9 @@
 -- The text that has gone out to a writer, and the log entries that it is of.
 use Rattle.std.specs.Prelude.{◌≡◌, ◌≤◌, ℕ, List, Option, Ok, length, take}
 use mathlib.Core.List.{IsPrefix}
-use Rattle.pc_types.specs.Tallies.{Puts}
+use Rattle.pc_io.specs.Tallies.{Puts}
 use Rattle.pc_types.specs.declared.Entry.{Entry}
-use Rattle.pc_types.specs.declared.tally.Tally.{Tally}
+use Rattle.pc_io.specs.declared.tally.Tally.{Tally}
 use Rattle.pc_model.specs.History.{History, log_of}
 use Rattle.pc_model.specs.Replies.{Setting}
 use Rattle.pc_latch.specs.Batches.{HasEntries}

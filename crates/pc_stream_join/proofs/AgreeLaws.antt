@@ -3,7 +3,7 @@ use Rattle.std.proofs.Common.{◌≡◌, ℕ, ◌≤◌, eqb, not, ◌||◌, con
 use Rattle.std.specs.List.{All, list_any}
 use Rattle.std.proofs.lemmas.Bool.Decides.{nat_tests}
 use Rattle.std.proofs.lemmas.List.Elements.{All-head, All-tail}
-use Rattle.pc_types.specs.Fields.{◌>>=◌}
+use Rattle.pc_io.specs.Fields.{◌>>=◌}
 use Rattle.pc_types.specs.declared.Refusal.{Refusal}
 use Rattle.pc_types.specs.declared.Refusal.TheVariants.{OtherRun}
 use Rattle.pc_part.specs.declared.ranges.Range.{Range}

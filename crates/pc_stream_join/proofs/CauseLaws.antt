@@ -8,13 +8,13 @@ use Rattle.std.specs.FinMap.{is_sorted}
 use Rattle.std.specs.FinMap.Entries.{below_all}
 use Rattle.std.specs.Int.{w16, w32}
 use Rattle.std.proofs.lemmas.List.Elements.{All-contains, All-from_recursion}
-use Rattle.pc_types.specs.Counted.{one_more}
-use Rattle.pc_types.specs.Fields.{◌>>=◌, number_at}
+use Rattle.pc_io.specs.Counted.{one_more}
+use Rattle.pc_io.specs.Fields.{◌>>=◌, number_at}
 use Rattle.pc_types.specs.declared.Refusal.{Refusal}
 use Rattle.pc_types.specs.declared.Refusal.TheVariants.{BadLength, Short, Trailing}
 use Rattle.pc_types.specs.declared.Triple.{Triple}
-use Rattle.pc_types.specs.declared.formats.Format.{Format}
-use Rattle.pc_types.proofs.FieldLaws.{bind_ok, ok_is}
+use Rattle.pc_io.specs.declared.formats.Format.{Format}
+use Rattle.pc_io.proofs.FieldLaws.{bind_ok, ok_is}
 use Rattle.pc_model.specs.Database.{KeysRise, key_cmp}
 use Rattle.pc_model.specs.TripleLists.{entries_of}
 use Rattle.pc_model.proofs.RisingLaws.{and_of, is_less, lesser_below}

@@ -4,10 +4,10 @@ use Rattle.std.specs.List.{All, flat_map}
 use Rattle.std.proofs.lemmas.List.{length-map, length-append, take-append-le}
 use Rattle.std.proofs.lemmas.List.Elements.{All-map, All-from_recursion}
 use Rattle.std.proofs.lemmas.List.Folds.{flat_map-map}
-use Rattle.pc_types.specs.Counted.{AppendsBeginning, AppendsPart}
+use Rattle.pc_io.specs.Counted.{AppendsBeginning, AppendsPart}
 use Rattle.pc_types.specs.declared.Refusal.TheVariants.{Short}
 use Rattle.pc_types.specs.declared.Triple.{Triple}
-use Rattle.pc_types.specs.declared.formats.Format.TheVariants.{Second}
+use Rattle.pc_io.specs.declared.formats.Format.TheVariants.{Second}
 use Rattle.pc_model.specs.Database.{KeysRise}
 use Rattle.pc_model.specs.Files.{File}
 use Rattle.pc_model.specs.Ranges.{ranges_of}
@@ -17,7 +17,7 @@ use Rattle.pc_model.proofs.PairMapLaws as pairs_of
 use Rattle.pc_part.specs.declared.ranges.Range.{Range}
 use Rattle.pc_part.specs.Parts.{IsWithinLimit, AreCovered, AreRanges, bounds, bounds_of, points_in, points_of}
 use Rattle.pc_part.specs.Lawful.{HasLimits, IsPartEntry, IsPartFile, IsPoint}
-use Rattle.pc_types.specs.Fields.{magic_at}
+use Rattle.pc_io.specs.Fields.{magic_at}
 use Rattle.pc_part.specs.Reading.{header_at, part_at, part_fields_at}
 use Rattle.pc_part.specs.Texts.{bounds_text, end_text, entry_text_in, head_text, part_text, part_text_in, range_text, triple_text}
 use Rattle.pc_part.proofs.CutPartLaws.{part_cut}

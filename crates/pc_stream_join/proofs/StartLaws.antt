@@ -2,11 +2,11 @@
 use Rattle.std.proofs.Common.{◌≡◌, ◌<◌, ◌^◌, ℕ, List, [], ◌∷◌, append-nil, map, Option, Some, None, Result, Ok, Err, refl, sym, ap, ◌∙◌, inl, arith}
 use Rattle.std.specs.Prelude.{IfErr, IfOk, IsTrue, OnErr}
 use Rattle.std.proofs.lemmas.List.Elements.{All-nil}
-use Rattle.pc_types.specs.Tallies.{failures_of, inner_of}
+use Rattle.pc_io.specs.Tallies.{failures_of, inner_of}
 use Rattle.pc_types.specs.declared.Refusal.{Refusal}
 use Rattle.pc_types.specs.declared.Triple.{Triple}
-use Rattle.pc_types.specs.declared.tally.Tally.{Tally}
-use Rattle.pc_types.proofs.KnownBytesLaws.{appends_nothing}
+use Rattle.pc_io.specs.declared.tally.Tally.{Tally}
+use Rattle.pc_io.proofs.KnownBytesLaws.{appends_nothing}
 use Rattle.pc_model.specs.Sets as set
 use Rattle.pc_part.specs.declared.ranges.Range.{Range}
 use Rattle.pc_part.specs.Lawful.{HasLimits}

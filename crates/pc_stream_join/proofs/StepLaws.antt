@@ -10,13 +10,13 @@ use Rattle.std.specs.declared.cmp.Ordering.TheVariants.{Less}
 use Rattle.std.proofs.lemmas.List.{length-append}
 use Rattle.std.proofs.lemmas.Bool.Decides.{nat_tests}
 use Rattle.std.proofs.lemmas.List.Elements.{All-push, All-weaker, recursion_from_All}
-use Rattle.pc_types.specs.Counted.{AppendsBeginning, AppendsPart, HasRisen}
-use Rattle.pc_types.specs.Tallies.{failures_of, inner_of}
+use Rattle.pc_io.specs.Counted.{AppendsBeginning, AppendsPart, HasRisen}
+use Rattle.pc_io.specs.Tallies.{failures_of, inner_of}
 use Rattle.pc_types.specs.declared.Refusal.{Refusal}
 use Rattle.pc_types.specs.declared.Refusal.TheVariants.{Device, Full, OutOfMemory}
 use Rattle.pc_types.specs.declared.Triple.{Triple}
-use Rattle.pc_types.specs.declared.tally.Tally.{Tally}
-use Rattle.pc_types.proofs.KnownBytesLaws.{appends_then, begins_after, part_after}
+use Rattle.pc_io.specs.declared.tally.Tally.{Tally}
+use Rattle.pc_io.proofs.KnownBytesLaws.{appends_then, begins_after, part_after}
 use Rattle.pc_model.specs.Database.{KeysRise, key_cmp, key_order}
 use Rattle.pc_model.specs.Sets as set
 use Rattle.pc_model.specs.TripleLists.{entries_of}

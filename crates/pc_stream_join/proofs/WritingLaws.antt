@@ -1,10 +1,10 @@
 -- How a text goes out in pieces, and the bytes that are kept of it.
 use Rattle.std.proofs.Common.{◌≤◌, ◌<◌, ◌+◌, ◌-◌, ◌*◌, ℕ, List, [], ◌∷◌, ◌++◌, length, Option, Some, None, Err, refl, sym, arith, inl}
 use Rattle.std.proofs.lemmas.List.{append-nil, length-append}
-use Rattle.pc_types.specs.Counted.{AppendsBeginning, AppendsPart}
-use Rattle.pc_types.specs.Tallies.{inner_of}
+use Rattle.pc_io.specs.Counted.{AppendsBeginning, AppendsPart}
+use Rattle.pc_io.specs.Tallies.{inner_of}
 use Rattle.pc_types.specs.declared.Refusal.TheVariants.{OutOfMemory}
-use Rattle.pc_types.specs.declared.tally.Tally.{Tally}
+use Rattle.pc_io.specs.declared.tally.Tally.{Tally}
 use Rattle.pc_part.specs.declared.ranges.Range.{Range}
 use Rattle.pc_part.specs.Parts.{RangesFrom}
 use Rattle.pc_part.specs.Texts.{end_text}

@@ -2,11 +2,11 @@
 use Rattle.std.specs.Prelude.{◌≡◌, ◌+◌, ◌≤◌, ◌<◌, ◌^◌, ℕ, Bool, true, false, List, ◌++◌, Option, Some, None, Result, Ok, Err, length, map}
 use Rattle.std.specs.Io.KnownBytes.{Appends}
 use Rattle.std.specs.List.{All, flat_map}
-use Rattle.pc_types.specs.Tallies.{inner_of, failures_of}
+use Rattle.pc_io.specs.Tallies.{inner_of, failures_of}
 use Rattle.pc_types.specs.declared.Refusal.{Refusal}
 use Rattle.pc_types.specs.declared.Triple.{Triple}
 use Rattle.pc_types.specs.declared.limits.TheConstants.{MOST_FILE_ENTRIES}
-use Rattle.pc_types.specs.declared.tally.Tally.{Tally}
+use Rattle.pc_io.specs.declared.tally.Tally.{Tally}
 use Rattle.pc_model.specs.Database.{KeysRise}
 use Rattle.pc_model.specs.Sets as set
 use Rattle.pc_model.specs.TripleLists.{entries_of}

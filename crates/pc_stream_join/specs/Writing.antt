@@ -2,11 +2,11 @@
 use Rattle.std.specs.Prelude.{◌≡◌, ◌⊎◌, ℕ, List, ◌++◌, Option, Result, Ok, Err, length}
 use Rattle.std.specs.Io.KnownBytes.{Appends}
 use Rattle.std.specs.List.{flat_map}
-use Rattle.pc_types.specs.Counted.{HasRisen, AppendsBeginning, AppendsPart}
-use Rattle.pc_types.specs.Tallies.{inner_of, failures_of}
+use Rattle.pc_io.specs.Counted.{HasRisen, AppendsBeginning, AppendsPart}
+use Rattle.pc_io.specs.Tallies.{inner_of, failures_of}
 use Rattle.pc_types.specs.declared.Refusal.{Refusal}
 use Rattle.pc_types.specs.declared.Refusal.TheVariants.{OutOfMemory, Device}
-use Rattle.pc_types.specs.declared.tally.Tally.{Tally}
+use Rattle.pc_io.specs.declared.tally.Tally.{Tally}
 use Rattle.pc_part.specs.declared.ranges.Range.{Range}
 use Rattle.pc_part.specs.Texts.{bounds_text, end_text, head_text}
 

@@ -8,9 +8,10 @@ ghost use Rattle.pc_streams.specs.Readers.{header_of, standing_of};
 ghost use Rattle.pc_streams.specs.Refusals.{IsReadRefusal};
 ghost use Rattle.pc_stream_join.specs.Headers.{AreApart, AreHeaded, AreReadTo, IsHeadersFault, IsHeadersRefusal, MayBeRanges, StayKnown, points_read, run_of_all, runs_fault, runs_seen, with_run};
 
+use pc_io::Format;
 use pc_part::{PartHeader, Range, union_ranges};
 use pc_streams::PartReader;
-use pc_types::{Format, Refusal};
+use pc_types::Refusal;
 use std::alloc::{AllocError, Global};
 use std::io::Read;
 

@@ -1,6 +1,6 @@
 //! The join of parts, written as they are read.
 ghost use Rattle.std.specs.Prelude.{◌≡◌, [], Err, IfOk, IfErr, OnErr, length, map};
-ghost use Rattle.pc_types.specs.Tallies.{inner_of, failures_of};
+ghost use Rattle.pc_io.specs.Tallies.{inner_of, failures_of};
 ghost use Rattle.pc_types.specs.declared.Refusal.{Refusal};
 ghost use Rattle.pc_streams.specs.Readers.{standing_of};
 ghost use Rattle.pc_stream_join.specs.Headers.{AreHeaded};
@@ -9,10 +9,11 @@ ghost use Rattle.pc_stream_join.specs.Steps.{Begun, IsJoining, JoinEnds, StepsOn
 
 use crate::headers::read_headers;
 use crate::writer::PartWriter;
+use pc_io::Tally;
 use pc_merge::{MOST_INPUTS, Merge};
 use pc_part::{PartHeader, points_in};
 use pc_streams::PartReader;
-use pc_types::{Items, MOST_FILE_ENTRIES, Point, Refusal, Tally};
+use pc_types::{Items, MOST_FILE_ENTRIES, Point, Refusal};
 use std::alloc::Global;
 use std::io::{Read, Write};
 

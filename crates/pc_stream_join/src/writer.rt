@@ -3,12 +3,13 @@ ghost use Rattle.std.specs.Prelude.{◌≡◌, ◌+◌, ◌<◌, ◌^◌, nat_le
 ghost use Rattle.pc_part.specs.Lawful.{HasLimits};
 ghost use Rattle.pc_part.specs.Parts.{AreRanges};
 ghost use Rattle.pc_part.specs.Texts.{triple_text};
-ghost use Rattle.pc_types.specs.Tallies.{Puts};
+ghost use Rattle.pc_io.specs.Tallies.{Puts};
 ghost use Rattle.pc_types.specs.declared.refusal.Refusal.{Refusal};
 ghost use Rattle.pc_stream_join.specs.Writing.{Ends, GoesOut, header_text};
 
+use pc_io::Tally;
 use pc_part::{EntryText, PartHeader, put_end, put_head, put_ranges};
-use pc_types::{MOST_FILE_ENTRIES, Refusal, Tally};
+use pc_types::{MOST_FILE_ENTRIES, Refusal};
 use std::alloc::Global;
 use std::io::Write;
 use std::marker::Model;
@@ -28,7 +29,7 @@ pub(crate) struct PartWriter {
 }
 
 impl Model for PartWriter {
-    ghost use Rattle.pc_types.specs.Tallies.{inner_of};
+    ghost use Rattle.pc_io.specs.Tallies.{inner_of};
     ghost use Rattle.pc_stream_join.specs.Writing.{Writing};
 
     ghost Value = { Writing };

@@ -1,10 +1,10 @@
 -- What is to come, step by step.
 use Rattle.std.proofs.Common.{◌≡◌, ℕ, zero, suc, ◌≤◌, List, [], ◌∷◌, length, Option, Some, None, Result, Ok, Err, refl, sym, ap, arith}
-use Rattle.pc_types.specs.Counted.{one_more}
+use Rattle.pc_io.specs.Counted.{one_more}
 use Rattle.pc_types.specs.declared.Refusal.{Refusal}
 use Rattle.pc_types.specs.declared.Refusal.TheVariants.{Short}
 use Rattle.pc_types.specs.declared.Triple.{Triple}
-use Rattle.pc_types.specs.declared.formats.Format.{Format}
+use Rattle.pc_io.specs.declared.formats.Format.{Format}
 use Rattle.pc_part.specs.declared.ranges.Range.{Range}
 use Rattle.pc_part.specs.Reading.{next_entry_at}
 use Rattle.pc_merge.specs.Coming.{Coming, after_entry}

@@ -5,9 +5,9 @@ use Rattle.std.specs.Int.{w16, w32}
 use Rattle.pc_types.specs.declared.Refusal.{Refusal}
 use Rattle.pc_types.specs.declared.Refusal.TheVariants.{Short, KeyOrder, NotCovered}
 use Rattle.pc_types.specs.declared.Triple.{Triple}
-use Rattle.pc_types.specs.declared.formats.Format.{Format}
-use Rattle.pc_types.specs.Fields.{◌>>=◌, where_true, number_at, sized_key_at, content_at}
-use Rattle.pc_types.proofs.FieldLaws.{bind_ok, where_ok, ok_is}
+use Rattle.pc_io.specs.declared.formats.Format.{Format}
+use Rattle.pc_io.specs.Fields.{◌>>=◌, where_true, number_at, sized_key_at, content_at}
+use Rattle.pc_io.proofs.FieldLaws.{bind_ok, where_ok, ok_is}
 use Rattle.pc_model.specs.Database.{key_cmp}
 use Rattle.pc_model.specs.Points.{AtPoint}
 use Rattle.pc_part.specs.declared.ranges.Range.{Range}

@@ -3,8 +3,8 @@ use Rattle.std.proofs.Common.{◌≡◌, ◌≢◌, ℕ, cond, true, false, List
 use Rattle.std.specs.Int.{w32}
 use Rattle.std.specs.Option.{option_map}
 use Rattle.std.specs.Result.{IsErr, IsErrAnd}
-use Rattle.pc_types.specs.Counted.{one_more}
-use Rattle.pc_types.specs.Fields.{number_at}
+use Rattle.pc_io.specs.Counted.{one_more}
+use Rattle.pc_io.specs.Fields.{number_at}
 use Rattle.pc_types.specs.declared.Refusal.{Refusal}
 use Rattle.pc_types.specs.declared.Refusal.TheVariants.{OutOfMemory, Device, Short}
 use Rattle.pc_types.specs.declared.Triple.{Triple}

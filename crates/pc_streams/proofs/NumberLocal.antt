@@ -5,8 +5,8 @@ use Rattle.std.proofs.lemmas.Bool.{ltb-false, le-ltb}
 use Rattle.std.specs.Int.{Width, byte_len, from_be_bytes}
 use Rattle.pc_types.specs.declared.Refusal.{Refusal}
 use Rattle.pc_types.specs.declared.Refusal.TheVariants.{Short}
-use Rattle.pc_types.specs.Fields.{number_at}
-use Rattle.pc_types.proofs.FieldLaws.{guard_ok}
+use Rattle.pc_io.specs.Fields.{number_at}
+use Rattle.pc_io.proofs.FieldLaws.{guard_ok}
 use Rattle.pc_part.specs.RoundTrips.{IsLocal}
 
 abbrev front : Width → List ℕ → ℕ × List ℕ

@@ -5,9 +5,9 @@ use Rattle.std.specs.Io.KnownBytes.{Keeps, IsAtEnd, prepend_known}
 use Rattle.std.specs.Result.{IsErr, IsErrAnd}
 use Rattle.pc_types.specs.declared.Refusal.{Refusal}
 use Rattle.pc_types.specs.declared.Refusal.TheVariants.{OutOfMemory, Device, Short}
-use Rattle.pc_types.specs.Counted.{HasRisen}
-use Rattle.pc_types.specs.Tallies.{failures_of}
-use Rattle.pc_types.specs.declared.tally.Tally.{Tally}
+use Rattle.pc_io.specs.Counted.{HasRisen}
+use Rattle.pc_io.specs.Tallies.{failures_of}
+use Rattle.pc_io.specs.declared.tally.Tally.{Tally}
 use Rattle.pc_part.specs.RoundTrips.{IsLocal}
 use Rattle.pc_streams.specs.Draws.{Counts, Draws}
 

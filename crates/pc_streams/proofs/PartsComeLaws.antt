@@ -6,14 +6,15 @@ use Rattle.std.specs.Int.{w32}
 use Rattle.std.proofs.lemmas.Bool.{cases_lt}
 use Rattle.std.proofs.lemmas.Bool.Decides.{nat_tests}
 use Rattle.std.proofs.lemmas.List.{length-append, drop_at, get_or_past}
-use Rattle.pc_types.specs.Counted.{one_more}
-use Rattle.pc_types.specs.FieldForms.{IsBytes}
-use Rattle.pc_types.specs.Fields.{◌>>=◌, where_true, number_at}
+use Rattle.pc_io.specs.Counted.{one_more}
+use Rattle.pc_types.specs.Bytes.{IsBytes}
+use Rattle.pc_io.specs.Fields.{◌>>=◌, where_true, number_at}
 use Rattle.pc_types.specs.declared.Refusal.{Refusal}
 use Rattle.pc_types.specs.declared.Refusal.TheVariants.{Short, BadLength, Trailing}
 use Rattle.pc_types.specs.declared.Triple.{Triple}
-use Rattle.pc_types.specs.declared.formats.Format.{Format}
-use Rattle.pc_types.proofs.FieldLaws.{IsBytes-drop, wide32, number_takes}
+use Rattle.pc_io.specs.declared.formats.Format.{Format}
+use Rattle.pc_types.proofs.ByteLaws.{IsBytes-drop}
+use Rattle.pc_io.proofs.FieldLaws.{wide32, number_takes}
 use Rattle.pc_part.specs.declared.ranges.Range.{Range}
 use Rattle.pc_part.specs.Reading.{next_entry_at, entries_from, entries_at, header_at, PartFields, part_fields_at, part_of_fields}
 use Rattle.pc_part.proofs.LocalSteps.{next_entry_local, header_local}

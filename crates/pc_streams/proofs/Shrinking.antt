@@ -8,8 +8,8 @@ use Rattle.std.specs.Int.{w16, w32, Width, byte_len, from_be_bytes}
 use Rattle.pc_types.specs.declared.Refusal.{Refusal}
 use Rattle.pc_types.specs.declared.Refusal.TheVariants.{Short, BadLength, KeyOrder, NotCovered}
 use Rattle.pc_types.specs.declared.Triple.{Triple}
-use Rattle.pc_types.specs.declared.formats.Format.{Format}
-use Rattle.pc_types.specs.Fields.{◌>>=◌, where_true, bytes_at, number_at, space_bytes, key_behind, sized_key_at, value_at, content_at}
+use Rattle.pc_io.specs.declared.formats.Format.{Format}
+use Rattle.pc_io.specs.Fields.{◌>>=◌, where_true, bytes_at, number_at, space_bytes, key_behind, sized_key_at, value_at, content_at}
 use Rattle.pc_model.specs.Database.{key_cmp}
 use Rattle.pc_part.specs.declared.ranges.Range.{Range}
 use Rattle.pc_part.specs.Parts.{covers}

@@ -7,11 +7,11 @@ use Rattle.std.specs.Cmp.Lexicographic.{pointwise}
 use Rattle.std.specs.Int.{w16, w32, w64, Width, byte_len, from_be_bytes}
 use Rattle.pc_types.specs.declared.Refusal.{Refusal}
 use Rattle.pc_types.specs.declared.Refusal.TheVariants.{OutOfMemory, Device, Short, BadMagic, BadRanges, BadLength, KeyOrder, NotCovered}
-use Rattle.pc_types.specs.Fields.{◌>>=◌, where_true, bytes_at, number_at, space_bytes, format_told, magic_at, sized_key_at, value_at, content_at}
+use Rattle.pc_io.specs.Fields.{◌>>=◌, where_true, bytes_at, number_at, space_bytes, format_told, magic_at, sized_key_at, value_at, content_at}
 use Rattle.pc_model.specs.Database.{key_cmp}
 use Rattle.pc_types.specs.declared.Triple.{Triple}
-use Rattle.pc_types.specs.declared.formats.Format.{Format}
-use Rattle.pc_types.specs.declared.formats.Format.TheVariants.{First, Second}
+use Rattle.pc_io.specs.declared.formats.Format.{Format}
+use Rattle.pc_io.specs.declared.formats.Format.TheVariants.{First, Second}
 use Rattle.pc_part.specs.declared.ranges.Range.{Range}
 use Rattle.pc_part.specs.Parts.{covers}
 use Rattle.pc_part.specs.Reading.{items_at, range_at, ranges_at, next_key_at, point_at, entry_at, next_entry_at, header_at}

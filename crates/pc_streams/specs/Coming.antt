@@ -1,12 +1,12 @@
 -- The future of the text of a part.
 use Rattle.std.specs.Prelude.{ℕ, zero, suc, ◌==◌, if◌then◌else◌, List, [], length, Option, Some, None, Result, Ok, Err}
 use Rattle.std.specs.Int.{w32}
-use Rattle.pc_types.specs.Counted.{one_more}
-use Rattle.pc_types.specs.Fields.{◌>>=◌, number_at}
+use Rattle.pc_io.specs.Counted.{one_more}
+use Rattle.pc_io.specs.Fields.{◌>>=◌, number_at}
 use Rattle.pc_types.specs.declared.Refusal.{Refusal}
 use Rattle.pc_types.specs.declared.Refusal.TheVariants.{Short, BadLength, Trailing}
 use Rattle.pc_types.specs.declared.Triple.{Triple}
-use Rattle.pc_types.specs.declared.formats.Format.{Format}
+use Rattle.pc_io.specs.declared.formats.Format.{Format}
 use Rattle.pc_part.specs.declared.ranges.Range.{Range}
 use Rattle.pc_part.specs.Reading.{next_entry_at, header_at}
 use Rattle.pc_merge.specs.Coming.{Coming, ended, refused, after_entry}

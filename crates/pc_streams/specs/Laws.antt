@@ -1,7 +1,7 @@
 -- The law of what is to come of a part's text.
 use Rattle.std.specs.Prelude.{◌≡◌, ◌<◌, ℕ, List, Option, Some, None, Result, Ok, Err}
 use Rattle.std.specs.List.{All}
-use Rattle.pc_types.specs.Fields.{◌>>=◌}
+use Rattle.pc_io.specs.Fields.{◌>>=◌}
 use Rattle.pc_types.specs.declared.Refusal.{Refusal}
 use Rattle.pc_types.specs.declared.Triple.{Triple}
 use Rattle.pc_part.specs.declared.ranges.Range.{Range}

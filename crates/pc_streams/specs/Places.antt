@@ -2,11 +2,11 @@
 use Rattle.std.specs.Prelude.{◌≡◌, ℕ, Bool, false, List, [], Option, Some, Result, Ok, Err, ◌⊎◌, ⊤, None, IsTrue, if◌then◌else◌}
 use Rattle.std.specs.Option.{option_map}
 use Rattle.std.specs.Ordering.{is_lt}
-use Rattle.pc_types.specs.Fields.{◌>>=◌}
+use Rattle.pc_io.specs.Fields.{◌>>=◌}
 use Rattle.pc_types.specs.declared.Refusal.{Refusal}
 use Rattle.pc_types.specs.declared.Refusal.TheVariants.{OutOfMemory, Device}
 use Rattle.pc_types.specs.declared.Triple.{Triple}
-use Rattle.pc_types.specs.declared.formats.Format.{Format}
+use Rattle.pc_io.specs.declared.formats.Format.{Format}
 use Rattle.pc_model.specs.Database.{key_cmp}
 use Rattle.pc_part.specs.Parts.{covers}
 use Rattle.pc_part.specs.declared.ranges.Range.{Range}

@@ -3,9 +3,9 @@ use Rattle.std.specs.Prelude.{◌≡◌, ℕ, Bool, IsTrue, false, List, [], Opt
 use Rattle.std.specs.Option.{option_map}
 use Rattle.pc_types.specs.declared.Refusal.{Refusal}
 use Rattle.pc_types.specs.declared.Refusal.TheVariants.{OutOfMemory, Device}
-use Rattle.pc_types.specs.declared.tally.Tally.{Tally}
+use Rattle.pc_io.specs.declared.tally.Tally.{Tally}
 use Rattle.pc_part.specs.declared.ranges.Range.{Range}
-use Rattle.pc_types.specs.Tallies.{failures_of}
+use Rattle.pc_io.specs.Tallies.{failures_of}
 use Rattle.pc_part.specs.Parts.{covers}
 use Rattle.pc_merge.specs.Coming.{Coming, Standing, refused}
 use Rattle.pc_streams.specs.declared.reader.PartReader.{PartReader}

@@ -1,9 +1,9 @@
 -- The rest of a text that is read piece by piece.
 use Rattle.std.specs.Prelude.{ℕ, List, length, Option, Result, Ok, ◌==◌, Bool}
 use Rattle.std.specs.Io.KnownBytes.{prepend_known}
-use Rattle.pc_types.specs.Tallies.{inner_of}
+use Rattle.pc_io.specs.Tallies.{inner_of}
 use Rattle.pc_types.specs.declared.Refusal.{Refusal}
-use Rattle.pc_types.specs.declared.tally.Tally.{Tally}
+use Rattle.pc_io.specs.declared.tally.Tally.{Tally}
 use Rattle.pc_streams.specs.declared.source.Source.{Source}
 
 -- the counted reader

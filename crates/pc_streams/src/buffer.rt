@@ -1,10 +1,11 @@
 //! Bytes that were read of a text and are not used yet.
 ghost use Rattle.std.specs.Prelude.{◌≡◌, ◌<◌, ◌≤◌, ◌+◌, ◌-◌, [], length, take, drop, vec_len, Ok, OnOk, OnErr, IfOk, IfErr, ◌⊎◌};
 ghost use Rattle.std.specs.Io.KnownBytes.{Keeps, IsAtEnd, prepend_known};
-ghost use Rattle.pc_types.specs.Tallies.{inner_of};
+ghost use Rattle.pc_io.specs.Tallies.{inner_of};
 ghost use Rattle.pc_streams.specs.Draws.{Counts};
 
-use pc_types::{Refusal, Tally};
+use pc_io::Tally;
+use pc_types::Refusal;
 use std::alloc::{AllocError, Global};
 use std::io::Read;
 use std::marker::Model;

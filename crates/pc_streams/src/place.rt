@@ -2,8 +2,8 @@
 ghost use Rattle.std.specs.Prelude.{◌≡◌, true, false, [], None, Ok, OnOk, IfErr, IfOk};
 ghost use Rattle.std.specs.Int.{w32};
 ghost use Rattle.std.specs.Option.{option_map};
-ghost use Rattle.pc_types.specs.Counted.{one_more};
-ghost use Rattle.pc_types.specs.Fields.{number_at};
+ghost use Rattle.pc_io.specs.Counted.{one_more};
+ghost use Rattle.pc_io.specs.Fields.{number_at};
 ghost use Rattle.pc_part.specs.Lent.{IsHead};
 ghost use Rattle.pc_part.specs.Parts.{AreRanges};
 ghost use Rattle.pc_merge.specs.Coming.{GivesNext};

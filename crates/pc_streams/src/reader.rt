@@ -1,7 +1,7 @@
 //! A part's text, of which the entries come in order.
 ghost use Rattle.std.specs.Prelude.{◌≡◌, true, Some, None, Ok, Err, OnOk, IfErr, IfOk};
 ghost use Rattle.std.specs.Option.{option_map};
-ghost use Rattle.pc_types.specs.Tallies.{inner_of, failures_of};
+ghost use Rattle.pc_io.specs.Tallies.{inner_of, failures_of};
 ghost use Rattle.pc_types.specs.declared.Refusal.{Refusal};
 ghost use Rattle.pc_part.specs.Parts.{AreRanges};
 ghost use Rattle.pc_merge.specs.Coming.{GivesNext, GivesWithin, Stands};
@@ -14,9 +14,10 @@ ghost use Rattle.pc_streams.specs.Readers.{coming_of, header_of, refused_of, cou
 use crate::kept::KeptRefusal;
 use crate::place::Place;
 use crate::source::Source;
+use pc_io::Tally;
 use pc_merge::Entries;
 use pc_part::{EntryText, Range};
-use pc_types::{Refusal, Tally};
+use pc_types::Refusal;
 use std::alloc::Global;
 use std::io::Read;
 

@@ -2,8 +2,8 @@
 ghost use Rattle.std.specs.Prelude.{◌≡◌, ◌≢◌, ◌<◌, length, Ok, Err, IfOk, IfErr, OnOk, ◌⊎◌};
 ghost use Rattle.std.specs.Int.{w32};
 ghost use Rattle.std.specs.Io.KnownBytes.{Keeps, IsAtEnd};
-ghost use Rattle.pc_types.specs.Fields.{number_at};
-ghost use Rattle.pc_types.specs.Tallies.{inner_of, failures_of};
+ghost use Rattle.pc_io.specs.Fields.{number_at};
+ghost use Rattle.pc_io.specs.Tallies.{inner_of, failures_of};
 ghost use Rattle.pc_part.specs.Lent.{IsHead};
 ghost use Rattle.pc_part.specs.Parts.{AreRanges, RangesFrom};
 ghost use Rattle.pc_part.specs.Reading.{header_at, next_entry_at};
@@ -13,8 +13,9 @@ ghost use Rattle.pc_streams.specs.Refusals.{IsReadRefusal};
 ghost use Rattle.pc_streams.specs.Sources.{text_left, tally_of, buffered, is_over_at};
 
 use crate::buffer::Buffer;
+use pc_io::{Format, Tally, read_u32};
 use pc_part::{EntryText, LentEntry, PartHeader, Range, lend_next_entry, read_header};
-use pc_types::{Format, Refusal, Tally, read_u32};
+use pc_types::Refusal;
 use std::alloc::{AllocError, Global};
 use std::io::Read;
 

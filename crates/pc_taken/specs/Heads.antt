@@ -1,6 +1,6 @@
 -- A key and its head.
 use Rattle.std.specs.Prelude.{◌≡◌, ℕ, List}
-use Rattle.pc_types.specs.FieldForms.{IsBytes}
+use Rattle.pc_types.specs.Bytes.{IsBytes}
 use Rattle.pc_types.specs.Heads.{head}
 
 -- the number is the head of the key, whose bytes are bytes

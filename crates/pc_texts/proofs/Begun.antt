@@ -2,7 +2,7 @@
 use Rattle.std.proofs.Common.{ℕ, List, Option, Some, None, length, ◌∙◌, arith}
 use Rattle.std.specs.Io.KnownBytes.{Appends, Keeps}
 use Rattle.std.proofs.lemmas.List.{take_all}
-use Rattle.pc_types.specs.Counted.{AppendsBeginning}
+use Rattle.pc_io.specs.Counted.{AppendsBeginning}
 
 -- what went out stays out at a flush
 pub appends_kept : (a b c : Option (List ℕ)) (x : List ℕ) → Appends a b x → Keeps b c → Appends a c x

@@ -4,10 +4,10 @@ use Rattle.std.specs.List.{flat_map}
 use Rattle.std.proofs.lemmas.List.{take-append-drop}
 use Rattle.std.proofs.lemmas.List.Concat.{flat_map-append}
 use Rattle.std.specs.Io.KnownBytes.{Appends}
-use Rattle.pc_types.specs.Tallies.{Puts}
-use Rattle.pc_types.specs.declared.tally.Tally.{Tally}
+use Rattle.pc_io.specs.Tallies.{Puts}
+use Rattle.pc_io.specs.declared.tally.Tally.{Tally}
 use Rattle.pc_types.specs.declared.refusal.Refusal.{Refusal}
-use Rattle.pc_types.proofs.KnownBytesLaws.{appends_then}
+use Rattle.pc_io.proofs.KnownBytesLaws.{appends_then}
 use Rattle.pc_texts.proofs.SentLaws.{sent_stop}
 
 module _ {X : Type 0} (f : X → List ℕ) (xs : List X) (n : ℕ) (text whole : List ℕ) where

@@ -1,11 +1,11 @@
 -- What went out of a text that was put, once the output has ended.
 use Rattle.std.proofs.Common.{◌≡◌, ◌⊎◌, ℕ, List, Option, Result, Ok, Err, inl, inr, ◌∙◌, arith}
 use Rattle.std.specs.Io.KnownBytes.{Appends, Keeps}
-use Rattle.pc_types.specs.Counted.{HasRisen, AppendsBeginning, after_flush}
-use Rattle.pc_types.specs.Tallies.{Puts, failures_of}
+use Rattle.pc_io.specs.Counted.{HasRisen, AppendsBeginning, after_flush}
+use Rattle.pc_io.specs.Tallies.{Puts, failures_of}
 use Rattle.pc_types.specs.declared.refusal.Refusal.{Refusal}
-use Rattle.pc_types.specs.declared.tally.Tally.{Tally}
-use Rattle.pc_types.proofs.KnownBytesLaws.{part_begins}
+use Rattle.pc_io.specs.declared.tally.Tally.{Tally}
+use Rattle.pc_io.proofs.KnownBytesLaws.{part_begins}
 use Rattle.pc_texts.specs.Outputs.{IsUnprinted}
 use Rattle.pc_texts.proofs.Begun.{appends_kept, begins_kept, whole_begins}
 

@@ -1,11 +1,11 @@
 -- The fate of a command's output.
 use Rattle.std.specs.Prelude.{◌≡◌, ◌⊎◌, Err}
 use Rattle.std.specs.declared.result.Result.{Result}
-use Rattle.pc_types.specs.Counted.{HasRisen}
-use Rattle.pc_types.specs.Tallies.{failures_of}
+use Rattle.pc_io.specs.Counted.{HasRisen}
+use Rattle.pc_io.specs.Tallies.{failures_of}
 use Rattle.pc_types.specs.declared.refusal.Refusal.{Refusal}
 use Rattle.pc_types.specs.declared.refusal.Refusal.TheVariants.{Device}
-use Rattle.pc_types.specs.declared.tally.Tally.{Tally}
+use Rattle.pc_io.specs.declared.tally.Tally.{Tally}
 
 -- Not all of the text went out, for this reason: it was refused, whatever became of the flush after it; or the device failed at
 -- the flush, which was counted.

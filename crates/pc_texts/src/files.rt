@@ -2,12 +2,13 @@
 ghost use Rattle.std.specs.Prelude.{◌≡◌, ◌++◌, codes, IsOk, IfOk, IfErr, IfSome, OnOk};
 ghost use Rattle.std.specs.declared.result.Result.{Result};
 ghost use Rattle.pc_types.specs.declared.refusal.Refusal.{Refusal};
-ghost use Rattle.pc_types.specs.Tallies.{Puts};
+ghost use Rattle.pc_io.specs.Tallies.{Puts};
 ghost use Rattle.pc_texts.specs.Files.{IsUnread, line_about, refusal_of, report_text};
 ghost use Rattle.pc_texts.specs.Texts.{printed_name};
 
 use crate::texts::put_name;
-use pc_types::{Refusal, Tally, read_all};
+use pc_io::{Tally, read_all};
+use pc_types::Refusal;
 use std::alloc::Global;
 use std::io::{Read, Write};
 

@@ -1,10 +1,11 @@
 //! The end of a command's output.
 ghost use Rattle.std.specs.Prelude.{◌≡◌, IfOk, IfErr};
 ghost use Rattle.std.specs.Io.KnownBytes.{Keeps};
-ghost use Rattle.pc_types.specs.Tallies.{failures_of, inner_of};
+ghost use Rattle.pc_io.specs.Tallies.{failures_of, inner_of};
 ghost use Rattle.pc_texts.specs.Outputs.{IsUnprinted};
 
-use pc_types::{Refusal, Tally};
+use pc_io::Tally;
+use pc_types::Refusal;
 use std::io::Write;
 
 /// Ends the output of a command: flushes the text that was put. Returns the result of the put if that was refused, or if the flush

@@ -4,15 +4,16 @@ ghost use Rattle.arrayvec.specs.ArrayVec.{array_vec_len};
 ghost use Rattle.std.specs.List.{flat_map};
 ghost use Rattle.std.specs.Char.{digit_char};
 ghost use Rattle.std.specs.Fmt.{signed_decimal};
-ghost use Rattle.pc_types.specs.Tallies.{Puts};
+ghost use Rattle.pc_io.specs.Tallies.{Puts};
 ghost use Rattle.pc_model.specs.Ranges.{ranges_of};
 ghost use Rattle.pc_texts.specs.Texts.{printed_byte, printed_name, printed, printed_space, printed_key, printed_value, phase_name, range_text, ranges_text, refusal_text, reply_text, pair_text, state_head, state_text, hex_byte, hex_line, check_line, file_line, joined_line, collapsed_line};
 
 use arrayvec::ArrayVec;
 use itoa::Buffer;
 use pc_bases::Base;
+use pc_io::Tally;
 use pc_lines::is_plain;
-use pc_types::{Key, Phase, Point, Refusal, Reply, Tally, Value};
+use pc_types::{Key, Phase, Point, Refusal, Reply, Value};
 use std::io::Write;
 
 // The most bytes that are put together for printing, with at most four for each.

@@ -1,8 +1,8 @@
 -- The text that a logger has written.
 use Rattle.std.specs.Prelude.{⊤, ℕ, List, Option, Some, None, Ok}
-use Rattle.pc_types.specs.Tallies.{Puts}
+use Rattle.pc_io.specs.Tallies.{Puts}
 use Rattle.pc_types.specs.declared.Entry.{Entry}
-use Rattle.pc_types.specs.declared.tally.Tally.{Tally}
+use Rattle.pc_io.specs.declared.tally.Tally.{Tally}
 use Rattle.pc_log.specs.Texts.{log_text}
 
 -- The log that these entries make, in a run of this number, has gone out to the file, if there is one.

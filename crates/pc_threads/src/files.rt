@@ -1,8 +1,8 @@
 //! The files that a run makes in a folder.
 ghost use Rattle.std.specs.Prelude.{◌≡◌, ℕ, List, true, false, IfErr, IfOk, OnOk};
 ghost use Rattle.std.specs.Io.KnownBytes.{Appends, Keeps};
-ghost use Rattle.pc_types.specs.Counted.{HasRisen};
-ghost use Rattle.pc_types.specs.Tallies.{inner_of, failures_of};
+ghost use Rattle.pc_io.specs.Counted.{HasRisen};
+ghost use Rattle.pc_io.specs.Tallies.{inner_of, failures_of};
 ghost use Rattle.pc_types.specs.declared.refusal.Refusal.{Refusal};
 ghost use Rattle.pc_model.specs.Sets as set;
 ghost use Rattle.pc_part.specs.Texts.{part_text};
@@ -12,9 +12,10 @@ ghost use Rattle.pc_threads.specs.Files.{KeepsOtherFiles};
 ghost use Rattle.pc_threads.specs.declared.files.FileFault.TheVariants as FileFault;
 
 use crate::fault::ThreadsFault;
+use pc_io::Tally;
 use pc_part::Part;
 use pc_texts::FileName;
-use pc_types::{Point, Refusal, Tally};
+use pc_types::{Point, Refusal};
 use std::io::Write;
 
 /// Makes the files of a folder. Contracts see the texts that the folder has under its names; of a folder whose texts aren't known

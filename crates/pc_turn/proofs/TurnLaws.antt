@@ -5,9 +5,9 @@ use Rattle.std.specs.Io.KnownBytes.{Appends}
 use Rattle.std.specs.List.{flat_map}
 use Rattle.std.proofs.lemmas.List.{take-append-le, drop_all}
 use Rattle.std.proofs.lemmas.List.Concat.{flat_map-append}
-use Rattle.pc_types.specs.Counted.{AppendsBeginning}
+use Rattle.pc_io.specs.Counted.{AppendsBeginning}
 use Rattle.pc_types.specs.declared.Entry.{Entry}
-use Rattle.pc_types.proofs.KnownBytesLaws.{appends_nothing, appends_then, begins_after}
+use Rattle.pc_io.proofs.KnownBytesLaws.{appends_nothing, appends_then, begins_after}
 use Rattle.pc_types.proofs.SliceLaws.{ranges, to_end}
 use Rattle.pc_log.specs.Texts.{entry_text}
 use Rattle.pc_turn.specs.Devices.{Grows}

@@ -3,11 +3,11 @@
 use Rattle.std.specs.Prelude.{◌≡◌, ◌-◌, ℕ, Bool, true, false, List, Option, Result, Ok, Err, MatchBool, IsTrue, drop, length, nat_lt}
 use Rattle.std.specs.List.{flat_map}
 use Rattle.std.specs.Io.KnownBytes.{Appends}
-use Rattle.pc_types.specs.Counted.{HasRisen, AppendsBeginning}
+use Rattle.pc_io.specs.Counted.{HasRisen, AppendsBeginning}
 use Rattle.pc_types.specs.declared.Entry.{Entry}
 use Rattle.pc_types.specs.declared.refusal.Refusal.{Refusal}
 use Rattle.pc_types.specs.declared.refusal.Refusal.TheVariants.{Device}
-use Rattle.pc_types.specs.declared.tally.Tally.{Tally}
+use Rattle.pc_io.specs.declared.tally.Tally.{Tally}
 use Rattle.pc_log.specs.Texts.{entry_text}
 use Rattle.pc_turn.specs.Devices.{Grows}
 use Rattle.pc_turn.specs.declared.turn.TurnEnd.{TurnEnd}

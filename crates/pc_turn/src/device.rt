@@ -6,7 +6,7 @@ use std::io;
 pub trait LogDevice {
     ghost use Rattle.std.specs.Prelude.{◌≡◌, ℕ, List, Option, IfOk, OnOk, OnErr};
     ghost use Rattle.std.specs.Io.KnownBytes.{Appends};
-    ghost use Rattle.pc_types.specs.Counted.{AppendsBeginning};
+    ghost use Rattle.pc_io.specs.Counted.{AppendsBeginning};
     ghost use Rattle.pc_turn.specs.Devices.{Grows};
 
     // All that was written.

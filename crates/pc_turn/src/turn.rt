@@ -4,8 +4,9 @@ ghost use Rattle.pc_kept_log.specs.Logs.{entries_of};
 ghost use Rattle.pc_turn.specs.Turns.{IsAppended, IsKept, IsLogOut, IsSent, TurnEnds, rest_text};
 
 use crate::device::LogDevice;
+use pc_io::Tally;
 use pc_kept_log::Log;
-use pc_types::{Refusal, Tally};
+use pc_types::Refusal;
 use std::io;
 use std::io::Write;
 

@@ -1,12 +1,11 @@
 -- Bytes that are compared by place, and eight at a time as a number.
-use Rattle.std.proofs.Common.{◌≡◌, ◌≢◌, ◌≤◌, ◌<◌, ℕ, zero, suc, ◌+◌, ◌-◌, ◌*◌, min, List, [], ◌∷◌, length, take, drop, get_or, refl, sym, ap, ◌∙◌, arith, drop-cons, length-drop, drop-drop}
+use Rattle.std.proofs.Common.{◌≡◌, ◌≢◌, ◌≤◌, ◌<◌, ℕ, zero, suc, ◌+◌, ◌-◌, ◌*◌, min, List, [], ◌∷◌, length, take, drop, get_or, refl, sym, ap, ◌∙◌, arith, drop-cons, length-drop, drop-drop, Ordering, Less, Equal, Greater}
 use Rattle.std.specs.Ordering.{nat_cmp, ordering_then, MatchOrdering}
-use Rattle.std.proofs.Common.{Ordering, Less, Equal, Greater}
 use Rattle.std.specs.Cmp.{ranks, nat_cmp_is}
 use Rattle.std.specs.Cmp.Lexicographic.{slice_cmp}
 use Rattle.std.specs.Slice.Scan.{big_endian}
-use Rattle.pc_types.specs.FieldForms.{IsBytes}
-use Rattle.pc_types.proofs.FieldLaws.{IsBytes-drop, IsBytes-rest}
+use Rattle.pc_types.specs.Bytes.{IsBytes}
+use Rattle.pc_types.proofs.ByteLaws.{IsBytes-drop, IsBytes-rest}
 
 pub then_assoc : (p q r : Ordering) → ordering_then p (ordering_then q r) ≡ ordering_then (ordering_then p q) r
 then_assoc Less q r = refl

@@ -6,7 +6,7 @@ use Rattle.std.specs.Int.{w16, to_be_bytes, from_be_bytes}
 use Rattle.std.specs.declared.cmp.Ordering.{Ordering}
 use Rattle.std.specs.Ordering.{nat_cmp, ordering_then}
 use Rattle.std.specs.Cmp.Lexicographic.{slice_cmp}
-use Rattle.pc_types.specs.FieldForms.{IsBytes}
+use Rattle.pc_types.specs.Bytes.{IsBytes}
 
 -- the key of these bytes in a space
 abbrev pub key_of : ℕ → List ℕ → List ℕ

@@ -1,10 +1,7 @@
-pub mod Counted
-pub mod Fields
 pub mod Limits
 pub mod Names
-pub mod Tallies
 pub mod Phases
-pub mod FieldForms
+pub mod Bytes
 pub mod Heads
 pub mod Changes
 pub mod Keys

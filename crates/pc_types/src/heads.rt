@@ -1,6 +1,6 @@
 //! The first bytes of a key as one number.
 ghost use Rattle.std.specs.Prelude.{◌≡◌, ◌≤◌, ◌<◌, length};
-ghost use Rattle.pc_types.specs.FieldForms.{IsBytes};
+ghost use Rattle.pc_types.specs.Bytes.{IsBytes};
 ghost use Rattle.pc_types.specs.Heads.{head, spelled};
 
 use crate::limits::SPACE_BYTES;

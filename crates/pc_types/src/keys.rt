@@ -2,13 +2,11 @@
 ghost use Rattle.std.specs.Prelude.{◌≡◌, ◌≤◌, ◌↔◌, length, IsOk, IfErr, IfOk, OnOk};
 ghost use Rattle.std.specs.Ordering.{nat_cmp, eq_by_cmp};
 ghost use Rattle.std.specs.Cmp.Lexicographic.{slice_cmp};
-ghost use Rattle.pc_types.specs.FieldForms.{IsBytes};
+ghost use Rattle.pc_types.specs.Bytes.{IsBytes};
 ghost use Rattle.pc_types.specs.Heads.{head};
-ghost use Rattle.pc_types.specs.Fields.{key_behind};
 ghost use Rattle.pc_types.specs.Keys.{key_of, space_of, own_bytes};
 ghost use Rattle.pc_types.specs.Limits.{AreOwnBytes, IsKey};
 
-use crate::formats::Format;
 use crate::heads::head_of;
 use crate::limits::{MOST_KEY_BYTES, SPACE_BYTES};
 use crate::ordering::order;
@@ -73,19 +71,6 @@ impl Key {
             Ok(bytes) => Ok(Key { bytes }),
             Err(_) => Err(Refusal::OutOfMemory),
         }
-    }
-
-    /// The key that a file has after its length in this format. It allocates memory only for more than 16 bytes of its own, and
-    /// fails only if that allocation fails.
-    pub(crate) fn of_text(alloc: Global, format: Format, text: &[u8]) -> Result<Key, AllocError>
-        requires { IsKey (key_behind format text.now) }
-        ensures { IfOk result (λ key. key ≡ key_behind format text.now) }
-    {
-        let bytes = match format {
-            Format::First => joined(alloc, 0, text)?,
-            Format::Second => SmallVec::from_slice(alloc, text)?,
-        };
-        Ok(Key { bytes })
     }
 
     /// The key that is ordered by these bytes, which are given as `as_bytes` gives them. It allocates memory only for more than 16

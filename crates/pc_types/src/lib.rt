@@ -1,11 +1,8 @@
-//! The words that every crate of the store speaks in: numbers, keys and values, events and replies, receipts, refusals, gates,
-//! and readers and writers whose failures are counted.
+//! The words that every crate of the store speaks in: numbers, keys and values, events and replies, receipts, refusals and gates.
 #![tactic(auto)]
 
 mod changes;
 mod events;
-mod fields;
-mod formats;
 mod gate;
 mod heads;
 mod keys;
@@ -17,17 +14,11 @@ mod numbers;
 mod ordering;
 mod receipts;
 mod refusal;
-mod tally;
 mod triples;
 mod values;
 
 pub use changes::{Change, Write, is_number, number_fits, sum};
 pub use events::{Class, Entry, Event, Phase, Reply, Step};
-pub use fields::{
-    read_bytes, read_content, read_key, read_key_text, read_magic, read_sized_key, read_u16,
-    read_u32, read_u64, read_value,
-};
-pub use formats::Format;
 pub use gate::{Gate, GatePlace, OpenGate};
 pub use heads::{first_eight, head_of};
 pub use keys::Key;
@@ -42,6 +33,5 @@ pub use locking::{Mode, Outcome, Request};
 pub use numbers::{FileNo, Lsn, Point, SessionNo, SlotId, TxnNo};
 pub use receipts::Receipt;
 pub use refusal::Refusal;
-pub use tally::{Tally, read_all};
 pub use triples::Triple;
 pub use values::{Value, copy_content};

@@ -1,7 +1,7 @@
 -- The finding about a text that is expected to be a base, a part or a log.
 use Rattle.std.specs.Prelude.{◌≡◌, ℕ, ◌-◌, ◌==◌, Bool, true, false, List, length, Option, Some, None, Ok, if◌then◌else◌, slice_get}
-use Rattle.pc_types.specs.declared.Format.{Format}
-use Rattle.pc_types.specs.declared.Format.TheVariants.{First, Second}
+use Rattle.pc_io.specs.declared.Format.{Format}
+use Rattle.pc_io.specs.declared.Format.TheVariants.{First, Second}
 use Rattle.pc_model.specs.Files.{BaseFile, File}
 use Rattle.pc_model.specs.Maps as map_of
 use Rattle.pc_model.specs.Sets as set

@@ -1,8 +1,8 @@
 -- The output of `pcalc verify` for a file.
 use Rattle.std.specs.Prelude.{ℕ, List, ◌++◌, codes, decimal}
 use Rattle.pc_types.specs.Names.{name_of}
-use Rattle.pc_types.specs.declared.Format.{Format}
-use Rattle.pc_types.specs.declared.Format.TheVariants.{First, Second}
+use Rattle.pc_io.specs.declared.Format.{Format}
+use Rattle.pc_io.specs.declared.Format.TheVariants.{First, Second}
 use Rattle.pc_types.specs.declared.refusal.Refusal.{Refusal}
 use Rattle.pc_texts.specs.Texts.{joined_line, printed_name}
 use Rattle.pc_verify.specs.declared.findings.Finding.{Finding}

@@ -8,9 +8,10 @@ ghost use Rattle.pc_verify.specs.Findings.{IsFinding, format_of, head_of, is_sou
 
 use pc_bases::Base;
 use pc_faults::{TextKind, locate};
+use pc_io::Format;
 use pc_log::{LogText, read_log};
 use pc_part::Part;
-use pc_types::{Format, Items, Point, Refusal};
+use pc_types::{Items, Point, Refusal};
 use std::alloc::{AllocError, Global};
 
 /// The kind of a store's file that a text is expected to be.

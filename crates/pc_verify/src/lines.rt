@@ -1,13 +1,14 @@
 //! The line with the finding about a file.
 ghost use Rattle.std.specs.Prelude.{◌≡◌, ◌++◌, codes, decimal};
-ghost use Rattle.pc_types.specs.Tallies.{Puts};
+ghost use Rattle.pc_io.specs.Tallies.{Puts};
 ghost use Rattle.pc_texts.specs.Texts.{joined_line};
 ghost use Rattle.pc_verify.specs.Lines.{base_words, fault_words, finding_line, finding_words, format_digits, head_words, log_words, unread_words};
 
 use crate::findings::{Finding, Head};
 use itoa::Buffer;
+use pc_io::{Format, Tally};
 use pc_texts::{put_joined, put_name};
-use pc_types::{Format, Point, Refusal, Tally};
+use pc_types::{Point, Refusal};
 use std::io::Write;
 
 /// Writes the line with the finding about the file of this name.

@@ -7,8 +7,9 @@ ghost use Rattle.pc_verify.specs.Runs.{IsFound, IsTold, IsUntold};
 
 use crate::findings::{FileKind, Finding, finding_of};
 use crate::lines::put_finding;
+use pc_io::Tally;
 use pc_texts::{NamedFile, read_opened};
-use pc_types::{Refusal, Tally};
+use pc_types::Refusal;
 use std::alloc::Global;
 use std::io::{Read, Write};
 

@@ -5,13 +5,13 @@ use Rattle.std.specs.Io.KnownBytes.{Appends, Keeps}
 use Rattle.std.specs.List.{flat_map}
 use Rattle.std.proofs.lemmas.List.{take-append-drop, drop_all}
 use Rattle.std.proofs.lemmas.List.Concat.{flat_map-append}
-use Rattle.pc_types.specs.Tallies.{Puts}
+use Rattle.pc_io.specs.Tallies.{Puts}
 use Rattle.pc_types.specs.declared.Entry.{Entry}
 use Rattle.pc_types.specs.declared.refusal.Refusal.{Refusal}
 use Rattle.pc_types.specs.declared.refusal.Refusal.TheVariants.{OutOfMemory}
-use Rattle.pc_types.specs.declared.tally.Tally.{Tally}
-use Rattle.pc_types.proofs.KnownBytesLaws.{appends_then, appends_nothing}
-use Rattle.pc_types.proofs.PutsLaws.{puts_then, puts_stop}
+use Rattle.pc_io.specs.declared.tally.Tally.{Tally}
+use Rattle.pc_io.proofs.KnownBytesLaws.{appends_then, appends_nothing}
+use Rattle.pc_io.proofs.PutsLaws.{puts_then, puts_stop}
 use Rattle.pc_types.proofs.SliceLaws.{ranges, to_end}
 use Rattle.pc_log.specs.Texts.{header_text, entry_text, log_text}
 use Rattle.pc_shared.specs.Written.{HasGoneOut}

@@ -2,12 +2,12 @@
 use Rattle.std.specs.Prelude.{◌≡◌, ◌⊎◌, ◌++◌, ℕ, List, Option, Result, Ok, Err, drop}
 use Rattle.std.specs.List.{flat_map}
 use Rattle.std.specs.Io.KnownBytes.{Appends, Keeps}
-use Rattle.pc_types.specs.Counted.{HasRisen}
-use Rattle.pc_types.specs.Tallies.{Puts}
+use Rattle.pc_io.specs.Counted.{HasRisen}
+use Rattle.pc_io.specs.Tallies.{Puts}
 use Rattle.pc_types.specs.declared.Entry.{Entry}
 use Rattle.pc_types.specs.declared.refusal.Refusal.{Refusal}
 use Rattle.pc_types.specs.declared.refusal.Refusal.TheVariants.{OutOfMemory, Device}
-use Rattle.pc_types.specs.declared.tally.Tally.{Tally}
+use Rattle.pc_io.specs.declared.tally.Tally.{Tally}
 use Rattle.pc_log.specs.Texts.{entry_text}
 
 -- All bytes that were written before are flushed; or the device failed.

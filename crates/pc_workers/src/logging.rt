@@ -2,7 +2,7 @@
 ghost use Rattle.std.specs.Prelude.{◌≡◌, ◌≤◌, ◌++◌, ℕ, [], List, length, take, All, IfOk, IfSome};
 ghost use Rattle.std.specs.List.{flat_map};
 ghost use mathlib.Core.List.{IsPrefix};
-ghost use Rattle.pc_types.specs.Tallies.{Puts};
+ghost use Rattle.pc_io.specs.Tallies.{Puts};
 ghost use Rattle.pc_model.specs.History.{log_of};
 ghost use Rattle.pc_types.specs.declared.Entry.{Entry};
 ghost use Rattle.pc_log.specs.Texts.{entry_text, log_text};
@@ -10,10 +10,11 @@ ghost use Rattle.pc_latch.specs.Batches.{IsNext};
 ghost use Rattle.pc_shared.specs.Written.{HasGoneOut, CountsAsOut};
 ghost use Rattle.pc_workers.specs.Logging.{Flushes, LogGoesOut, LogsMore, rest_text};
 
+use pc_io::Tally;
 use pc_log::encode_header;
 use pc_shared::{Closed, EndMark, LogBatch, LogPass, Shared, pause};
 use pc_tie::StoreName;
-use pc_types::{Gate, GatePlace, Lsn, Refusal, Tally};
+use pc_types::{Gate, GatePlace, Lsn, Refusal};
 use std::io;
 use std::io::Write;
 use std::sync::Wait;

@@ -1,13 +1,14 @@
 //! The pairs recovered from a folder's files, a line for each.
 use pc_disk::{Causes, FoundFolder, ReadFolder, open_folder, output_before, tell_unopened};
 use pc_explanations::{About, Explained, Explainer, explain_output, is_explained};
+use pc_io::Tally;
 use pc_lines::text_of;
 use pc_options::DumpOptions;
 use pc_pairs::{Choice, Form, Undumped, run_dump};
 use pc_restore::{tell_lost, tell_reason};
 use pc_serve::RecoveredFolder;
 use pc_texts::report_words;
-use pc_types::{Point, Tally};
+use pc_types::Point;
 use std::borrow::CowSlice;
 use std::io;
 use std::io::Write;

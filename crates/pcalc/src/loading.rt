@@ -6,12 +6,13 @@ use itoa::Buffer;
 use pc_bases::Base;
 use pc_disk::{BASE, Causes, LOG, ReadFolder};
 use pc_explanations::{About, Explained, Explainer, explain_output, is_explained};
+use pc_io::Tally;
 use pc_log::encode_header;
 use pc_options::LoadOptions;
 use pc_pairs::{Fault, Unloaded, load_base};
 use pc_runs::{NewFiles, RunFolder, Unusable};
 use pc_texts::{FileName, end_output, read_opened, report, report_words};
-use pc_types::{Refusal, Tally};
+use pc_types::Refusal;
 use std::io;
 use std::io::Write;
 

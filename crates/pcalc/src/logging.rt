@@ -2,9 +2,9 @@
 use crate::parts::open_named;
 use pc_disk::{Causes, output_before};
 use pc_explanations::{About, Explained, Explainer, explain_output, is_explained};
+use pc_io::Tally;
 use pc_log_lines::{EntryRange, run_log};
 use pc_options::LogOptions;
-use pc_types::Tally;
 use std::io;
 
 /// Prints the entries of the log as the options say; the status.

@@ -8,6 +8,7 @@ use pc_disk::{
     output_before, tell_unopened,
 };
 use pc_explanations::{About, Explained, Explainer, explain_output, is_explained};
+use pc_io::Tally;
 use pc_jobs::{WorkloadReading, read_workload};
 use pc_options::RunOptions;
 use pc_progress::{Asked, Behind, Progress};
@@ -15,7 +16,7 @@ use pc_reasons::{put_workload_fault, workload_fault};
 use pc_runs::{Crew, NamedFolder, Origin, Start, run_workload};
 use pc_serve::RecoveredFolder;
 use pc_texts::{NamedFile, read_opened, report, report_words};
-use pc_types::{Refusal, Tally};
+use pc_types::Refusal;
 use std::alloc::{AllocError, Global};
 use std::fs::File;
 use std::hash::RandomState;

@@ -1,7 +1,7 @@
 //! A run, and a concurrent thread that shows its progress.
 use crate::running::{Setting, run};
+use pc_io::Tally;
 use pc_options::RunOptions;
-use pc_types::Tally;
 use std::io::Write;
 use std::sync::Wait;
 use std::thread::Threads;

@@ -2,11 +2,12 @@
 use crate::parts::open_named;
 use pc_disk::{Causes, Noted, output_before};
 use pc_explanations::{About, Explained, Explainer, explain_output, is_explained};
+use pc_io::Tally;
 use pc_options::StepOptions;
 use pc_reasons::put_script_faults;
 use pc_script::{Setup, run_script};
 use pc_texts::read_opened;
-use pc_types::{Refusal, Tally};
+use pc_types::Refusal;
 use std::fs::File;
 use std::hash::RandomState;
 use std::io;

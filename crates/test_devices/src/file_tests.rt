@@ -1,8 +1,9 @@
 //! Parts and bases go out as far as the writer takes them.
 use crate::sink::stops_at;
 use pc_bases::Base;
+use pc_io::Tally;
 use pc_part::Part;
-use pc_types::{Key, Point, Refusal, Tally, Value};
+use pc_types::{Key, Point, Refusal, Value};
 use std::alloc::Global;
 use std::test::Fail;
 use test_support::EMPTY_BASE;

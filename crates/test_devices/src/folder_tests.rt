@@ -1,9 +1,10 @@
 //! Recoveries of folders whose files can't be opened or read, or whose output fails.
 use crate::sink::{Sink, is_answered, went_out};
 use crate::tape::{Tape, TornOnce};
+use pc_io::Tally;
 use pc_restore::{Folder, Lost, recover_base, run_recover, tell_lost};
 use pc_texts::{NamedFile, Unread};
-use pc_types::{Refusal, Tally};
+use pc_types::Refusal;
 use std::alloc::{AllocError, Global};
 use std::io::Read;
 use std::test::Fail;

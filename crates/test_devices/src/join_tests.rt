@@ -2,10 +2,11 @@
 use crate::sink::stops_at;
 use crate::tape::Tape;
 use pc_collapse::fold;
+use pc_io::Tally;
 use pc_part::{Part, join};
 use pc_stream_join::stream_join;
 use pc_streams::PartReader;
-use pc_types::{Refusal, Tally};
+use pc_types::Refusal;
 use std::alloc::Global;
 use std::io::{ErrorKind, Write};
 use std::test::Fail;

@@ -3,8 +3,9 @@ ghost use Rattle.std.specs.Prelude.{◌≡◌, true};
 ghost use Rattle.pc_model.specs.FewWrites.{HasFewWrites};
 
 use crate::sink::{Sink, stops_at};
+use pc_io::Tally;
 use pc_log::{encode_entry, encode_header, encode_log, read_log};
-use pc_types::{Entry, MOST_WRITES, Phase, Point, Refusal, Tally};
+use pc_types::{Entry, MOST_WRITES, Phase, Point, Refusal};
 use std::test::Fail;
 use test_support::SIX_ENTRIES;
 

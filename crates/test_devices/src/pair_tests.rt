@@ -1,7 +1,8 @@
 //! Pairs that are printed in pieces.
 use crate::sink::{Sink, is_answered};
+use pc_io::Tally;
 use pc_texts::put_pairs;
-use pc_types::{Key, Refusal, Tally, Value};
+use pc_types::{Key, Refusal, Value};
 use std::alloc::{AllocError, Global};
 use std::test::Fail;
 

@@ -1,9 +1,10 @@
 //! Scripts whose reader or whose output fails, or for which there is no memory.
 use crate::sink::{Sink, went_out};
 use crate::tape::{Tape, TornOnce};
+use pc_io::Tally;
 use pc_script::{EndedScript, Setup, run_script};
 use pc_texts::Unread;
-use pc_types::{Refusal, Tally};
+use pc_types::Refusal;
 use std::alloc::Global;
 use std::hash::RandomState;
 use std::io::{self, Read};

@@ -1,5 +1,6 @@
 //! A writer that takes some bytes, and then fails.
-use pc_types::{Refusal, Tally};
+use pc_io::Tally;
+use pc_types::Refusal;
 use std::io;
 use std::io::{Error, ErrorKind, Write};
 

@@ -1,9 +1,10 @@
 //! A part's text, read piece by piece, by readers that give few bytes or fail.
 use crate::tape::Tape;
+use pc_io::Tally;
 use pc_merge::Entries;
 use pc_part::{EntryText, Part};
 use pc_streams::PartReader;
-use pc_types::{Refusal, SPACE_BYTES, Tally};
+use pc_types::{Refusal, SPACE_BYTES};
 use std::alloc::{AllocError, Global};
 use std::io::{ErrorKind, Read};
 use std::test::Fail;

@@ -1,7 +1,8 @@
 //! Counted readers and writers.
 use crate::sink::{Sink, is_answered};
 use crate::tape::Tape;
-use pc_types::{Refusal, Tally, read_all};
+use pc_io::{Tally, read_all};
+use pc_types::Refusal;
 use std::alloc::{AllocError, Global};
 use std::io::{ErrorKind, Write};
 use std::test::Fail;

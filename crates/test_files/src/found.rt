@@ -4,9 +4,10 @@ ghost use Rattle.pc_model.specs.FewWrites.{HasFewWrites};
 
 use crate::kinds::Kind;
 use pc_bases::Base;
+use pc_io::Tally;
 use pc_log::{LogText, encode_entry, encode_header, read_log};
 use pc_part::Part;
-use pc_types::{Entry, MOST_WRITES, Refusal, Tally};
+use pc_types::{Entry, MOST_WRITES, Refusal};
 use std::alloc::Global;
 use std::io::Write;
 

@@ -4,10 +4,11 @@ ghost use Rattle.std.specs.Prelude.{◌≡◌};
 use crate::found::put_refusal;
 use crate::kinds::Kind;
 use pc_bases::Base;
+use pc_io::{Format, Tally};
 use pc_log::{LastToken, read_entry, read_header};
 use pc_part::{Part, Range};
 use pc_taken::LentTriple;
-use pc_types::{Change, Entry, Format, Key, Phase, Refusal, Tally, Value};
+use pc_types::{Change, Entry, Key, Phase, Refusal, Value};
 use std::alloc::Global;
 use std::io::Write;
 

@@ -4,10 +4,11 @@ use crate::items::put_part;
 use crate::kinds::Kind;
 use crate::sweeps::put_read;
 use crate::unions::put_text;
+use pc_io::Tally;
 use pc_part::Part;
 use pc_stream_join::stream_join;
 use pc_streams::PartReader;
-use pc_types::{Refusal, Tally};
+use pc_types::Refusal;
 use std::alloc::Global;
 use std::io::Write;
 

@@ -1,7 +1,8 @@
 //! What a text holds, whole, cut and changed.
 use crate::found::{Found, found_in};
 use crate::kinds::Kind;
-use pc_types::{Refusal, Tally};
+use pc_io::Tally;
+use pc_types::Refusal;
 use std::alloc::Global;
 use std::io::Write;
 

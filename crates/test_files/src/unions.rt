@@ -3,8 +3,9 @@ use crate::found::{put_refusal, rewritten};
 use crate::items::{put_base, put_hex, put_part};
 use crate::kinds::Kind;
 use pc_bases::{Base, lay};
+use pc_io::Tally;
 use pc_part::{Part, join};
-use pc_types::{Refusal, Tally};
+use pc_types::Refusal;
 use std::alloc::Global;
 use std::io::Write;
 

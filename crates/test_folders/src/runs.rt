@@ -3,11 +3,12 @@ ghost use Rattle.std.specs.Prelude.{◌≡◌};
 ghost use Rattle.test_folders.specs.Left.{HasLeft};
 
 use crate::memory::MemoryFolder;
+use pc_io::Tally;
 use pc_recover::{Recovered, recover};
 use pc_restore::Folder;
 use pc_runs::{Crew, Finished, NamedFolder, Origin, RunFolder, Start, run_workload};
 use pc_texts::{FileName, NamedFile};
-use pc_types::{OpenGate, Point, Refusal, Tally};
+use pc_types::{OpenGate, Point, Refusal};
 use std::alloc::Global;
 use std::hash::RandomState;
 use std::sync::Wait;

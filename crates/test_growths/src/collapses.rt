@@ -3,8 +3,9 @@ ghost use Rattle.std.specs.Prelude.{◌≤◌};
 
 use crate::again::again;
 use pc_collapse::{collapse_bag, collapse_rounds, fold};
+use pc_io::Tally;
 use pc_part::Part;
-use pc_types::{OpenGate, Refusal, Tally};
+use pc_types::{OpenGate, Refusal};
 use std::alloc::Global;
 use std::sync::Wait;
 use std::test::Fail;

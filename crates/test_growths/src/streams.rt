@@ -1,10 +1,11 @@
 //! Texts of parts that are read piece by piece, and joined as they are read.
 use crate::again::again;
 use crate::collapses::{JOINED, TEXTS};
+use pc_io::Tally;
 use pc_merge::Entries;
 use pc_stream_join::stream_join;
 use pc_streams::PartReader;
-use pc_types::{Refusal, Tally};
+use pc_types::Refusal;
 use std::alloc::Global;
 use std::test::Fail;
 

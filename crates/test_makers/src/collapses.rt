@@ -1,8 +1,9 @@
 //! The contents of a joined file after a collapse that succeeds, that fails, or whose file can't get the name.
 use crate::memory::MemoryFile;
 use pc_collapse_files::run_collapse;
+use pc_io::Tally;
 use pc_texts::NamedFile;
-use pc_types::{Refusal, Tally};
+use pc_types::Refusal;
 use std::alloc::Global;
 use std::test::Fail;
 

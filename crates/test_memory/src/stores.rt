@@ -3,8 +3,9 @@
 use crate::asked::{Told, first_wrong, is_right};
 use crate::worlds::world_again;
 use pc_engine::World;
+use pc_io::Tally;
 use pc_part::Part;
-use pc_types::{FileNo, Phase, Refusal, Tally};
+use pc_types::{FileNo, Phase, Refusal};
 use std::alloc::Global;
 use std::hash::RandomState;
 use std::test::Fail;

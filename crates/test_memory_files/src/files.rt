@@ -2,8 +2,9 @@
 ghost use Rattle.std.specs.Prelude.{◌≤◌};
 
 use pc_bases::{Base, lay};
+use pc_io::Tally;
 use pc_part::{Part, join};
-use pc_types::{Key, Point, Refusal, Tally, Value};
+use pc_types::{Key, Point, Refusal, Value};
 use std::alloc::Global;
 use std::test::Fail;
 use test_support::{Pair, THIRD_POINT, are_pairs};

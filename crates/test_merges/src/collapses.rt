@@ -4,8 +4,9 @@ ghost use Rattle.std.specs.Prelude.{◌≤◌};
 use pc_collapse::{
     collapse_bag, collapse_bag_owned, collapse_rounds, collapse_rounds_owned, fold, fold_owned,
 };
+use pc_io::Tally;
 use pc_part::Part;
-use pc_types::{Gate, GatePlace, OpenGate, Refusal, Tally};
+use pc_types::{Gate, GatePlace, OpenGate, Refusal};
 use std::alloc::{AllocError, Global};
 use std::sync::Wait;
 use std::sync::atomic::{AtomicU64, Ordering};

@@ -7,7 +7,7 @@ use Rattle.pc_types.specs.declared.Refusal.TheVariants as why
 use Rattle.pc_types.specs.declared.Step.{Step}
 use Rattle.pc_types.specs.Keys.{key_of, space_of, own_bytes}
 use Rattle.pc_types.specs.Limits.{IsKey}
-use Rattle.pc_types.specs.declared.Format.TheVariants.{First, Second}
+use Rattle.pc_io.specs.declared.Format.TheVariants.{First, Second}
 use Rattle.pc_model.specs.Maps as map_of
 use Rattle.pc_model.specs.Sets as set
 use Rattle.pc_model.specs.Database.{database_of, KeysRise}

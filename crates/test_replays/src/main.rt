@@ -17,7 +17,8 @@ mod rows;
 mod texts;
 
 use bstr::ByteSlice;
-use pc_types::{Refusal, Tally, read_all};
+use pc_io::{Tally, read_all};
+use pc_types::Refusal;
 use rows::answer;
 use std::alloc::Global;
 use std::io;

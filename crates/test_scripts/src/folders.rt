@@ -2,9 +2,10 @@
 ghost use Rattle.std.specs.Prelude.{◌≤◌};
 
 use bstr::ByteSlice;
+use pc_io::Tally;
 use pc_restore::{EndedRecovery, Folder, Lacks, LogHeader, run_recover};
 use pc_texts::NamedFile;
-use pc_types::{Refusal, Tally};
+use pc_types::Refusal;
 use std::alloc::Global;
 use std::io::Write;
 

@@ -1,8 +1,9 @@
 //! Devices in memory that fail from some call or byte on, and an input that comes in pieces.
+use pc_io::Tally;
 use pc_part::Part;
 use pc_server::PointFiles;
 use pc_turn::LogDevice;
-use pc_types::{Refusal, Tally};
+use pc_types::Refusal;
 use std::alloc::Global;
 use std::io;
 use std::io::{Error, ErrorKind, Read, Write};

@@ -1,4 +1,4 @@
-//! A served store over inputs that come in pieces, and over devices in memory that fail at each call in turn.
+//! A served store over inputs in pieces, and over devices in memory that fail at each call in turn.
 #![tactic(auto)]
 
 #[cfg(test)]

@@ -2,10 +2,11 @@
 use crate::devices::{Files, MemoryLog, Output, Pieces};
 use pc_bases::Base;
 use pc_engine::World;
+use pc_io::Tally;
 use pc_part::Part;
 use pc_recover::recover;
 use pc_server::{CutOff, ServeFault, Service, Stopped, serve_input};
-use pc_types::{Refusal, Tally};
+use pc_types::Refusal;
 use std::alloc::Global;
 use std::hash::RandomState;
 use std::io::BufReader;

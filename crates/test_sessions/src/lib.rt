@@ -1,5 +1,5 @@
-//! What sessions and other threads do in a store, and audits of what they leave: an example of the library, the jobs of clients,
-//! and the text that a logger writes.
+//! What threads do in a store, and audits of what they leave: an example of the library, the jobs of clients, and the text that a
+//! logger writes.
 #![tactic(auto)]
 
 mod audits;

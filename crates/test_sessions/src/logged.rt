@@ -1,10 +1,11 @@
 //! The text of the log, as a logger writes it.
 ghost use Rattle.std.specs.Prelude.{◌≡◌, ◌≤◌, ℕ, List, [], length};
 
+use pc_io::Tally;
 use pc_log::encode_log;
 use pc_shared::{Closed, LogPass, Shared};
 use pc_tie::StoreName;
-use pc_types::{Gate, Lsn, Refusal, Tally};
+use pc_types::{Gate, Lsn, Refusal};
 use pc_workers::{log_loop, log_rest};
 use std::alloc::Global;
 use std::marker::{Model, PhantomData};

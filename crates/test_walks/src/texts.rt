@@ -5,9 +5,10 @@ ghost use Rattle.pc_model.specs.FewWrites.{HasFewWrites};
 use pc_bases::Base;
 use pc_capture::SharedPart;
 use pc_engine::World;
+use pc_io::Tally;
 use pc_log::{encode_entry, encode_header};
 use pc_part::Part;
-use pc_types::{Entry, Refusal, Tally};
+use pc_types::{Entry, Refusal};
 use std::alloc::Global;
 
 /// What a store writes.

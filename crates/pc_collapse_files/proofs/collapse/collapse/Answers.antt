@@ -1,7 +1,7 @@
 use Rattle.std.proofs.Common.{None, refl, sym, subst}
 use Rattle.std.proofs.lemmas.Result.{err_from_is_err_and}
 use Rattle.pc_collapse_files.specs.Collapses.{IsCollapseCause, IsLeftByCollapse}
-use Rattle.pc_types.specs.Tallies.{inner_of}
+use Rattle.pc_io.specs.Tallies.{inner_of}
 use Rattle.pc_part.specs.Texts.{part_text}
 use Rattle.pc_collapse_files.proofs.Ends.{head_cause, head_leaves, named_or_not, unwritten_cause, unwritten_leaves}
 use Rattle.pc_collapse_files.proofs.collapse.collapse.Goals as goal

@@ -3,7 +3,7 @@ use Rattle.std.specs.Prelude.{option_map}
 use Rattle.pc_streams.specs.Coming.{part_coming, part_header}
 use Rattle.pc_streams.specs.Readers.{coming_of, counted_by, header_of, refused_of}
 use Rattle.pc_texts.specs.Files.{HoldsBytes}
-use Rattle.pc_types.specs.Tallies.{failures_of}
+use Rattle.pc_io.specs.Tallies.{failures_of}
 use Rattle.pc_collapse_files.proofs.ReadFiles.{reader_is}
 use Rattle.pc_collapse_files.proofs.ReadLaws.{standing_is}
 use Rattle.pc_collapse_files.proofs.inputs.reader_of.Goals as goal

@@ -1,6 +1,6 @@
 use Rattle.std.proofs.Common.{refl, sym, subst, map, Some, Err, ◌≡◌, ◌∙◌, List, ℕ}
 use Rattle.std.specs.Vec.{with_items}
-use Rattle.pc_types.specs.Tallies.{failures_of}
+use Rattle.pc_io.specs.Tallies.{failures_of}
 use Rattle.pc_merge.specs.Coming.{Coming}
 use Rattle.pc_merge.specs.Given.{IsMerge}
 use Rattle.pc_merge.specs.Inputs.{all_known}

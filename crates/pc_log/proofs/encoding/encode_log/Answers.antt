@@ -1,6 +1,6 @@
 use Rattle.std.proofs.lemmas.Result.{err_from_is_err_and}
 use Rattle.std.specs.List.{flat_map}
-use Rattle.pc_types.proofs.PutsLaws.{puts_then, puts_stop}
+use Rattle.pc_io.proofs.PutsLaws.{puts_then, puts_stop}
 use Rattle.pc_log.specs.Texts.{header_text, entry_text}
 use Rattle.pc_log.proofs.encoding.encode_log.Goals as goal
 

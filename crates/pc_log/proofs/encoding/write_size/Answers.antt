@@ -1,6 +1,6 @@
 use Rattle.std.proofs.Common.{length, ap, arith}
 use Rattle.std.proofs.lemmas.List.{length-append}
-use Rattle.pc_types.specs.Fields.{key_text}
+use Rattle.pc_io.specs.Fields.{key_text}
 use Rattle.pc_log.specs.Texts.{change_text}
 use Rattle.pc_log.proofs.ChangeTexts.{number_length}
 use Rattle.pc_log.proofs.encoding.write_size.Goals as goal

@@ -1,6 +1,6 @@
 use Rattle.std.proofs.lemmas.Result.{err_from_is_err_and}
 use Rattle.pc_texts.specs.Texts.{printed_key}
-use Rattle.pc_types.proofs.PutsLaws.{puts_then, puts_stop}
+use Rattle.pc_io.proofs.PutsLaws.{puts_then, puts_stop}
 use Rattle.pc_log_lines.proofs.lines.put_verb.Goals as goal
 
 pub returns-in_err-put : goal.returns-in_err-put

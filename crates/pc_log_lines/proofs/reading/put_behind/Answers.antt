@@ -1,7 +1,7 @@
 use Rattle.std.proofs.Common.{[], ◌+◌, ◌++◌, refl, sym, ap, ◌∙◌, append_assoc, arith}
 use Rattle.std.proofs.lemmas.Result.{err_from_is_err_and}
 use Rattle.std.proofs.lemmas.List.{append-nil}
-use Rattle.pc_types.proofs.KnownBytesLaws.{appends_nothing, appends_then}
+use Rattle.pc_io.proofs.KnownBytesLaws.{appends_nothing, appends_then}
 use Rattle.pc_log.proofs.TurnLaws.{entry_shorter, is_empty, not_empty}
 use Rattle.pc_texts.proofs.SentLaws.{sent_stop}
 use Rattle.pc_log_lines.specs.Lines.{line_within}

@@ -1,5 +1,5 @@
 use Rattle.std.proofs.Common.{subst, ◌∙◌}
-use Rattle.pc_types.specs.Counted.{AppendsBeginning}
+use Rattle.pc_io.specs.Counted.{AppendsBeginning}
 use Rattle.pc_log_lines.specs.Lines.{log_lines}
 use Rattle.pc_log_lines.proofs.Printed.{ended_begun, ended_failed, lost_as}
 use Rattle.pc_log_lines.proofs.run.print_log.Goals as goal

@@ -1,6 +1,6 @@
 use Rattle.std.proofs.Common.{ap, subst, ◌∙◌}
 use Rattle.std.specs.Io.KnownBytes.{Appends}
-use Rattle.pc_types.specs.Tallies.{inner_of}
+use Rattle.pc_io.specs.Tallies.{inner_of}
 use Rattle.pc_model.specs.Files.{BaseFile}
 use Rattle.pc_pairs.specs.Dumps.{Begins, dump_text}
 use Rattle.pc_pairs.proofs.DumpLaws.{unwritten}

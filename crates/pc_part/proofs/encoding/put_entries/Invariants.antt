@@ -1,6 +1,6 @@
 use Rattle.std.proofs.Common.{◌≡◌, ◌++◌, Ok}
 use Rattle.std.specs.List.{All, flat_map}
-use Rattle.pc_types.specs.Tallies.{Puts}
+use Rattle.pc_io.specs.Tallies.{Puts}
 use Rattle.pc_part.specs.Lawful.{HasLimits}
 use Rattle.pc_part.specs.Texts.{triple_text}
 use Rattle.pc_part.proofs.encoding.put_entries.Given as goal

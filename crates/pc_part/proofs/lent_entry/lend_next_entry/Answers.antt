@@ -1,6 +1,6 @@
 use Rattle.std.proofs.Common.{◌≡◌, ℕ, List, Option, Some, Ok, Result, arith, rules}
 use Rattle.std.specs.Option.{option_map}
-use Rattle.pc_types.specs.Fields.{key_behind}
+use Rattle.pc_io.specs.Fields.{key_behind}
 use Rattle.pc_types.specs.declared.Triple.{Triple}
 use Rattle.pc_part.specs.Reading.{next_entry_at}
 use Rattle.pc_part.proofs.LentLaws.{text_read}

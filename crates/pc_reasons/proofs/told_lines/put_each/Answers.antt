@@ -1,6 +1,6 @@
 use Rattle.std.proofs.Common.{arith}
 use Rattle.std.proofs.lemmas.Result.{err_from_is_err_and}
-use Rattle.pc_types.proofs.PutsLaws.{puts_stop_at}
+use Rattle.pc_io.proofs.PutsLaws.{puts_stop_at}
 use Rattle.pc_reasons.specs.declared.faults.LineFault.TheVariants.{NoCommand}
 use Rattle.pc_reasons.specs.declared.told_lines.BadLine.{BadLine}
 use Rattle.pc_reasons.specs.Told.{bad_line_text}

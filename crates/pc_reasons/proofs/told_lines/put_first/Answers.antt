@@ -1,5 +1,5 @@
 use Rattle.std.proofs.lemmas.Result.{err_from_is_err_and}
-use Rattle.pc_types.proofs.PutsLaws.{puts_then, puts_stop}
+use Rattle.pc_io.proofs.PutsLaws.{puts_then, puts_stop}
 use Rattle.std.proofs.Common.{◌-◌, length, take}
 use Rattle.std.specs.List.{flat_map}
 use Rattle.pc_reasons.specs.declared.told_lines.TheConstants.{MOST_TOLD}

@@ -1,6 +1,6 @@
 use Rattle.std.proofs.Common.{◌++◌, codes}
 use Rattle.std.proofs.lemmas.Result.{err_from_is_err_and}
-use Rattle.pc_types.proofs.PutsLaws.{puts_then, puts_stop}
+use Rattle.pc_io.proofs.PutsLaws.{puts_then, puts_stop}
 use Rattle.pc_reasons.specs.Told.{place_text}
 use Rattle.pc_reasons.specs.Workloads.{workload_sentence}
 use Rattle.pc_reasons.proofs.workloads.put_workload_fault.Goals as goal

@@ -1,7 +1,7 @@
 use Rattle.std.proofs.Common.{◌≡◌, inl, inr, ℕ, List, true, false, refl, sym, ap, subst, ◌∙◌}
 use Rattle.std.specs.Prelude.{◌^◌}
 use Rattle.pc_types.specs.declared.limits.TheConstants.{MOST_FILE_ENTRIES}
-use Rattle.pc_types.specs.Tallies.{Puts}
+use Rattle.pc_io.specs.Tallies.{Puts}
 use Rattle.pc_model.specs.Database.{database_of}
 use Rattle.pc_model.specs.Files.{BaseFile}
 use Rattle.pc_recover.specs.Recovery.{recovery_of}

@@ -1,8 +1,8 @@
 use Rattle.std.proofs.Common.{ap, subst, ◌∙◌}
 use Rattle.std.proofs.lemmas.Result.{err_from_is_err_and}
 use Rattle.std.specs.Io.KnownBytes.{Appends}
-use Rattle.pc_types.specs.Counted.{AppendsBeginning}
-use Rattle.pc_types.specs.Tallies.{inner_of}
+use Rattle.pc_io.specs.Counted.{AppendsBeginning}
+use Rattle.pc_io.specs.Tallies.{inner_of}
 use Rattle.pc_recover.specs.Recovery.{recovery_of}
 use Rattle.pc_restore.specs.Reports.{recovery_text}
 use Rattle.pc_restore.specs.Recoveries.{names_of}

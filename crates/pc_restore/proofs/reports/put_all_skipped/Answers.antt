@@ -1,7 +1,7 @@
 use Rattle.std.proofs.Common.{arith, subst, Err}
 use Rattle.std.proofs.lemmas.Result.{err_from_is_err_and}
-use Rattle.pc_types.specs.Tallies.{Puts}
-use Rattle.pc_types.proofs.PutsLaws.{puts_stop_at}
+use Rattle.pc_io.specs.Tallies.{Puts}
+use Rattle.pc_io.proofs.PutsLaws.{puts_stop_at}
 use Rattle.pc_restore.specs.Reports.{skipped_line}
 use Rattle.pc_restore.specs.Recoveries.{names_of}
 use Rattle.pc_texts.proofs.SentLaws.{sent_more}

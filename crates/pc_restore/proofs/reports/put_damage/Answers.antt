@@ -1,6 +1,6 @@
 use Rattle.std.specs.List.{flat_map}
 use Rattle.std.proofs.lemmas.Result.{err_from_is_err_and}
-use Rattle.pc_types.proofs.PutsLaws.{puts_then, puts_stop}
+use Rattle.pc_io.proofs.PutsLaws.{puts_then, puts_stop}
 use Rattle.pc_restore.specs.Reports.{log_line, skipped_line}
 use Rattle.pc_restore.specs.Recoveries.{names_of}
 use Rattle.pc_restore.proofs.reports.put_damage.Goals as goal

@@ -1,6 +1,6 @@
 use Rattle.std.proofs.Common.{length, refl}
 use Rattle.std.proofs.lemmas.Result.{err_from_is_err_and}
-use Rattle.pc_types.proofs.PutsLaws.{puts_then, puts_stop}
+use Rattle.pc_io.proofs.PutsLaws.{puts_then, puts_stop}
 use Rattle.pc_model.specs.Database.{database_of}
 use Rattle.pc_recover.specs.Recovery.{recovery_of}
 use Rattle.pc_restore.specs.Reports.{damage_text, pairs_text}

@@ -1,5 +1,5 @@
 use Rattle.std.proofs.Common.{codes}
-use Rattle.pc_types.proofs.PutsLaws.{puts_then}
+use Rattle.pc_io.proofs.PutsLaws.{puts_then}
 use Rattle.pc_texts.specs.Texts.{refusal_text}
 use Rattle.pc_restore.proofs.reports.put_reason_end.Goals as goal
 

@@ -1,5 +1,5 @@
 use Rattle.std.proofs.lemmas.Result.{err_from_is_err_and}
-use Rattle.pc_types.proofs.PutsLaws.{puts_then, puts_stop}
+use Rattle.pc_io.proofs.PutsLaws.{puts_then, puts_stop}
 use Rattle.pc_recover.specs.Recovery.{recovery_of}
 use Rattle.pc_restore.specs.Reports.{counts_text, details_text}
 use Rattle.pc_restore.specs.Recoveries.{names_of}

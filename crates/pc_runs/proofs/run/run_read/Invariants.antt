@@ -1,5 +1,5 @@
 use Rattle.std.proofs.Common.{List, ℕ}
-use Rattle.pc_types.specs.declared.tally.Tally.{Tally}
+use Rattle.pc_io.specs.declared.tally.Tally.{Tally}
 use Rattle.pc_shared.specs.Written.{HasGoneOut}
 use Rattle.pc_runs.proofs.run.run_read.Given as goal
 

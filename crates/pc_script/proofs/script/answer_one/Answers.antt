@@ -1,4 +1,4 @@
-use Rattle.pc_types.proofs.KnownBytesLaws.{part_begins}
+use Rattle.pc_io.proofs.KnownBytesLaws.{part_begins}
 use Rattle.pc_script.specs.Scripts.{answer_text}
 use Rattle.pc_script.proofs.ScriptLemmas.{in_err}
 use Rattle.pc_script.proofs.script.answer_one.Goals as goal

@@ -1,5 +1,5 @@
 use Rattle.std.proofs.Common.{codes}
-use Rattle.pc_types.proofs.PutsLaws.{puts_then}
+use Rattle.pc_io.proofs.PutsLaws.{puts_then}
 use Rattle.pc_texts.specs.Texts.{reply_text}
 use Rattle.pc_script.proofs.script.put_answer.Goals as goal
 

@@ -1,5 +1,5 @@
 use Rattle.std.proofs.Common.{◌++◌, ◌∷◌, []}
-use Rattle.pc_types.specs.Tallies.{inner_of}
+use Rattle.pc_io.specs.Tallies.{inner_of}
 use Rattle.pc_server.proofs.ServingLaws.{err_of, within_more}
 use Rattle.pc_server.proofs.serve.take_turns.Goals as goal
 

@@ -1,6 +1,6 @@
 use Rattle.std.proofs.Common.{◌≡◌, ℕ, None, Ok, map, subst}
 use Rattle.std.proofs.lemmas.Result.{err_from_is_err_and}
-use Rattle.pc_types.specs.Tallies.{failures_of, inner_of}
+use Rattle.pc_io.specs.Tallies.{failures_of, inner_of}
 use Rattle.pc_model.specs.Sets as set
 use Rattle.pc_part.specs.Parts.{points_of}
 use Rattle.pc_merge.specs.Merging.{Merging, MergeRefuses}

@@ -1,6 +1,6 @@
 use Rattle.std.proofs.Common.{ℕ, List, Err, map, refl, sym, ap, subst, ◌∙◌, inl, inr}
 use Rattle.std.proofs.lemmas.Result.{err_from_is_err_and}
-use Rattle.pc_types.specs.Tallies.{failures_of, inner_of}
+use Rattle.pc_io.specs.Tallies.{failures_of, inner_of}
 use Rattle.pc_part.specs.Parts.{points_in}
 use Rattle.pc_part.proofs.RangePointLaws.{items-points_of}
 use Rattle.pc_merge.specs.Coming.{Standing}

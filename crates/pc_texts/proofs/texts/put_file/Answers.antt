@@ -1,6 +1,6 @@
 use Rattle.std.proofs.Common.{◌++◌, codes, decimal, Err}
 use Rattle.std.proofs.lemmas.Result.{err_from_is_err_and}
-use Rattle.pc_types.proofs.PutsLaws.{puts_then, puts_stop}
+use Rattle.pc_io.proofs.PutsLaws.{puts_then, puts_stop}
 use Rattle.pc_model.specs.Ranges.{ranges_of}
 use Rattle.pc_texts.specs.Texts.{ranges_text}
 use Rattle.pc_texts.proofs.texts.put_file.Goals as goal

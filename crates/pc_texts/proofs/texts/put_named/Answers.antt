@@ -1,4 +1,4 @@
-use Rattle.pc_types.proofs.PutsLaws.{puts_then}
+use Rattle.pc_io.proofs.PutsLaws.{puts_then}
 use Rattle.pc_texts.specs.Texts.{printed}
 use Rattle.pc_texts.proofs.texts.put_named.Goals as goal
 

@@ -1,6 +1,6 @@
 use Rattle.std.proofs.Common.{◌≡◌, ◌≢◌, ◌+◌, ◌++◌, codes, get_or, [], append_assoc, arith, ◌∙◌}
 use Rattle.std.proofs.lemmas.Result.{err_from_is_err_and}
-use Rattle.pc_types.proofs.KnownBytesLaws.{appends_then}
+use Rattle.pc_io.proofs.KnownBytesLaws.{appends_then}
 use Rattle.pc_texts.specs.Texts.{range_text}
 use Rattle.pc_texts.proofs.SentLaws.{sent_then, sent_stop}
 use Rattle.pc_texts.proofs.RangeLemmas.{joined_text, parted_text, ended_text}

@@ -1,7 +1,7 @@
 use Rattle.std.proofs.Common.{◌++◌, codes, length}
 use Rattle.std.specs.List.{flat_map}
 use Rattle.std.proofs.lemmas.Result.{err_from_is_err_and}
-use Rattle.pc_types.proofs.PutsLaws.{puts_then, puts_stop}
+use Rattle.pc_io.proofs.PutsLaws.{puts_then, puts_stop}
 use Rattle.pc_texts.specs.Texts.{state_head, pair_text}
 use Rattle.pc_texts.proofs.StatePairLaws.{pairs_of}
 use Rattle.pc_texts.proofs.texts.put_state.Goals as goal

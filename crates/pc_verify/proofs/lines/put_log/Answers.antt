@@ -1,5 +1,5 @@
 use Rattle.std.proofs.lemmas.Result.{err_from_is_err_and}
-use Rattle.pc_types.proofs.PutsLaws.{puts_then, puts_stop}
+use Rattle.pc_io.proofs.PutsLaws.{puts_then, puts_stop}
 use Rattle.pc_verify.specs.Lines.{head_words, log_words}
 use Rattle.pc_verify.proofs.lines.put_log.Goals as goal
 

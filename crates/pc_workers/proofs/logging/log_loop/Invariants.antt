@@ -1,5 +1,5 @@
 use Rattle.std.proofs.Common.{Ok}
-use Rattle.pc_types.specs.Tallies.{Puts}
+use Rattle.pc_io.specs.Tallies.{Puts}
 use Rattle.pc_log.specs.Texts.{log_text}
 use Rattle.pc_workers.proofs.logging.log_loop.Given as goal
 

@@ -1,6 +1,6 @@
 use Rattle.std.proofs.Common.{List, Ok, Err, subst, arith}
 use Rattle.std.proofs.lemmas.Result.{err_from_is_err_and}
-use Rattle.pc_types.specs.Tallies.{Puts}
+use Rattle.pc_io.specs.Tallies.{Puts}
 use Rattle.pc_types.specs.declared.Entry.{Entry}
 use Rattle.pc_kept_log.specs.Logs.{entries_of}
 use Rattle.pc_workers.specs.Logging.{rest_text}

@@ -1,7 +1,7 @@
 use Rattle.std.proofs.Common.{◌≤◌, ◌-◌, Ok, length}
 use Rattle.std.specs.Prelude.{slice_range}
 use Rattle.std.specs.List.{flat_map}
-use Rattle.pc_types.specs.Tallies.{Puts}
+use Rattle.pc_io.specs.Tallies.{Puts}
 use Rattle.pc_kept_log.specs.Logs.{entries_of}
 use Rattle.pc_log.specs.Texts.{entry_text}
 use Rattle.pc_workers.proofs.logging.put_rest.Given as goal

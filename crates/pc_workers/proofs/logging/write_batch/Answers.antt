@@ -1,6 +1,6 @@
 use Rattle.std.proofs.Common.{List, ℕ, Ok, subst, ◌∙◌}
 use Rattle.std.specs.List.{flat_map}
-use Rattle.pc_types.specs.Tallies.{Puts}
+use Rattle.pc_io.specs.Tallies.{Puts}
 use Rattle.pc_log.specs.Texts.{entry_text, log_text}
 use Rattle.pc_workers.proofs.LoggingLaws.{flushed, gone_out}
 use Rattle.pc_workers.proofs.logging.write_batch.Goals as goal

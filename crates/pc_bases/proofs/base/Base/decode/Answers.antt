@@ -1,5 +1,5 @@
 use Rattle.std.proofs.Common.{subst, arith}
-use Rattle.pc_types.specs.Fields.{Gives}
+use Rattle.pc_io.specs.Fields.{Gives}
 use Rattle.pc_bases.proofs.BaseFileLaws.{base_found, text_is_read}
 use Rattle.pc_bases.proofs.base.Base.decode.Goals as goal
 

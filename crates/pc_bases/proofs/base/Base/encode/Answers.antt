@@ -1,8 +1,8 @@
 use Rattle.std.proofs.Common.{◌∙◌, List, ℕ, length, arith, subst, Err}
 use Rattle.std.proofs.lemmas.Result.{err_from_is_err_and}
 use Rattle.std.specs.List.{flat_map}
-use Rattle.pc_types.specs.Tallies.{Puts}
-use Rattle.pc_types.proofs.PutsLaws.{puts_then, puts_stop}
+use Rattle.pc_io.specs.Tallies.{Puts}
+use Rattle.pc_io.proofs.PutsLaws.{puts_then, puts_stop}
 use Rattle.pc_bases.specs.Texts.{base_head_text, pair_text}
 use Rattle.pc_bases.proofs.BaseTexts.{base_parts, base_lawful}
 use Rattle.pc_bases.proofs.Successes.{then_so}

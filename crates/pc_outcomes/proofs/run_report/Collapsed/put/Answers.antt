@@ -1,5 +1,5 @@
 use Rattle.std.proofs.lemmas.Result.{err_from_is_err_and}
-use Rattle.pc_types.proofs.PutsLaws.{puts_then, puts_stop}
+use Rattle.pc_io.proofs.PutsLaws.{puts_then, puts_stop}
 use Rattle.std.proofs.Common.{codes}
 use Rattle.pc_texts.specs.Texts.{collapsed_line}
 use Rattle.pc_outcomes.specs.Outcomes.{number_line}

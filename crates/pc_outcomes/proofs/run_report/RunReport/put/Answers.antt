@@ -1,5 +1,5 @@
 use Rattle.std.proofs.lemmas.Result.{err_from_is_err_and}
-use Rattle.pc_types.proofs.PutsLaws.{puts_then, puts_stop}
+use Rattle.pc_io.proofs.PutsLaws.{puts_then, puts_stop}
 use Rattle.pc_outcomes.specs.Outcomes.{counts_text, left_text}
 use Rattle.pc_outcomes.proofs.run_report.RunReport.put.Goals as goal
 

@@ -1,5 +1,5 @@
 use Rattle.std.proofs.Common.{◌≡◌, ◌-◌, take, drop, ap, ◌∙◌, subst}
-use Rattle.pc_types.specs.FieldForms.{IsBytes}
+use Rattle.pc_types.specs.Bytes.{IsBytes}
 use Rattle.pc_types.specs.Heads.{head}
 use Rattle.pc_part.proofs.LentLaws.{key_slice}
 use Rattle.pc_part.proofs.entry_text.EntryText.of_text.Goals as goal

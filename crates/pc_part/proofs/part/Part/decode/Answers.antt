@@ -1,5 +1,5 @@
 use Rattle.std.proofs.Common.{subst, arith}
-use Rattle.pc_types.specs.Fields.{Gives}
+use Rattle.pc_io.specs.Fields.{Gives}
 use Rattle.pc_part.proofs.PartFileLaws.{part_found, text_is_read}
 use Rattle.pc_part.proofs.part.Part.decode.Goals as goal
 

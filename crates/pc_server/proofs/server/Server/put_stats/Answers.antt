@@ -1,5 +1,5 @@
 use Rattle.std.proofs.Common.{length, ap, subst, ◌∙◌}
-use Rattle.pc_types.specs.Tallies.{Puts}
+use Rattle.pc_io.specs.Tallies.{Puts}
 use Rattle.std.specs.Prelude.{Some}
 use Rattle.pc_serving.specs.OpenSessions.{open_now}
 use Rattle.pc_server.specs.Acts.{stats_line}

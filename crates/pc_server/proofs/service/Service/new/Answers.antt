@@ -1,5 +1,5 @@
 use Rattle.std.proofs.Common.{refl}
-use Rattle.pc_types.specs.Tallies.{inner_of}
+use Rattle.pc_io.specs.Tallies.{inner_of}
 use Rattle.pc_engine.specs.Store.{setting_of}
 use Rattle.pc_server.proofs.ServiceLaws.{begins, serves_from}
 use Rattle.pc_server.proofs.service.Service.new.Goals as goal

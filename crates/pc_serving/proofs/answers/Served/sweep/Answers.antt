@@ -1,7 +1,7 @@
 use Rattle.std.proofs.Common.{◌≡◌, ◌+◌, ◌==◌, ◌&&◌, ◌||◌, not, ℕ, List, Ok, sym, subst, ap, ◌∙◌, arith}
-use Rattle.pc_types.specs.Tallies.{Puts}
+use Rattle.pc_io.specs.Tallies.{Puts}
 use Rattle.pc_types.specs.declared.limits.TheConstants.{MOST_SESSIONS}
-use Rattle.pc_types.proofs.PutsLaws.{puts_then}
+use Rattle.pc_io.proofs.PutsLaws.{puts_then}
 use Rattle.pc_sessions.specs.SessionSets.{has_session}
 use Rattle.pc_engine.specs.Store.{Store}
 use Rattle.pc_serving.specs.Sweeps.{swept_line, swept_to, waits_now}

@@ -1,5 +1,5 @@
 use Rattle.std.proofs.Common.{◌≡◌, ◌&&◌, ◌||◌, ℕ, Ok, nat_lt}
-use Rattle.pc_types.specs.Tallies.{Puts}
+use Rattle.pc_io.specs.Tallies.{Puts}
 use Rattle.pc_sessions.specs.SessionSets.{has_session}
 use Rattle.pc_serving.specs.Sweeps.{swept_to, waits_now}
 use Rattle.pc_serving.proofs.answers.Served.sweep.Given as goal

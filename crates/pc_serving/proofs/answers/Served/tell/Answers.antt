@@ -1,7 +1,7 @@
 use Rattle.std.proofs.Common.{◌≡◌, ◌==◌, ◌&&◌, ◌||◌, ◌++◌, ℕ, Bool, List, Ok, subst, ap}
 use Rattle.std.specs.Prelude.{codes}
 use Rattle.pc_types.specs.declared.limits.TheConstants.{MOST_SESSIONS}
-use Rattle.pc_types.proofs.PutsLaws.{puts_then}
+use Rattle.pc_io.proofs.PutsLaws.{puts_then}
 use Rattle.pc_sessions.specs.SessionSets.{has_session, is_number}
 use Rattle.pc_engine.specs.Store.{Store}
 use Rattle.pc_texts.specs.Texts.{reply_text}

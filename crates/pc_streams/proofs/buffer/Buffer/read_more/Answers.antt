@@ -1,5 +1,5 @@
 use Rattle.std.proofs.Common.{rules, ◌-◌, ◌++◌, length, take, drop}
-use Rattle.pc_types.specs.Tallies.{inner_of}
+use Rattle.pc_io.specs.Tallies.{inner_of}
 use Rattle.pc_streams.proofs.ReadPieces.{keeps_read}
 use Rattle.pc_streams.proofs.buffer.Buffer.read_more.Goals as goal
 

@@ -1,7 +1,7 @@
 use Rattle.std.proofs.Common.{rules, ◌≡◌, ℕ, false, true, List, Option, Result, Ok, Err, refl, subst}
 use Rattle.std.specs.Int.{w32}
 use Rattle.std.specs.Option.{option_map}
-use Rattle.pc_types.specs.Fields.{number_at}
+use Rattle.pc_io.specs.Fields.{number_at}
 use Rattle.pc_types.specs.declared.Refusal.{Refusal}
 use Rattle.pc_types.specs.declared.Refusal.TheVariants.{Short}
 use Rattle.pc_types.specs.declared.Triple.{Triple}

@@ -1,7 +1,7 @@
 use Rattle.std.proofs.Common.{rules, ◌<◌, ◌^◌, length, arith}
 use Rattle.std.specs.Int.{w32}
 use Rattle.pc_types.specs.declared.Refusal.TheVariants.{Short}
-use Rattle.pc_types.specs.Fields.{number_at}
+use Rattle.pc_io.specs.Fields.{number_at}
 use Rattle.pc_streams.proofs.NumberLocal.{number_local}
 use Rattle.pc_streams.specs.Sources.{text_left, tally_of, buffered}
 use Rattle.pc_streams.proofs.OfText.{drawn_by, refused_by, fits_by, counts_since}

@@ -1,6 +1,6 @@
 use Rattle.std.proofs.Common.{◌-◌, ◌^◌, ◌≡◌, length}
 use Rattle.std.specs.Io.KnownBytes.{Keeps}
-use Rattle.pc_types.specs.Tallies.{failures_of}
+use Rattle.pc_io.specs.Tallies.{failures_of}
 use Rattle.pc_streams.specs.Sources.{text_left, tally_of, buffered}
 use Rattle.pc_streams.proofs.source.Source.number.Given as goal
 

@@ -1,5 +1,5 @@
 use Rattle.std.proofs.Common.{subst}
-use Rattle.pc_types.specs.FieldForms.{IsBytes}
+use Rattle.pc_types.specs.Bytes.{IsBytes}
 use Rattle.pc_types.proofs.keys.Key.head.Goals as goal
 
 pub returns-clause-bytes : goal.returns-clause-bytes

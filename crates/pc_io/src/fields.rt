@@ -3,14 +3,11 @@
 ghost use Rattle.std.specs.Prelude.{◌≡◌, ◌≤◌, length, IfOk};
 ghost use Rattle.std.specs.Int.{w16, w32, w64};
 ghost use Rattle.pc_types.specs.Limits.{IsKey};
-ghost use Rattle.pc_types.specs.Fields.{Reads, Gives, bytes_at, number_at, magic_at, key_behind, sized_key_at, key_at, value_at, content_at};
+ghost use Rattle.pc_io.specs.Fields.{Reads, Gives, bytes_at, number_at, magic_at, key_behind, sized_key_at, key_at, value_at, content_at};
 
 use crate::formats::Format;
-use crate::keys::Key;
-use crate::limits::{MOST_KEY_BYTES, MOST_VALUE_BYTES, SPACE_BYTES};
-use crate::refusal::Refusal;
-use crate::values::Value;
-use std::alloc::Global;
+use pc_types::{Key, MOST_KEY_BYTES, MOST_VALUE_BYTES, Refusal, SPACE_BYTES, Value};
+use std::alloc::{AllocError, Global};
 
 /// The given number of bytes. Returns `missing` if and only if there are fewer.
 pub fn read_bytes(bytes: &[u8], count: usize, missing: Refusal) -> Result<(&[u8], &[u8]), Refusal>
@@ -102,6 +99,29 @@ pub fn read_key_text(
     }
 }
 
+// The key of the bytes after its length in this format. It allocates memory only for more than 16 bytes of its own, and fails
+// only if that allocation fails.
+fn key_of_text(alloc: Global, format: Format, text: &[u8]) -> Result<Key, AllocError>
+    requires { IsKey (key_behind format text.now) }
+    ensures { IfOk result (λ key. key ≡ key_behind format text.now) }
+{
+    match format {
+        Format::First => key_in_space_0(alloc, text),
+        Format::Second => Key::of_bytes(alloc, text),
+    }
+}
+
+// The key of space 0 with these bytes of its own.
+fn key_in_space_0(alloc: Global, own: &[u8]) -> Result<Key, AllocError>
+    requires { IsKey (key_behind Format.First own.now) }
+    ensures { IfOk result (λ key. key ≡ key_behind Format.First own.now) }
+{
+    match Key::new(alloc, own) {
+        Ok(key) => Ok(key),
+        Err(_) => Err(AllocError),
+    }
+}
+
 /// A key whose length was read. Refuses with `BadLength` if that isn't 1 to 255, with `missing` if the bytes end inside the key,
 /// and with `OutOfMemory` only if a growth was refused.
 pub fn read_sized_key(
@@ -114,7 +134,7 @@ pub fn read_sized_key(
     ensures read { Gives (λ x. (x.0, x.1.now)) result (sized_key_at format missing count bytes.now) }
 {
     let (text, rest) = read_key_text(format, bytes, count, missing)?;
-    Ok((Key::of_text(alloc, format, text)?, rest))
+    Ok((key_of_text(alloc, format, text)?, rest))
 }
 
 /// A key, its length before it. Refuses with `BadLength` if the length isn't 1 to 255, with `missing` if the bytes end inside
@@ -130,7 +150,7 @@ pub fn read_key(
 {
     let (count, rest) = read_u16(bytes, missing)?;
     let (text, rest) = read_key_text(format, rest, count, missing)?;
-    Ok((Key::of_text(alloc, format, text)?, rest))
+    Ok((key_of_text(alloc, format, text)?, rest))
 }
 
 /// A value, its length before it. Refuses with `BadLength` if it is longer than a value may be, with `missing` if the bytes end

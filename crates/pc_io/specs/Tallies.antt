@@ -1,10 +1,10 @@
 -- The view of a counted reader or writer.
 use Rattle.std.specs.Prelude.{◌≡◌, ℕ, List, Option, Result, Ok, Err}
 use Rattle.std.specs.Io.KnownBytes.{Appends}
-use Rattle.pc_types.specs.Counted.{HasRisen, AppendsPart}
+use Rattle.pc_io.specs.Counted.{HasRisen, AppendsPart}
 use Rattle.pc_types.specs.declared.refusal.Refusal.{Refusal}
 use Rattle.pc_types.specs.declared.refusal.Refusal.TheVariants.{Device}
-use Rattle.pc_types.specs.declared.tally.Tally.{Tally}
+use Rattle.pc_io.specs.declared.tally.Tally.{Tally}
 
 -- how many of its calls failed
 abbrev pub failures_of : {T : Type 0} → Tally T → ℕ

@@ -1,7 +1,7 @@
 use Rattle.std.proofs.Common.{◌≡◌}
 use Rattle.std.proofs.lemmas.Result.{err_from_is_err_and}
-use Rattle.pc_types.proofs.Pieces.{stops_within}
-use Rattle.pc_types.proofs.tally.Tally.put_all.Goals as goal
+use Rattle.pc_io.proofs.Pieces.{stops_within}
+use Rattle.pc_io.proofs.tally.Tally.put_all.Goals as goal
 
 pub returns-in_err-put : goal.returns-in_err-put
 returns-in_err-put g c =

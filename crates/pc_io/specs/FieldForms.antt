@@ -1,10 +1,7 @@
 -- Words of the laws on the fields of a text.
-use Rattle.std.specs.Prelude.{◌≡◌, ℕ, ◌<◌, List, ◌++◌, length, slice_index_or}
+use Rattle.std.specs.Prelude.{◌≡◌, ℕ, ◌<◌, List, ◌++◌, length}
 use Rattle.std.specs.Int.{Width, byte_len, from_be_bytes, to_be_bytes}
-
--- each number of the list is a byte
-abbrev pub IsBytes : List ℕ → Type 0
-IsBytes bytes = (i : ℕ) → slice_index_or bytes i 0 < 256
+use Rattle.pc_types.specs.Bytes.{IsBytes}
 
 -- a text that was taken from the front of the bytes, and what is left
 pub record TakesText (bytes text rest : List ℕ) : Type 0 where

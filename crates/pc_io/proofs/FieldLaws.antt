@@ -1,33 +1,22 @@
 -- A field that is read is the field that was written, and what was written is read again.
-use Rattle.std.proofs.Common.{◌≡◌, ℕ, zero, suc, ◌+◌, ◌*◌, ◌^◌, ◌<◌, ◌≤◌, Bool, true, false, cond, ltb, List, [], ◌∷◌, ◌++◌, length, take, drop, Option, Some, None, Result, Ok, Err, refl, sym, ap, subst, ◌∙◌, append_assoc, arith, inl, inr}
+use Rattle.std.proofs.Common.{◌≡◌, ℕ, zero, suc, ◌+◌, ◌*◌, ◌^◌, ◌<◌, ◌≤◌, Bool, true, false, cond, ltb, List, [], ◌∷◌, ◌++◌, length, take, drop, Option, Some, None, Result, Ok, Err, refl, sym, ap, subst, ◌∙◌, append_assoc, arith}
 use Rattle.std.specs.Prelude.{IfSome, ◌-◌, nat_eq, nat_le, ◌&&◌, if◌then◌else◌}
 use Rattle.std.specs.Cmp.Lexicographic.{pointwise, same_text}
 use Rattle.std.proofs.lemmas.Cmp.{nat_list_eq_equiv}
 use Rattle.std.proofs.lemmas.Bool.Decides.{nat_tests}
 use Rattle.std.specs.Int.{Width, w16, w32, w64, byte_len, from_be_bytes, to_be_bytes}
-use Rattle.std.proofs.lemmas.Bool.{cases_lt, ltb-false, le-ltb}
-use Rattle.std.proofs.lemmas.List.{take_at, drop_at, take-append-drop, length-append, length-take, get_or-drop, get_or-take, get_or_past}
+use Rattle.std.proofs.lemmas.Bool.{ltb-false, le-ltb}
+use Rattle.std.proofs.lemmas.List.{take_at, drop_at, take-append-drop, length-append, length-take}
 use Rattle.std.proofs.lemmas.Nat.{be_bytes_2, be_bytes_4, be_bytes_8, from_be_bytes-to_be_bytes_2, from_be_bytes-to_be_bytes_4, from_be_bytes-to_be_bytes_8}
 use Rattle.pc_types.specs.declared.refusal.Refusal.{Refusal}
 use Rattle.pc_types.specs.declared.refusal.Refusal.TheVariants.{Short, BadLength, BadMagic}
 use Rattle.pc_types.specs.Limits.{IsKey, IsValue}
-use Rattle.pc_types.specs.declared.formats.Format.{Format}
-use Rattle.pc_types.specs.declared.formats.Format.TheVariants.{First, Second}
-use Rattle.pc_types.specs.Fields.{◌>>=◌, where_true, bytes_at, number_at, format_told, magic_at, sized_key_at, key_at, value_at, content_at, sized_key_text, key_text_in, HasKey, space_bytes, key_behind, value_text, content_text}
-use Rattle.pc_types.specs.FieldForms.{IsBytes, TakesText, IsWide}
-
-pub IsBytes-drop : (n : ℕ) (bytes : List ℕ) → IsBytes bytes → IsBytes (drop n bytes)
-IsBytes-drop n bytes h i = rw get_or-drop (h (n + i))
-
-pub IsBytes-take : (n : ℕ) (bytes : List ℕ) → IsBytes bytes → IsBytes (take n bytes)
-IsBytes-take n bytes h i =
-    elim (cases_lt i n) [
-      | inl lt ↦ rw (get_or-take n bytes i 0 lt) (h i)
-      | inr le ↦ rw (get_or_past (take n bytes) i 0 (omega (arith, length-take n bytes))) (omega arith)
-    ]
-
-pub IsBytes-rest : (b : ℕ) (bytes : List ℕ) → IsBytes (b ∷ bytes) → IsBytes bytes
-IsBytes-rest b bytes h i = h (suc i)
+use Rattle.pc_io.specs.declared.formats.Format.{Format}
+use Rattle.pc_io.specs.declared.formats.Format.TheVariants.{First, Second}
+use Rattle.pc_io.specs.Fields.{◌>>=◌, where_true, bytes_at, number_at, format_told, magic_at, sized_key_at, key_at, value_at, content_at, sized_key_text, key_text_in, HasKey, space_bytes, key_behind, value_text, content_text}
+use Rattle.pc_types.specs.Bytes.{IsBytes}
+use Rattle.pc_io.specs.FieldForms.{TakesText, IsWide}
+use Rattle.pc_types.proofs.ByteLaws.{IsBytes-drop, IsBytes-take, IsBytes-rest}
 
 -- the value of a step that did not fail
 pub bind_ok : {A B : Type 0} (r : Result A Refusal) (f : A → Result B Refusal) (y : B) → (r >>= f) ≡ Ok y → (x : A) × (r ≡ Ok x) × (f x ≡ Ok y)

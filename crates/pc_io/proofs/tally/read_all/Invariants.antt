@@ -1,7 +1,7 @@
 use Rattle.std.proofs.Common.{◌≡◌, ◌-◌, ◌^◌}
 use Rattle.std.specs.Prelude.{vec_len}
 use Rattle.std.specs.Io.KnownBytes.{Consumes}
-use Rattle.pc_types.proofs.tally.read_all.Given as goal
+use Rattle.pc_io.proofs.tally.read_all.Given as goal
 
 -- what was read so far was there, and nothing failed
 abbrev pub invariant-loop-bytes : goal.invariant-loop-bytes

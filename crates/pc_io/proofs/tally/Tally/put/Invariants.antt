@@ -1,6 +1,6 @@
 use Rattle.std.proofs.Common.{◌≡◌, length, ◌-◌, ◌≤◌, take}
 use Rattle.std.specs.Io.KnownBytes.{Appends}
-use Rattle.pc_types.proofs.tally.Tally.put.Given as goal
+use Rattle.pc_io.proofs.tally.Tally.put.Given as goal
 
 -- the bytes so far went out, and nothing failed
 abbrev pub invariant-loop-at : goal.invariant-loop-at

@@ -2,11 +2,11 @@
 use Rattle.std.proofs.Common.{◌≤◌, ◌<◌, ℕ, List, ◌++◌, length, get_or, take, Option, Result, Ok, Err, arith}
 use Rattle.std.specs.List.{flat_map}
 use Rattle.std.specs.Io.KnownBytes.{Appends}
-use Rattle.pc_types.specs.Tallies.{Puts}
-use Rattle.pc_types.specs.declared.tally.Tally.{Tally}
+use Rattle.pc_io.specs.Tallies.{Puts}
+use Rattle.pc_io.specs.declared.tally.Tally.{Tally}
 use Rattle.pc_types.specs.declared.refusal.Refusal.{Refusal}
-use Rattle.pc_types.proofs.KnownBytesLaws.{appends_then, part_longer, part_after}
-use Rattle.pc_types.proofs.Pieces.{stops_within}
+use Rattle.pc_io.proofs.KnownBytesLaws.{appends_then, part_longer, part_after}
+use Rattle.pc_io.proofs.Pieces.{stops_within}
 
 module _ {T : Type 0} (contents : T → Option (List ℕ)) where
   -- a text, and then another

@@ -5,8 +5,8 @@ use Rattle.std.specs.Int.{Width, w16, w32, byte_len, from_be_bytes, to_be_bytes}
 use Rattle.pc_types.specs.declared.refusal.Refusal.{Refusal}
 use Rattle.pc_types.specs.declared.refusal.Refusal.TheVariants.{OutOfMemory, Short, BadMagic, BadKind, BadLength}
 use Rattle.pc_types.specs.declared.limits.TheConstants.{SPACE_BYTES, MOST_KEY_BYTES, MOST_VALUE_BYTES}
-use Rattle.pc_types.specs.declared.formats.Format.{Format}
-use Rattle.pc_types.specs.declared.formats.Format.TheVariants.{First, Second}
+use Rattle.pc_io.specs.declared.formats.Format.{Format}
+use Rattle.pc_io.specs.declared.formats.Format.TheVariants.{First, Second}
 use Rattle.pc_types.specs.Keys.{space_of, own_bytes}
 
 -- the bytes of a key after the length of its own bytes: format 01 leaves its space out

@@ -1,6 +1,6 @@
 use Rattle.std.proofs.Common.{rules}
-use Rattle.pc_types.proofs.KnownBytesLaws.{appends_more}
-use Rattle.pc_types.proofs.tally.Tally.put.Goals as goal
+use Rattle.pc_io.proofs.KnownBytesLaws.{appends_more}
+use Rattle.pc_io.proofs.tally.Tally.put.Goals as goal
 
 pub loop-at-preserved : goal.loop-at-preserved
 loop-at-preserved g c = record {

@@ -1,7 +1,7 @@
 use Rattle.std.proofs.Common.{◌≡◌, take}
 use Rattle.std.specs.List.{flat_map}
 use Rattle.std.specs.Io.KnownBytes.{Appends}
-use Rattle.pc_types.proofs.tally.Tally.put_all.Given as goal
+use Rattle.pc_io.proofs.tally.Tally.put_all.Given as goal
 
 -- the pieces so far went out, and nothing failed
 abbrev pub invariant-loop-piece : goal.invariant-loop-piece

@@ -3,10 +3,10 @@ ghost use Rattle.std.specs.Prelude.{◌≡◌, ◌⊎◌, OnOk, IfOk, IfErr, IfS
 ghost use Rattle.std.specs.Io.{ReadsAtMost, WritesAtMost};
 ghost use Rattle.std.specs.Io.KnownBytes.{ReadConsumes, WriteAppends, Keeps, IsAtEnd};
 ghost use Rattle.std.specs.List.{flat_map};
-ghost use Rattle.pc_types.specs.Counted.{after_read, after_write, after_flush, HasRisen};
-ghost use Rattle.pc_types.specs.Tallies.{inner_of, failures_of, Puts};
+ghost use Rattle.pc_io.specs.Counted.{after_read, after_write, after_flush, HasRisen};
+ghost use Rattle.pc_io.specs.Tallies.{inner_of, failures_of, Puts};
 
-use crate::refusal::Refusal;
+use pc_types::Refusal;
 use std::alloc::Global;
 use std::io;
 use std::io::{Read, Write};

@@ -1,0 +1,4 @@
+pub mod Counted
+pub mod FieldForms
+pub mod Fields
+pub mod Tallies
