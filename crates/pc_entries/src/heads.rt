@@ -2,7 +2,7 @@
 ghost use Rattle.std.specs.Prelude.{◌≡◌, ◌≤◌, ◌<◌, ◌∷◌, length};
 ghost use Rattle.pc_types.specs.Bytes.{IsBytes};
 ghost use Rattle.pc_types.specs.Heads.{head, spelled};
-ghost use Rattle.pc_part.specs.Lent.{IsHead};
+ghost use Rattle.pc_entries.specs.Lent.{IsHead};
 
 use pc_types::SPACE_BYTES;
 
