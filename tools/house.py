@@ -27,8 +27,8 @@ FUNCTIONS, LINES, PARAMETERS, BODY, FILE, SMALL = 60, 1000, 6, 40, 800, 200
 # By what is counted: at most, and the goal.
 LIMITS = {
     "longest chain of crates": (13, 12),
-    "crates of more than 60 functions": (5, 0),
-    "crates of more than 1000 lines of code": (11, 0),
+    "crates of more than 60 functions": (4, 0),
+    "crates of more than 1000 lines of code": (10, 0),
     "crates of the product without a wrong body": (8, 0),
     "files of more than 800 lines": (0, 0),
     "functions of more than 40 lines": (1, 0),

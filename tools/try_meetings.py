@@ -17,7 +17,8 @@ An edit is written as those of crates/*/must-fail are, with its files named from
 - `test: CRATE NAME`: by the test, which must then fail, and passes as it stands.
 
 Each is tried on a copy of the repository with the libraries that are built in it, by `rt try` of the program or of the tests: a minute or more each. What was seen is noted in
-tools/meetings/tried: the body, its checksum, that of the sources of the crates that it changes and of the crate in which it is seen, and the date.
+tools/meetings/tried: the body, its checksum, that of the sources of the crates that it changes and of the crate in which it is seen, with the test crates
+that this one stands on, and the date.
 The status is 1 where a body changes nothing, ends without saying so, or isn't seen.
 """
 
@@ -31,6 +32,7 @@ import subprocess
 import sys
 import tempfile
 
+from gate_times import crates_of
 from try_bodies import linked
 
 ROOT = os.path.join(os.path.dirname(os.path.abspath(__file__)), "..")
@@ -68,7 +70,9 @@ def sums_of(name):
     """The checksum of the edit, and that of the sources that it changes, with those in which it is seen."""
     lines, found = lines_of(name), hashlib.sha256()
     changed = {rest.split("/")[0] for word, rest in lines if word == "file"}
-    for crate in sorted({*changed, crate_of(lines)}):
+    seen = crate_of(lines)
+    below = [it for it in crates_of().get(seen, ()) if it.startswith("test_")]
+    for crate in sorted({*changed, seen, *below}):
         for file in sorted(glob.glob(os.path.join(ROOT, "crates", crate, "src", "**", "*.rt"), recursive=True)):
             found.update(repr((os.path.relpath(file, ROOT), text_of(file))).encode())
     return hashlib.sha256(text_of(path_of(name)).encode()).hexdigest()[:6], found.hexdigest()[:12]

@@ -248,6 +248,14 @@ class Meetings(InFolder):
         self.assertEqual([name for name in try_meetings.bodies() if try_meetings.is_tried(name)], [])
         self.assertEqual(self.printed(try_meetings.tell, try_meetings.is_tried)[0], 1)
 
+    def test_the_text_has_the_test_crates_below(self):
+        with mock.patch.object(try_meetings, "crates_of", return_value={"test_threads": ["pc_high", "test_low"]}):
+            try_meetings.note("meet")
+            self.write("crates/pc_high/src/lib.rt", "a\n")
+            self.assertTrue(try_meetings.is_tried("meet"))
+            self.write("crates/test_low/src/lib.rt", "a\n")
+            self.assertFalse(try_meetings.is_tried("meet"))
+
     def test_a_body_is_known_as_long_as_it_stays(self):
         for name in ("meet", "work", "test"):
             self.assertEqual(self.printed(try_meetings.tell, try_meetings.is_known)[0], 1)

@@ -9,8 +9,9 @@ ghost use Rattle.pc_merge.specs.declared.limits.TheConstants.{MOST_INPUTS};
 ghost use Rattle.pc_collapse.specs.Merges.{AreAllPoints, IsCovered, entries_coming, entries_of_file, entries_standing, entries_within, file_coming};
 ghost use Rattle.pc_collapse.specs.Worth.{AreOfOneRun, IsCauseFor, JoinsToOne};
 
+use pc_entries::EntryText;
 use pc_merge::{Entries, MOST_INPUTS, merge_all};
-use pc_part::{EntryText, Part, Range, union_ranges};
+use pc_part::{Part, Range, union_ranges};
 use pc_taken::Pass;
 use pc_types::{Refusal, Triple};
 use std::alloc::{AllocError, Global};

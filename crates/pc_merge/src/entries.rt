@@ -4,7 +4,7 @@ ghost use Rattle.pc_types.specs.declared.refusal.Refusal.{Refusal};
 ghost use Rattle.pc_merge.specs.Coming.{Coming, GivesNext, GivesWithin, Standing, Stands};
 ghost use Rattle.pc_merge.specs.Lists.{all_of, list_coming, list_standing, list_within};
 
-use pc_part::EntryText;
+use pc_entries::EntryText;
 use pc_types::Refusal;
 use std::vec::IntoIter;
 

@@ -13,7 +13,7 @@ use crate::limits::MOST_INPUTS;
 use crate::newest::{advance, draw_firsts, newest_of};
 use crate::spare::Spare;
 use crate::tournament::Tournament;
-use pc_part::EntryText;
+use pc_entries::EntryText;
 use pc_types::{MOST_FILE_ENTRIES, Refusal, Triple};
 use std::alloc::{AllocError, Global};
 use std::marker::Model;

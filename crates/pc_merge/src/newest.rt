@@ -14,7 +14,7 @@ use crate::entries::Entries;
 use crate::order::{are_same, precedes};
 use crate::spare::Spare;
 use crate::tournament::Tournament;
-use pc_part::EntryText;
+use pc_entries::EntryText;
 use pc_types::Refusal;
 use std::alloc::Global;
 

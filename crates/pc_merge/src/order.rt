@@ -3,7 +3,7 @@ ghost use Rattle.std.specs.Prelude.{◌≡◌};
 ghost use Rattle.std.specs.Ordering.{is_lt};
 ghost use Rattle.pc_model.specs.Database.{key_cmp, same_bytes};
 
-use pc_part::EntryText;
+use pc_entries::EntryText;
 use std::cmp::Ordering;
 
 // The order of the entries' keys.
@@ -16,7 +16,7 @@ pub(crate) fn compare(one: &EntryText, other: &EntryText) -> Ordering
 // Whether the key of the one entry is less than that of the other: as their heads are if they differ, and otherwise by the
 // keys.
 #[inline(always)]
-#[tactic(auto, using(pc_part::proofs::LentLaws::heads_tell))]
+#[tactic(auto, using(pc_entries::proofs::LentLaws::heads_tell))]
 pub(crate) fn precedes(one: &EntryText, other: &EntryText) -> bool
     ensures { result ≡ is_lt (key_cmp one.now.key other.now.key) }
 {

@@ -4,7 +4,7 @@ ghost use Rattle.pc_merge.specs.Tournaments.{IsFree, IsLeast, at};
 
 use crate::limits::MOST_INPUTS;
 use crate::tree::{LAST_HEAD, head_at, leftmost, mend};
-use pc_part::EntryText;
+use pc_entries::EntryText;
 use std::alloc::{AllocError, Global};
 use std::marker::Model;
 use std::mem;

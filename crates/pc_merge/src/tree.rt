@@ -5,7 +5,7 @@ ghost use Rattle.pc_merge.specs.Trees.{AreHeads, AreNodes, HasBetter, HasPlaceBe
 
 use crate::limits::MOST_INPUTS;
 use crate::order::compare;
-use pc_part::EntryText;
+use pc_entries::EntryText;
 use std::alloc::{AllocError, Global};
 use std::cmp::Ordering;
 

@@ -6,7 +6,6 @@ mod JoinLemmas
 mod JoinedFiles
 mod JoinedLists
 pub mod LawfulParts
-pub mod LentLaws
 pub mod ListLaws
 pub mod LocalSteps
 mod Magics
@@ -17,7 +16,7 @@ mod PassedTexts
 pub mod RangePointLaws
 mod RangeUnions
 mod RangesOfPoints
-mod ReadFields
+pub mod ReadFieldLaws
 mod ReadLists
 mod ReadParts
 pub mod RefusalLaws

@@ -29,7 +29,7 @@ use Rattle.pc_part.proofs.PartTexts.{text_parts_in}
 use Rattle.pc_part.proofs.RangePointLaws.{ranges_of-points_of, contains-points_of}
 use Rattle.pc_part.proofs.RangesOfPoints.{as_ranges, ranges_apart, points_back}
 use Rattle.pc_part.proofs.ListLaws.{by_recursion}
-use Rattle.pc_part.proofs.ReadFields.{EntriesFrom}
+use Rattle.pc_part.proofs.ReadFieldLaws.{EntriesFrom}
 use Rattle.pc_part.proofs.ReadParts.{fields_text, IsPartFields, fields_take, fields_again}
 use Rattle.pc_part.proofs.RisingKeyLaws.{RisesFrom, keys_rise, rises_from_empty}
 

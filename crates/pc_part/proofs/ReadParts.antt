@@ -20,7 +20,7 @@ use Rattle.pc_part.specs.Reading.{ranges_at, entries_at, header_at, PartFields, 
 use Rattle.pc_part.specs.Texts.{part_magic, head_text_in, bounds_text, triple_text_in, end_text}
 use Rattle.pc_part.proofs.Magics.{part_magic_takes, part_magic_again}
 use Rattle.pc_part.proofs.PartTexts.{few_ranges}
-use Rattle.pc_part.proofs.ReadFields.{EntriesFrom, end_mark, ranges_take, ranges_again, entries_take, entries_again, few_entries}
+use Rattle.pc_part.proofs.ReadFieldLaws.{EntriesFrom, end_mark, ranges_take, ranges_again, entries_take, entries_again, few_entries}
 
 -- the text of a part's fields
 abbrev pub fields_text : Format → PartFields → List ℕ

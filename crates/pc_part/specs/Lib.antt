@@ -1,6 +1,5 @@
 pub mod Joins
 pub mod Lawful
-pub mod Lent
 pub mod Parts
 pub mod Reading
 pub mod RoundTrips

@@ -254,9 +254,9 @@ fn read_entry<'a>(
     Ok((point, content, rest))
 }
 
-// A point of one of the ranges.
+/// The point at the front of the bytes, which is in one of the ranges, and the bytes after it. Refuses with `Short` or `NotCovered`.
 #[tactic(auto, unfolding(crate::specs::Reading::point_at))]
-pub(crate) fn read_point<'a>(ranges: &[Range], bytes: &'a [u8]) -> Result<(u16, &'a [u8]), Refusal>
+pub fn read_point<'a>(ranges: &[Range], bytes: &'a [u8]) -> Result<(u16, &'a [u8]), Refusal>
     requires { RangesFrom 1 ranges.now }
     ensures { Reads (λ x. (x.0, x.1.now)) result (point_at ranges.now bytes.now) }
 {

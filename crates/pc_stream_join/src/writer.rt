@@ -7,8 +7,9 @@ ghost use Rattle.pc_io.specs.Tallies.{Puts};
 ghost use Rattle.pc_types.specs.declared.refusal.Refusal.{Refusal};
 ghost use Rattle.pc_stream_join.specs.Writing.{Ends, GoesOut, header_text};
 
+use pc_entries::EntryText;
 use pc_io::Tally;
-use pc_part::{EntryText, PartHeader, put_end, put_head, put_ranges};
+use pc_part::{PartHeader, put_end, put_head, put_ranges};
 use pc_types::{MOST_FILE_ENTRIES, Refusal};
 use std::alloc::Global;
 use std::io::Write;

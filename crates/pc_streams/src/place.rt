@@ -4,7 +4,7 @@ ghost use Rattle.std.specs.Int.{w32};
 ghost use Rattle.std.specs.Option.{option_map};
 ghost use Rattle.pc_io.specs.Counted.{one_more};
 ghost use Rattle.pc_io.specs.Fields.{number_at};
-ghost use Rattle.pc_part.specs.Lent.{IsHead};
+ghost use Rattle.pc_entries.specs.Lent.{IsHead};
 ghost use Rattle.pc_part.specs.Parts.{AreRanges};
 ghost use Rattle.pc_merge.specs.Coming.{GivesNext};
 ghost use Rattle.pc_streams.specs.Coming.{part_end_at};
@@ -14,7 +14,8 @@ ghost use Rattle.pc_streams.specs.Refusals.{IsReadRefusal};
 ghost use Rattle.pc_streams.specs.Sources.{text_left, tally_of};
 
 use crate::source::Source;
-use pc_part::{EntryText, PartHeader, Range};
+use pc_entries::EntryText;
+use pc_part::{PartHeader, Range};
 use pc_types::Refusal;
 use std::alloc::{AllocError, Global};
 use std::io::Read;
@@ -33,7 +34,7 @@ pub(crate) struct Place {
 }
 
 impl Model for Place {
-    ghost use Rattle.pc_part.specs.Lent.{IsHead};
+    ghost use Rattle.pc_entries.specs.Lent.{IsHead};
     ghost use Rattle.pc_part.specs.Parts.{AreRanges};
     ghost use Rattle.pc_streams.specs.Places.{Place};
 

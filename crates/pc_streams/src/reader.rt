@@ -14,9 +14,10 @@ ghost use Rattle.pc_streams.specs.Readers.{coming_of, header_of, refused_of, cou
 use crate::kept::KeptRefusal;
 use crate::place::Place;
 use crate::source::Source;
+use pc_entries::EntryText;
 use pc_io::Tally;
 use pc_merge::Entries;
-use pc_part::{EntryText, Range};
+use pc_part::Range;
 use pc_types::Refusal;
 use std::alloc::Global;
 use std::io::Read;

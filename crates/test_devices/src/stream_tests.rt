@@ -1,8 +1,9 @@
 //! A part's text, read piece by piece, by readers that give few bytes or fail.
 use crate::tape::Tape;
+use pc_entries::EntryText;
 use pc_io::Tally;
 use pc_merge::Entries;
-use pc_part::{EntryText, Part};
+use pc_part::Part;
 use pc_streams::PartReader;
 use pc_types::{Refusal, SPACE_BYTES};
 use std::alloc::{AllocError, Global};

@@ -1,7 +1,8 @@
 //! Tests of merges, by tables, and compared with the join of files by twos.
 
+use pc_entries::EntryText;
 use pc_merge::{Entries, EntryList, MOST_INPUTS, Merge, merge_all};
-use pc_part::{EntryText, Part, join};
+use pc_part::{Part, join};
 use pc_taken::LentTriple;
 use pc_types::{Key, Point, Refusal, SPACE_BYTES, Triple, Value};
 use std::alloc::Global;

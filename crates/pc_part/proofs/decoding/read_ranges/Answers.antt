@@ -1,7 +1,7 @@
 use Rattle.std.proofs.Common.{arith}
 use Rattle.std.proofs.lemmas.Result.{err_from_is_err_and}
 use Rattle.pc_part.proofs.ItemLaws.{items_go_on, items_stop, items_done}
-use Rattle.pc_part.proofs.ReadFields.{ranges_take}
+use Rattle.pc_part.proofs.ReadFieldLaws.{ranges_take}
 use Rattle.pc_part.proofs.decoding.read_ranges.Goals as goal
 
 pub returns-in_err-low-clause-read : goal.returns-in_err-low-clause-read

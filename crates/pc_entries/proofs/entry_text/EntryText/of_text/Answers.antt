@@ -1,8 +1,8 @@
 use Rattle.std.proofs.Common.{◌≡◌, ◌-◌, take, drop, ap, ◌∙◌, subst}
 use Rattle.pc_types.specs.Bytes.{IsBytes}
 use Rattle.pc_types.specs.Heads.{head}
-use Rattle.pc_part.proofs.LentLaws.{key_slice}
-use Rattle.pc_part.proofs.entry_text.EntryText.of_text.Goals as goal
+use Rattle.pc_entries.proofs.LentLaws.{key_slice}
+use Rattle.pc_entries.proofs.entry_text.EntryText.of_text.Goals as goal
 
 pub invariant_of-result : goal.invariant_of-result
 invariant_of-result c =

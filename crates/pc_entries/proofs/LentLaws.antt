@@ -17,10 +17,10 @@ use Rattle.pc_types.proofs.HeadLaws.{by_heads}
 use Rattle.pc_model.specs.Database.{key_cmp}
 use Rattle.pc_part.specs.declared.ranges.Range.{Range}
 use Rattle.pc_part.specs.Lawful.{HasLimits}
-use Rattle.pc_part.specs.Lent.{IsEntryIn, IsHead, IsKept, content_behind, entry_in}
+use Rattle.pc_entries.specs.Lent.{IsEntryIn, IsHead, IsKept, content_behind, entry_in}
 use Rattle.pc_part.specs.Reading.{next_entry_at}
 use Rattle.pc_part.specs.Texts.{triple_text, triple_text_in}
-use Rattle.pc_part.proofs.ReadFields.{next_entry_takes}
+use Rattle.pc_part.proofs.ReadFieldLaws.{next_entry_takes}
 
 -- ---- what was read
 

@@ -3,8 +3,8 @@ use Rattle.std.specs.Option.{option_map}
 use Rattle.pc_io.specs.Fields.{key_behind}
 use Rattle.pc_types.specs.declared.Triple.{Triple}
 use Rattle.pc_part.specs.Reading.{next_entry_at}
-use Rattle.pc_part.proofs.LentLaws.{text_read}
-use Rattle.pc_part.proofs.lent_entry.lend_next_entry.Goals as goal
+use Rattle.pc_entries.proofs.LentLaws.{text_read}
+use Rattle.pc_entries.proofs.lent_entry.lend_next_entry.Goals as goal
 
 pub slice_bounds-text-count : goal.slice_bounds-text-count
 unfolding next_entry_at

@@ -6,14 +6,13 @@ ghost use Rattle.pc_io.specs.Fields.{Reads, content_at, key_behind, value_at};
 ghost use Rattle.pc_types.specs.Limits.{IsKey};
 ghost use Rattle.pc_types.specs.declared.refusal.Refusal.TheVariants.{Short};
 ghost use Rattle.pc_model.specs.Database.{key_cmp};
-ghost use Rattle.pc_part.specs.Lent.{IsHead};
+ghost use Rattle.pc_entries.specs.Lent.{IsHead};
 ghost use Rattle.pc_part.specs.Parts.{RangesFrom};
 ghost use Rattle.pc_part.specs.Reading.{entry_at, next_entry_at, next_key_at};
 
-use crate::decoding::read_point;
 use crate::heads::head_in_space_0;
-use crate::ranges::Range;
 use pc_io::{Format, read_bytes, read_key_text, read_u16, read_u32};
+use pc_part::{Range, read_point};
 use pc_types::{MOST_VALUE_BYTES, Refusal, head_of};
 use std::marker::Model;
 
@@ -33,7 +32,7 @@ impl<'a> Model for LentEntry<'a> {
     ghost use Rattle.std.specs.Prelude.{option_map};
     ghost use Rattle.pc_io.specs.Fields.{key_behind};
     ghost use Rattle.pc_types.specs.declared.Triple.{Triple};
-    ghost use Rattle.pc_part.specs.Lent.{IsEntryIn};
+    ghost use Rattle.pc_entries.specs.Lent.{IsEntryIn};
 
     ghost Value = { Triple };
 
@@ -46,7 +45,7 @@ impl<'a> Model for LentEntry<'a> {
 /// the bytes after it. The entry is borrowed. The last key is given by its space's two bytes and its own after them, and by its
 /// head; if it is empty, its head is 0, and each key comes after it. It allocates no memory. Refuses with `Short`, `BadLength`,
 /// `KeyOrder`, `NotCovered` or `BadKind`, the first fault from the left.
-#[tactic(auto, unfolding(crate::specs::Reading::next_entry_at))]
+#[tactic(auto, unfolding(pc_part::specs::Reading::next_entry_at))]
 #[inline(always)]
 pub fn lend_next_entry<'a>(
     format: Format,
@@ -77,7 +76,7 @@ pub fn lend_next_entry<'a>(
 }
 
 // The bytes after the length of a key with the given number of bytes of its own that comes after the last one.
-#[tactic(auto, unfolding(crate::specs::Reading::next_key_at))]
+#[tactic(auto, unfolding(pc_part::specs::Reading::next_key_at))]
 #[inline(always)]
 fn lend_next_key<'a>(
     format: Format,
@@ -147,7 +146,7 @@ fn comes_after_in_space_0(own: &[u8], last: &[u8]) -> bool
 }
 
 // The point of a key's entry, and the value that the key had there, if there was one.
-#[tactic(auto, unfolding(crate::specs::Reading::entry_at))]
+#[tactic(auto, unfolding(pc_part::specs::Reading::entry_at))]
 #[inline(always)]
 fn lend_entry<'a>(
     ranges: &[Range],

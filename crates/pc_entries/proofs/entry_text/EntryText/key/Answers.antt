@@ -1,6 +1,6 @@
 use Rattle.std.proofs.Common.{◌≡◌, take, drop, ◌∙◌, rules}
-use Rattle.pc_part.proofs.LentLaws.{key_slice}
-use Rattle.pc_part.proofs.entry_text.EntryText.key.Goals as goal
+use Rattle.pc_entries.proofs.LentLaws.{key_slice}
+use Rattle.pc_entries.proofs.entry_text.EntryText.key.Goals as goal
 
 pub returns-clause-bytes : goal.returns-clause-bytes
 returns-clause-bytes c =

@@ -1,7 +1,7 @@
 use Rattle.std.proofs.Common.{◌≡◌, ◌∙◌, rules}
 use Rattle.pc_part.specs.Texts.{triple_text}
-use Rattle.pc_part.proofs.LentLaws.{is_kept, shown}
-use Rattle.pc_part.proofs.entry_text.EntryText.of.Goals as goal
+use Rattle.pc_entries.proofs.LentLaws.{is_kept, shown}
+use Rattle.pc_entries.proofs.entry_text.EntryText.of.Goals as goal
 
 pub of_text-kept-requires : goal.of_text-kept-requires
 of_text-kept-requires c =

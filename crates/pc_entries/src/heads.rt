@@ -1,6 +1,6 @@
 //! The head of a key of space 0.
 ghost use Rattle.std.specs.Prelude.{◌∷◌};
-ghost use Rattle.pc_part.specs.Lent.{IsHead};
+ghost use Rattle.pc_entries.specs.Lent.{IsHead};
 
 use pc_types::first_eight;
 

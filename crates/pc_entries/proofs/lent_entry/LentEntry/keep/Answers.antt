@@ -1,6 +1,6 @@
 use Rattle.std.proofs.Common.{◌≡◌, ◌∙◌, rules}
-use Rattle.pc_part.proofs.LentLaws.{is_kept, shown}
-use Rattle.pc_part.proofs.lent_entry.LentEntry.keep.Goals as goal
+use Rattle.pc_entries.proofs.LentLaws.{is_kept, shown}
+use Rattle.pc_entries.proofs.lent_entry.LentEntry.keep.Goals as goal
 
 pub of_text-kept-requires : goal.of_text-kept-requires
 of_text-kept-requires c =

@@ -4,12 +4,12 @@ ghost use Rattle.pc_types.specs.Bytes.{IsBytes};
 ghost use Rattle.pc_types.specs.Heads.{head};
 ghost use Rattle.pc_types.specs.Limits.{IsKey};
 ghost use Rattle.pc_part.specs.Lawful.{HasLimits};
-ghost use Rattle.pc_part.specs.Lent.{IsKept, entry_in};
+ghost use Rattle.pc_entries.specs.Lent.{IsKept, entry_in};
 ghost use Rattle.pc_part.specs.Texts.{triple_text};
 
-use crate::encoding::put_entry;
 use crate::lent_entry::LentEntry;
 use pc_io::{Format, Tally};
+use pc_part::put_entry;
 use pc_taken::LentTriple;
 use pc_types::{Key, Point, SPACE_BYTES, Triple, Value, head_of, pairs_are_keys};
 use std::alloc::{AllocError, Global};
@@ -31,7 +31,7 @@ pub struct EntryText {
 
 impl Model for EntryText {
     ghost use Rattle.pc_types.specs.declared.Triple.{Triple};
-    ghost use Rattle.pc_part.specs.Lent.{IsHead, IsKept, entry_in};
+    ghost use Rattle.pc_entries.specs.Lent.{IsHead, IsKept, entry_in};
 
     ghost Value = { Triple };
 
