@@ -27,16 +27,16 @@ FUNCTIONS, LINES, PARAMETERS, BODY, FILE, SMALL = 60, 1000, 6, 40, 800, 200
 # By what is counted: at most, and the goal.
 LIMITS = {
     "longest chain of crates": (13, 12),
-    "crates of more than 60 functions": (4, 0),
-    "crates of more than 1000 lines of code": (10, 0),
+    "crates of more than 60 functions": (3, 0),
+    "crates of more than 1000 lines of code": (9, 0),
     "crates of the product without a wrong body": (8, 0),
     "files of more than 800 lines": (0, 0),
     "functions of more than 40 lines": (1, 0),
     "functions of more than 6 parameters": (27, 6),
     "lines of proof for 100 of code": (225, 225),
     "the same of the worst crate": (1_114, 700),
-    "lower-case words of definitions with two homes": (118, 15),
-    "types and facts of definitions with two homes": (35, 10),
+    "lower-case words of definitions with two homes": (7, 7),
+    "types and facts of definitions with two homes": (0, 0),
     "words of the pages": (30_000, 30_000),
     "words to avoid": (100, 100),
 }

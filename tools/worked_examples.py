@@ -33,7 +33,7 @@ import sys
 TOOLS = pathlib.Path(__file__).resolve().parent
 CRATE = TOOLS.parent / 'crates' / 'test_model'
 UNFOLDING = 'unfolding map_of.empty map_of.get map_of.insert map_of.remove'
-NUMBERS = ' number_text number_in number_of'
+NUMBERS = ' number_text value_number content_number'
 BY_SESSION = {'begin': 'Begin', 'commit': 'Commit', 'abort': 'Abort'}
 ALONE = {'point': 'StartPoint', 'seal': 'Seal', 'capture': 'OpenCapture', 'take': 'Take', 'done': 'Done', 'rest': 'Rest'}
 LIMITS = {'capacity': 'with_room_for', 'sessions': 'with_sessions'}
@@ -279,7 +279,7 @@ use Rattle.pc_types.specs.declared.Phase.TheVariants.{Rest, Prepare, Resolve, Ca
 use Rattle.pc_types.specs.declared.Event.TheVariants as asked
 use Rattle.pc_types.specs.declared.Reply.TheVariants as told
 use Rattle.pc_types.specs.declared.Refusal.TheVariants as why
-use Rattle.pc_types.specs.Changes.{number_text, number_in, number_of}
+use Rattle.pc_types.specs.Changes.{number_text, value_number, content_number}
 use Rattle.pc_model.specs.Maps as map_of
 use Rattle.pc_model.specs.Database.{same_bytes}
 use Rattle.test_model.specs.Examples.{plain, holding, with_room_for, with_sessions, has, lacks, RunsTo, LaysTo, Lacks, HasLog, IsQuietRun, IsNoQuietRun, IsIllegal, a, a_in_7, b, k, n, t, x, y, z, v1, v2, v3, v4, v5, v6, v7, v8, v9, seven, nine}

@@ -12,9 +12,9 @@ abbrev pub padded : {X : Type 0} → ℕ → List (Option X) → List (Option X)
 padded n xs = xs ++ replicate n None
 
 -- the slot of the number if a link leads to one, else none
-abbrev pub link_in : Bool → ℕ → Option ℕ
-link_in true next = Some next
-link_in false next = None
+abbrev pub slot_if_linked : Bool → ℕ → Option ℕ
+slot_if_linked true next = Some next
+slot_if_linked false next = None
 
 module _ {T : Type 0} where
   -- the record of a cell, if it has one
@@ -24,8 +24,8 @@ module _ {T : Type 0} where
 
   -- where a cell leads
   abbrev pub link_of : ArenaCell T → Option ℕ
-  link_of (Free leads next) = link_in leads next
-  link_of (Taken leads next item) = link_in leads next
+  link_of (Free leads next) = slot_if_linked leads next
+  link_of (Taken leads next item) = slot_if_linked leads next
 
   -- the cell with another record
   abbrev pub with_record : ArenaCell T → T → ArenaCell T

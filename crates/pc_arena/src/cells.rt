@@ -1,7 +1,7 @@
 //! Cells: what a slot keeps.
 ghost use Rattle.std.specs.Prelude.{◌≡◌, ◌≢◌, ◌<◌, ℕ, length, vec_capacity};
 ghost use Rattle.pc_chain.specs.Slots.{at};
-ghost use Rattle.pc_arena.specs.Cells.{link_in, links_of, items_of};
+ghost use Rattle.pc_arena.specs.Cells.{slot_if_linked, links_of, items_of};
 
 use pc_chain::Links;
 use pc_types::SlotId;
@@ -116,14 +116,14 @@ impl<T: Drop> ArenaCell<T> {
 
 // The slot of the number, where the link leads to one.
 fn slot_where(leads: bool, next: u32) -> Option<SlotId>
-    ensures { result ≡ link_in leads next }
+    ensures { result ≡ slot_if_linked leads next }
 {
     if leads { Some(SlotId(next)) } else { None }
 }
 
 // Whether the link leads to a slot, and to which; the number means nothing if it doesn't.
 fn words_of(link: Option<SlotId>) -> (bool, u32)
-    ensures { link_in result.0 result.1 ≡ link }
+    ensures { slot_if_linked result.0 result.1 ≡ link }
 {
     match link {
         Some(SlotId(slot)) => (true, slot),

@@ -21,7 +21,7 @@ use Rattle.pc_model.proofs.PairMapLaws.{same_database}
 use Rattle.pc_model.proofs.JoinLaws.{get_put}
 use Rattle.pc_model.proofs.KeyTreeLaws.{find-lookup}
 use Rattle.pc_audit.specs.Tables.{is_mark}
-use Rattle.pc_audit.specs.Tables.{IsWithin}
+use Rattle.pc_audit.specs.Tables.{IsContainedIn}
 use Rattle.pc_replay.proofs.TreeLemmas.{found_too, same_at}
 
 -- ---- maps
@@ -45,7 +45,7 @@ abbrev has : Database → List ℕ × List ℕ → Bool
 has n e = same_content (Some e.1) (get n e.0)
 
 -- if all entries are had, so is what the first database has of any key
-pub all_within : (es : List (List ℕ × List ℕ)) (n : Database) → list_all (has n) es ≡ true → IsWithin (database_of es) n
+pub all_within : (es : List (List ℕ × List ℕ)) (n : Database) → list_all (has n) es ≡ true → IsContainedIn (database_of es) n
 all_within es n all q v there = found_too es n q v all (sym (get-from_list key_order es q) ∙ there)
 
 -- entries of distinct keys are each found
@@ -60,7 +60,7 @@ own_found (e ∷ es) once = (ap (λ b. cond b (Some e.1) (find key_cmp e.0 es)) 
         (ap (λ b. cond b (Some e.1) (find key_cmp x.0 es)) ((eq_by_cmp_equiv key_order.total).symm x.0 e.0 ∙ apart.0) ∙ found.0, later xs apart.1 found.1)
 
 -- if the second database has all of the first, it has each entry
-pub within_all : (es : List (List ℕ × List ℕ)) (n : Database) → IsDistinct same_bytes (keys_of es) → IsWithin (database_of es) n → list_all (has n) es ≡ true
+pub within_all : (es : List (List ℕ × List ℕ)) (n : Database) → IsDistinct same_bytes (keys_of es) → IsContainedIn (database_of es) n → list_all (has n) es ≡ true
 within_all es n once within = each es (own_found es once)
   where
     each : (xs : List (List ℕ × List ℕ)) → AllByRecursion (λ x. find key_cmp x.0 es ≡ Some x.1) xs → list_all (has n) xs ≡ true
@@ -70,7 +70,7 @@ within_all es n once within = each es (own_found es once)
         ∙ ap (λ b. b && list_all (has n) xs) ((eq_by_cmp_equiv key_order.total).refl x.1) ∙ each xs found.1
 
 -- databases of which each has what the other has are one
-pub same_within : (m n : Database) → IsWithin m n → IsWithin n m → m ≡ n
+pub same_within : (m n : Database) → IsContainedIn m n → IsContainedIn n m → m ≡ n
 same_within m n first second = same_database m n (λ q. same_at (get m q) (get n q) (λ v there. first q v there) (λ v there. second q v there))
 
 -- ---- entries

@@ -7,8 +7,8 @@ use Rattle.pc_model.specs.Database.{Database}
 use Rattle.pc_model.specs.Log.{is_token_of}
 
 -- what the first database has of a key, the second has
-abbrev pub IsWithin : Database → Database → Type 0
-IsWithin m n = (key value : List ℕ) → get m key ≡ Some value → get n key ≡ Some value
+abbrev pub IsContainedIn : Database → Database → Type 0
+IsContainedIn m n = (key value : List ℕ) → get m key ≡ Some value → get n key ≡ Some value
 
 -- the entry is the point's token
 abbrev pub is_mark : ℕ → Entry → Bool

@@ -9,7 +9,7 @@ ghost use Rattle.pc_model.specs.Log.{after};
 ghost use Rattle.pc_model.specs.Files.{same_content};
 ghost use Rattle.pc_kept_log.specs.Logs.{entries_of};
 ghost use Rattle.pc_replay.specs.Laying.{laid_in_turn};
-ghost use Rattle.pc_audit.specs.Tables.{IsWithin};
+ghost use Rattle.pc_audit.specs.Tables.{IsContainedIn};
 
 use pc_kept_log::{LentWrites, Log};
 use pc_types::{Change, Key, Point, Triple, Value, Write, sum};
@@ -182,7 +182,7 @@ impl Table {
 
     // Whether the other database has each pair of this one.
     fn is_within(&self, other: &Table) -> bool
-        ensures { IsTrue result ↔ IsWithin self.now other.now }
+        ensures { IsTrue result ↔ IsContainedIn self.now other.now }
     {
         all_in(&self.pairs, other)
     }

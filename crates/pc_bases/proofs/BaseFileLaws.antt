@@ -21,7 +21,7 @@ use Rattle.pc_model.specs.Database.{KeysRise, database_of}
 use Rattle.pc_model.specs.Files.{BaseFile}
 use Rattle.pc_model.proofs.PairMapLaws as pairs_of
 use Rattle.pc_part.specs.Parts.{IsWithinLimit}
-use Rattle.pc_bases.specs.Lawful.{IsPair, IsBaseFile, HasBase, IsBaseText}
+use Rattle.pc_bases.specs.Lawful.{IsPair, IsBaseFile, HasBaseText, IsBaseText}
 use Rattle.pc_bases.specs.Reading.{pairs_at, BaseFields, base_fields_at, base_of_fields, base_at}
 use Rattle.pc_bases.specs.Texts.{base_magic, base_head_text_in, pair_text_in, base_text_in}
 use Rattle.pc_bases.proofs.BaseTexts.{base_parts_in, base_lawful}
@@ -153,7 +153,7 @@ module _ (format : Format) (x : BaseFields) (lawful : IsBaseFields format x) whe
   of_fields_lawful : IsBaseFile (base_of_fields x)
   of_fields_lawful = base_lawful (base_of_fields x) x.run x.point x.pairs refl refl fields_rise refl lawful.run lawful.point lawful.limit (All-from_recursion IsPair x.pairs (pairs_fit format [] x.pairs lawful.pairs))
 
-  of_fields_has : HasBase format (base_of_fields x)
+  of_fields_has : HasBaseText format (base_of_fields x)
   of_fields_has = subst (All (λ (pair : Pair). HasKey format pair.0)) (sym (pairs_of.entries_of x.pairs fields_rise)) (All-from_recursion (λ (pair : Pair). HasKey format pair.0) x.pairs (pairs_have format [] x.pairs lawful.pairs))
 
   of_fields_text : fields_text format x ≡ base_text_in format (base_of_fields x)
@@ -173,7 +173,7 @@ keys_fit : (pairs : List Pair) → AllByRecursion IsPair pairs → AllByRecursio
 keys_fit [] fit = tt
 keys_fit (p ∷ pairs) fit = (fit.0.0, keys_fit pairs fit.1)
 
-module _ (format : Format) (base : BaseFile) (lawful : IsBaseFile base) (has : HasBase format base) where
+module _ (format : Format) (base : BaseFile) (lawful : IsBaseFile base) (has : HasBaseText format base) where
   abbrev fields_of : BaseFields
   fields_of = record { run = base.run; point = base.point; pairs = base.pairs.entries }
 

@@ -8,7 +8,7 @@ use Rattle.pc_model.specs.Files.{BaseFile}
 use Rattle.pc_model.proofs.PairMapLaws as pairs_of
 use Rattle.pc_part.specs.Parts.{IsWithinLimit}
 use Rattle.pc_bases.specs.Lawful.{IsPair, IsBaseFile}
-use Rattle.pc_bases.specs.Texts.{base_head_text, base_head_text_in, pair_text, pair_text_in, base_text, base_text_in}
+use Rattle.pc_bases.specs.Texts.{base_head_text, base_head_text_in, base_pair_text, pair_text_in, base_text, base_text_in}
 
 module _ (base : BaseFile) (run point : ℕ) (pairs : List (List ℕ × List ℕ)) (same_run : run ≡ base.run) (same_point : point ≡ base.point) (rise : KeysRise pairs) (same_pairs : database_of pairs ≡ base.pairs) where
   entries_are : base.pairs.entries ≡ pairs
@@ -20,7 +20,7 @@ module _ (base : BaseFile) (run point : ℕ) (pairs : List (List ℕ × List ℕ
   base_parts_in format = rw (same_run, same_point, entries_are) refl
 
   -- the same of what is written
-  pub base_parts : base_head_text run point (length pairs) ++ flat_map pair_text pairs ≡ base_text base
+  pub base_parts : base_head_text run point (length pairs) ++ flat_map base_pair_text pairs ≡ base_text base
   base_parts = base_parts_in Second
 
   -- pairs within their limits make a valid base

@@ -8,7 +8,7 @@ use Rattle.pc_io.proofs.FieldLaws.{bind_ok}
 use Rattle.pc_io.specs.declared.formats.Format.{Format}
 use Rattle.pc_io.specs.declared.formats.Format.TheVariants.{First, Second}
 use Rattle.pc_model.specs.Files.{BaseFile}
-use Rattle.pc_bases.specs.Lawful.{IsBaseFile, HasBase}
+use Rattle.pc_bases.specs.Lawful.{IsBaseFile, HasBaseText}
 use Rattle.pc_bases.specs.Reading.{pair_at, BaseFields, base_fields_at, base_of_fields, base_at}
 use Rattle.pc_bases.specs.Texts.{base_magic, base_text_in}
 use Rattle.pc_bases.proofs.BaseFileLaws.{base_again}
@@ -35,7 +35,7 @@ fields_cut bytes byte rest =
     cut_then _ _ _ _ _ _ (items_cut _ _ more (λ last left. pair_cut format last left more) count [] r3) (λ pairs r4.
     cut_end r4 byte rest _ _))))))
 
-pub base_cut : (format : Format) (base : BaseFile) (n : ℕ) → IsBaseFile base → HasBase format base → n < length (base_text_in format base) → base_at (take n (base_text_in format base)) ≡ Err Short
+pub base_cut : (format : Format) (base : BaseFile) (n : ℕ) → IsBaseFile base → HasBaseText format base → n < length (base_text_in format base) → base_at (take n (base_text_in format base)) ≡ Err Short
 base_cut format base n lawful has lt =
     let text = base_text_in format base in
     let x = bind_ok (base_fields_at text) (λ fields. Ok (base_of_fields fields)) base (base_again format base lawful has) in

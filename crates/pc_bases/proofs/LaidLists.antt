@@ -7,7 +7,7 @@ use Rattle.pc_types.specs.declared.Triple.{Triple}
 use Rattle.pc_model.specs.Maps as map_of
 use Rattle.pc_model.specs.Database.{database_of, key_cmp, key_order, KeysRise}
 use Rattle.pc_model.specs.Points.{AtPoint, laid_at, laid}
-use Rattle.pc_model.specs.TripleLists.{entries_of, triples_of}
+use Rattle.pc_model.specs.TripleLists.{map_entries, triples_of}
 use Rattle.pc_model.proofs.MapLaws.{get-from_list}
 use Rattle.pc_model.proofs.PairMapLaws as pair_maps
 use Rattle.pc_model.proofs.JoinLaws.{get-laid}
@@ -22,11 +22,11 @@ abbrev pub Pair : Type 0
 Pair = List ℕ × List ℕ
 
 abbrev pub lays : ℕ → List Pair → List Triple → List Pair
-lays point pairs triples = merged (laid_there point) pairs (entries_of triples)
+lays point pairs triples = merged (laid_there point) pairs (map_entries triples)
 
 -- the pairs and triples, key by key
 abbrev pub laid_items : List Pair → List Triple → List (EitherOrBoth Pair (List ℕ × AtPoint))
-laid_items pairs triples = items pairs (entries_of triples)
+laid_items pairs triples = items pairs (map_entries triples)
 
 -- what is laid of the items from one on
 abbrev pub lays_from : ℕ → List Pair → List Triple → ℕ → List Pair
@@ -50,17 +50,17 @@ module _ (point : ℕ) (pairs : List Pair) (triples : List Triple) (n : ℕ) (en
   all_laid out so_far = gathered_all (laid_there point) (laid_items pairs triples) n out _ end so_far
 
 -- what is laid so is laid as the definition says
-module _ (point : ℕ) (pairs : List Pair) (triples : List Triple) (rise_p : KeysRise pairs) (rise_t : KeysRise (entries_of triples)) where
-  the_lay : Merges (laid_there point) pairs (entries_of triples) (lays point pairs triples)
-  the_lay = merges (laid_there point) refl pairs (entries_of triples) rise_p rise_t
+module _ (point : ℕ) (pairs : List Pair) (triples : List Triple) (rise_p : KeysRise pairs) (rise_t : KeysRise (map_entries triples)) where
+  the_lay : Merges (laid_there point) pairs (map_entries triples) (lays point pairs triples)
+  the_lay = merges (laid_there point) refl pairs (map_entries triples) rise_p rise_t
 
   pub lay_rises : KeysRise (lays point pairs triples)
   lay_rises = the_lay.rise
 
   lay_map : database_of (lays point pairs triples) ≡ laid (database_of pairs) point (triples_of triples)
   lay_map = pair_maps.same_database _ _ (λ q. get-from_list key_order (lays point pairs triples) q ∙ the_lay.finds q
-      ∙ ap (λ x. laid_at x point (find key_cmp q (entries_of triples))) (sym (get-from_list key_order pairs q))
-      ∙ ap (laid_at (map_of.get (database_of pairs) q) point) (sym (get-from_list key_order (entries_of triples) q))
+      ∙ ap (λ x. laid_at x point (find key_cmp q (map_entries triples))) (sym (get-from_list key_order pairs q))
+      ∙ ap (laid_at (map_of.get (database_of pairs) q) point) (sym (get-from_list key_order (map_entries triples) q))
       ∙ sym (get-laid (database_of pairs) point (triples_of triples) q))
 
   pub laid_list : (out : List Pair) → out ≡ lays point pairs triples → database_of out ≡ laid (database_of pairs) point (triples_of triples)

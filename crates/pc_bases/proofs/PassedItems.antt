@@ -17,7 +17,7 @@ use Rattle.itertools.proofs.TwoLemmas.{YieldsList-from_front_of_both}
 use denote.Param.Members.{Mut}
 use Rattle.pc_types.specs.declared.Triple.{Triple}
 use Rattle.pc_model.specs.Database.{key_cmp}
-use Rattle.pc_model.specs.TripleLists.{entry_of, entries_of}
+use Rattle.pc_model.specs.TripleLists.{entry_of, map_entries}
 use Rattle.pc_model.proofs.MergeItemLaws.{items}
 
 -- each run of an iterator over two sources gives what the order of its closure makes of the items of both, whatever these are
@@ -77,7 +77,7 @@ all_to_come xs is = YieldsList-from_first (λ t. t) (λ s. s) xs is
 -- one over borrowed pairs and a pass gives the items of the pairs and of the triples
 pub items_of_pairs : {S T U F : Type 0} {steps : U → Option (EitherOrBoth (Bor (List ℕ × List ℕ)) Triple) → U → Type 0} {firsts : S → Option (Bor (List ℕ × List ℕ)) → S → Type 0} {seconds : T → Option Triple → T → Type 0} {s t : U} {x : S} {y : T} {xs : List (List ℕ × List ℕ)} {ys : List Triple}
     (call : Mut F (Bor (Bor (List ℕ × List ℕ)) × (Bor Triple × ⊤)) Ordering) (compare : F) → t ≡ s → MergesByOrder steps s firsts x seconds y call compare → ActsAsAtBoth call compare (by_key (λ pair. pair.now) entry_of)
-    → YieldsList firsts (λ a. a.now) x xs → YieldsList seconds (λ b. b) y ys → YieldsList steps (entries_in (λ pair. pair.now) entry_of) t (items xs (entries_of ys))
+    → YieldsList firsts (λ a. a.now) x xs → YieldsList seconds (λ b. b) y ys → YieldsList steps (entries_in (λ pair. pair.now) entry_of) t (items xs (map_entries ys))
 items_of_pairs call compare same runs acts =
-    YieldsList-from_front_of_both (entries_in (λ pair. pair.now) entry_of) (merge_join_by (by_key (λ pair. pair.now) entry_of)) (λ us vs. items us (entries_of vs)) ref_to (λ b. b) (λ _. refl) (λ _. refl)
+    YieldsList-from_front_of_both (entries_in (λ pair. pair.now) entry_of) (merge_join_by (by_key (λ pair. pair.now) entry_of)) (λ us vs. items us (map_entries vs)) ref_to (λ b. b) (λ _. refl) (λ _. refl)
     (λ us vs. rw (map-id vs) (items_are (λ pair. pair.now) entry_of us vs)) (λ p on at. let r = gives_items (λ pair. pair.now) entry_of call compare same runs acts p on at in (r.0, r.1, (r.2.0, r.2.1, r.2.2.2)))

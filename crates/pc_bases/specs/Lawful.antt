@@ -21,9 +21,9 @@ pub record IsBaseFile (base : BaseFile) : Type 0 where
   pub limit : IsWithinLimit base.pairs.entries
 
 -- the format has a text of the base: it has one of each key
-abbrev pub HasBase : Format → BaseFile → Type 0
-HasBase format base = All (λ pair. HasKey format pair.0) base.pairs.entries
+abbrev pub HasBaseText : Format → BaseFile → Type 0
+HasBaseText format base = All (λ pair. HasKey format pair.0) base.pairs.entries
 
 -- the bytes are the base's text in one of the formats
 abbrev pub IsBaseText : List ℕ → BaseFile → Type 0
-IsBaseText bytes base = (format : Format) × HasBase format base × (bytes ≡ base_text_in format base)
+IsBaseText bytes base = (format : Format) × HasBaseText format base × (bytes ≡ base_text_in format base)

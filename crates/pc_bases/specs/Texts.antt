@@ -27,8 +27,8 @@ abbrev pub pair_text_in : Format → List ℕ × List ℕ → List ℕ
 pair_text_in format pair = key_text_in format pair.0 ++ value_text pair.1
 
 -- the same as it is written
-abbrev pub pair_text : List ℕ × List ℕ → List ℕ
-pair_text pair = pair_text_in Second pair
+abbrev pub base_pair_text : List ℕ × List ℕ → List ℕ
+base_pair_text pair = pair_text_in Second pair
 
 -- the one text of a base in a format
 unfoldable pub base_text_in : Format → BaseFile → List ℕ

@@ -3,7 +3,7 @@ ghost use Rattle.std.specs.Prelude.{◌≡◌, OnOk};
 ghost use Rattle.std.specs.List.{All, flat_map};
 ghost use Rattle.pc_io.specs.Tallies.{Puts};
 ghost use Rattle.pc_bases.specs.Lawful.{IsPair, IsBaseFile};
-ghost use Rattle.pc_bases.specs.Texts.{base_head_text, pair_text, base_text};
+ghost use Rattle.pc_bases.specs.Texts.{base_head_text, base_pair_text, base_text};
 
 use crate::base::Base;
 use byteorder::{BigEndian, ByteOrder};
@@ -43,7 +43,7 @@ fn put_head<W: Write>(out: &mut Tally<W>, run: u64, point: u32, count: u32) -> R
 
 // One pair after the other.
 fn put_pairs<W: Write>(out: &mut Tally<W>, pairs: &[(Key, Value)]) -> Result<(), Refusal>
-    ensures text { Puts W.contents out.old out.new result (flat_map pair_text pairs.now) }
+    ensures text { Puts W.contents out.old out.new result (flat_map base_pair_text pairs.now) }
     ensures lawful { OnOk result (All IsPair pairs.now) }
 {
     for (key, value) in pairs {
@@ -53,7 +53,7 @@ fn put_pairs<W: Write>(out: &mut Tally<W>, pairs: &[(Key, Value)]) -> Result<(),
 }
 
 fn put_pair<W: Write>(out: &mut Tally<W>, key: &Key, value: &Value) -> Result<(), Refusal>
-    ensures text { Puts W.contents out.old out.new result (pair_text (key.now, value.now)) }
+    ensures text { Puts W.contents out.old out.new result (base_pair_text (key.now, value.now)) }
     ensures lawful { IsPair (key.now, value.now) }
 {
     let key = key.as_bytes();

@@ -3,7 +3,7 @@ ghost use Rattle.std.specs.Prelude.{◌≡◌, ◌+◌, ◌≤◌, ◌++◌, [],
 ghost use Rattle.itertools.specs.EitherOrBoth.{map_any};
 ghost use Rattle.pc_model.specs.Database.{KeysRise, database_of};
 ghost use Rattle.pc_model.specs.LaidFiles.{gap_above, greatest, laid_file};
-ghost use Rattle.pc_model.specs.TripleLists.{entry_of, entries_of, triples_of};
+ghost use Rattle.pc_model.specs.TripleLists.{entry_of, map_entries, triples_of};
 ghost use Rattle.pc_model.specs.Points.{laid, laid_at};
 ghost use Rattle.pc_part.specs.Parts.{IsWithinLimit, AreRanges, points_of};
 ghost use Rattle.pc_part.specs.Joins.{first_cause, IsRefusedBy};
@@ -56,7 +56,7 @@ fn lay_entries<'a>(
     triples: &'a Entries,
 ) -> Result<Vec<(Key, Value)>, Refusal>
     requires pairs { KeysRise pairs.now }
-    requires triples { KeysRise (entries_of triples.now) }
+    requires triples { KeysRise (map_entries triples.now) }
     requires limit { IsWithinLimit triples.now }
     ensures rise { IfOk result (λ out. KeysRise out.items) }
     ensures limit { IfOk result (λ out. IsWithinLimit out.items) }
@@ -73,7 +73,7 @@ fn lay_entries<'a>(
 // How many pairs are left once the triples are applied to the pairs.
 fn laid_len(point: Point, pairs: &[(Key, Value)], triples: &Entries) -> usize
     requires { IsWithinLimit triples.now }
-    ensures { result ≡ length (merged (laid_there point) pairs.now (entries_of triples.now)) }
+    ensures { result ≡ length (merged (laid_there point) pairs.now (map_entries triples.now)) }
 {
     let mut len = 0usize;
     for item in pairs
@@ -95,7 +95,7 @@ fn lay_in_order(
     pairs: &[(Key, Value)],
     triples: &Entries,
 ) -> Result<Vec<(Key, Value)>, AllocError>
-    ensures { IfOk result (λ out. out.items ≡ merged (laid_there point) pairs.now (entries_of triples.now)) }
+    ensures { IfOk result (λ out. out.items ≡ merged (laid_there point) pairs.now (map_entries triples.now)) }
 {
     let mut out = Vec::new(alloc);
     for item in pairs

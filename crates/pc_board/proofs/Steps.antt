@@ -15,7 +15,7 @@ use Rattle.pc_board.specs.declared.calls.Call.{Call}
 use Rattle.pc_board.specs.declared.sight.PassSight.{PassSight}
 use Rattle.pc_board.specs.declared.sight.PassSight.TheVariants.{Dealer, Holder, Closer, Nobody}
 use Rattle.pc_board.specs.Calls.{call, claims_in, calls_by, claims_of, greatest_of, AnswersCall, AreLegalCalls}
-use Rattle.pc_board.specs.Passes.{EndsWith}
+use Rattle.pc_board.specs.Passes.{EndsWithCall}
 use Rattle.pc_board.specs.Rules.{SpeaksFor, FitsPass, HasOneCallHistory, Claims, Publishes, Looks}
 use Rattle.pc_board.proofs.Histories.{longer_is_legal, prefix_self, prefix_more, rest_none}
 use Rattle.pc_board.proofs.Sums.{claims_of-append, greatest_of-append, calls_by-append, calls_by-other, claims_of-own, claims_bound}
@@ -78,7 +78,7 @@ module _ {S : Type 0} (passes seat number : ℕ) (seen : List Call) where
 
   -- what it tells of the call
   makes : (s : State S PassSight) (r : HasOneCallHistory passes s) (c : Call) → get_elem? s.views seat ≡ some (Holder number seen) → c.by ≡ number → AnswersCall c.kind r.history c.value
-      → AreLegalCalls (r.history ++ c ∷ []) × EndsWith seen c (r.history ++ c ∷ [])
+      → AreLegalCalls (r.history ++ c ∷ []) × EndsWithCall seen c (r.history ++ c ∷ [])
   makes s r c at by right =
       let mine = (r.each seat (Holder number seen) at).1 in
       let between = mine.1.0 in

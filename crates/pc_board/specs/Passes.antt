@@ -30,8 +30,8 @@ abbrev pub claims_made : Pass → ℕ
 claims_made pass = claims_of (calls_by pass.number pass.seen)
 
 -- the calls after are those before, then some of other passes, and then this call
-abbrev pub EndsWith : List Call → Call → List Call → Type 0
-EndsWith before call after = (between : List Call) × (after ≡ (before ++ between) ++ call ∷ []) × (calls_by call.by between ≡ [])
+abbrev pub EndsWithCall : List Call → Call → List Call → Type 0
+EndsWithCall before call after = (between : List Call) × (after ≡ (before ++ between) ++ call ∷ []) × (calls_by call.by between ≡ [])
 
 -- the pass is that of the same board and number
 abbrev pub IsSamePass : Pass → Pass → Type 0
@@ -42,7 +42,7 @@ IsSamePass before after = (after.board ≡ before.board) × (after.number ≡ be
 pub record MakesCall (before : Pass) (kind : CallKind) (value : ℕ) (after : Pass) : Type 0 where
   pub same : IsSamePass before after
   pub legal : AreLegalCalls after.seen
-  pub last : EndsWith before.seen (call before.number kind value) after.seen
+  pub last : EndsWithCall before.seen (call before.number kind value) after.seen
 
 -- the history begins with what the pass has seen, and has no other call of it
 abbrev pub HasCallsOfPass : List Call → Pass → Type 0

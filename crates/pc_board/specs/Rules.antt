@@ -11,14 +11,14 @@ use Rattle.pc_board.specs.declared.sight.Account.{Account}
 use Rattle.pc_board.specs.declared.sight.PassSight.{PassSight}
 use Rattle.pc_board.specs.declared.sight.PassSight.TheVariants.{Dealer, Holder, Closer, Nobody}
 use Rattle.pc_board.specs.Calls.{call, calls_by, claims_of, greatest_of, AreLegalCalls}
-use Rattle.pc_board.specs.Passes.{EndsWith}
+use Rattle.pc_board.specs.Passes.{EndsWithCall}
 
 -- the number of the pass, or 0
-abbrev pub number_of : PassSight → ℕ
-number_of (Dealer next) = 0
-number_of (Holder number seen) = number
-number_of (Closer accounts) = 0
-number_of Nobody = 0
+abbrev pub pass_number : PassSight → ℕ
+pass_number (Dealer next) = 0
+pass_number (Holder number seen) = number
+pass_number (Closer accounts) = 0
+pass_number Nobody = 0
 
 -- the calls that the pass has seen, or none
 abbrev pub seen_of : PassSight → List Call
@@ -54,19 +54,19 @@ pub record HasOneCallHistory {S : Type 0} (passes : ℕ) (state : State S PassSi
 
 -- the pass at the seat has made the call, and has seen a legal history up to it
 abbrev pub Makes : {S : Type 0} → Call → Me S PassSight → Me S PassSight → Type 0
-Makes {S} call before after = (seen : List Call) × (after ≡ (Holder call.by seen, before.1)) × AreLegalCalls seen × EndsWith (seen_of before.0) call seen
+Makes {S} call before after = (seen : List Call) × (after ≡ (Holder call.by seen, before.1)) × AreLegalCalls seen × EndsWithCall (seen_of before.0) call seen
 
 -- a claim gives the number found
 abbrev pub Claims : {S : Type 0} → Step S → Me S PassSight → ℕ → Me S PassSight → Type 0
-Claims step before found after = Makes (call (number_of before.0) Claim found) before after
+Claims step before found after = Makes (call (pass_number before.0) Claim found) before after
 
 -- a publication is of the operand
 abbrev pub Publishes : {S : Type 0} → Step S → Me S PassSight → ℕ → Me S PassSight → Type 0
-Publishes step before found after = Makes (call (number_of before.0) Publish step.first) before after
+Publishes step before found after = Makes (call (pass_number before.0) Publish step.first) before after
 
 -- a look gives the number found, which is a point or 0
 abbrev pub Looks : {S : Type 0} → Step S → Me S PassSight → ℕ → Me S PassSight → Type 0
-Looks step before found after = Makes (call (number_of before.0) Look found) before after × (found ≤ MOST_POINTS)
+Looks step before found after = Makes (call (pass_number before.0) Look found) before after × (found ≤ MOST_POINTS)
 
 -- the dealer has given out the next pass
 abbrev pub dealer_after : PassSight → PassSight
@@ -93,4 +93,4 @@ accounts_of Nobody = []
 
 -- the closer, with the pass that was handed in
 abbrev pub closer_after : PassSight → PassSight → PassSight
-closer_after closer pass = Closer (accounts_of closer ++ account (number_of pass) (seen_of pass) ∷ [])
+closer_after closer pass = Closer (accounts_of closer ++ account (pass_number pass) (seen_of pass) ∷ [])

@@ -44,13 +44,13 @@ impl Model for BoardPass {
     ghost use Rattle.pc_board.specs.declared.sight.PassSight.TheVariants.{Holder};
     ghost use Rattle.pc_board.specs.Calls.{calls_by, claims_of};
     ghost use Rattle.pc_board.specs.Passes.{Pass};
-    ghost use Rattle.pc_board.specs.Rules.{number_of, seen_of};
+    ghost use Rattle.pc_board.specs.Rules.{pass_number, seen_of};
 
     ghost Value = { Pass };
 
-    ghost view = { λ a. record { board = a.seat.table_id; number = number_of a.seat.me.0; seen = seen_of a.seat.me.0 } };
+    ghost view = { λ a. record { board = a.seat.table_id; number = pass_number a.seat.me.0; seen = seen_of a.seat.me.0 } };
 
-    ghost invariant = { λ a. (a.seat.me ≡ (Holder (number_of a.seat.me.0) (seen_of a.seat.me.0), [])) × (a.claims ≡ claims_of (calls_by (number_of a.seat.me.0) (seen_of a.seat.me.0))) };
+    ghost invariant = { λ a. (a.seat.me ≡ (Holder (pass_number a.seat.me.0) (seen_of a.seat.me.0), [])) × (a.claims ≡ claims_of (calls_by (pass_number a.seat.me.0) (seen_of a.seat.me.0))) };
 }
 
 /// The final totals of a board.

@@ -10,13 +10,13 @@ use Rattle.pc_model.specs.Maps.{len}
 use Rattle.pc_model.proofs.PairMapLaws.{len_of}
 use Rattle.pc_recover.specs.Recovery.{Recovery}
 use Rattle.pc_border.specs.Openings.{option_fault, IsBaseOf, IsUnopened}
-use Rattle.pc_border.specs.Sources.{is_given, AreWorth}
+use Rattle.pc_border.specs.Sources.{is_given, IsRecoveredFrom}
 use Rattle.pc_border.specs.declared.opening.Options.{Options}
 use Rattle.pc_border.specs.declared.sources.Sources.{Sources}
 
 -- the state recovered from what was given, as a base
 pub base_given : (given : Bool) (sources : Sources) (run last : ℕ) (found : Recovery) (base : BaseFile) → given ≡ true
-    → AreWorth sources last found → base ≡ record { run = last + 1; point = 0; pairs = found.pairs } → IsBaseOf given sources run base
+    → IsRecoveredFrom sources last found → base ≡ record { run = last + 1; point = 0; pairs = found.pairs } → IsBaseOf given sources run base
 base_given given sources run last found base is worth same = subst (λ (g : Bool). IsBaseOf g sources run base) (sym is) (last, found, worth, same)
 
 -- what keeps something from being a base, said of its pairs as a database

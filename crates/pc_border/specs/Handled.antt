@@ -6,9 +6,9 @@ use Rattle.pc_engine.specs.Store.{setting_of}
 use Rattle.pc_engine.specs.Stands.{Stands}
 use Rattle.pc_wire.specs.Answers.{plain, refusal_told}
 use Rattle.pc_wire.specs.Shown.{key_shown, value_shown, filled}
-use Rattle.pc_border.specs.Sources.{given, is_source, IsWorthOf}
+use Rattle.pc_border.specs.Sources.{with_source, is_source, IsWorthOf}
 use Rattle.pc_border.specs.Openings.{option_fault, IsStart, IsUnopened}
-use Rattle.pc_border.specs.Stores.{IsCalled, IsText}
+use Rattle.pc_border.specs.Stores.{IsReplyShown, IsText}
 use Rattle.pc_wire.specs.declared.answers.Answer.{Answer}
 use Rattle.pc_wire.specs.declared.calls.Call.{Call}
 use Rattle.pc_wire.specs.declared.codes.TheConstants.{CLOSED, GIVEN, OPEN, OPENED}
@@ -19,9 +19,9 @@ use Rattle.pc_border.specs.declared.store.Store.{Store}
 use Rattle.pc_border.specs.declared.store.Store.TheVariants.{Gathering, Open}
 
 -- a call was answered by the open store, and it stays open; one that isn't open stays as it is
-abbrev pub IsAnswered : Store → Call → List ℕ → List ℕ → Answer → Store → Type 0
-IsAnswered (Gathering sources) call own bytes answer new = (answer ≡ plain CLOSED) × (new ≡ Gathering sources)
-IsAnswered (Open old) call own bytes answer new = (opened : OpenStore) × (new ≡ Open opened) × IsCalled old call own bytes answer opened
+abbrev pub IsCallAnswered : Store → Call → List ℕ → List ℕ → Answer → Store → Type 0
+IsCallAnswered (Gathering sources) call own bytes answer new = (answer ≡ plain CLOSED) × (new ≡ Gathering sources)
+IsCallAnswered (Open old) call own bytes answer new = (opened : OpenStore) × (new ≡ Open opened) × IsReplyShown old call own bytes answer opened
 
 -- a text was shown by the open store, and it stays open; one that isn't open stays as it is
 abbrev pub IsTextShown : Store → ℕ → ℕ → Answer → Store → Type 0
@@ -37,7 +37,7 @@ IsCopied (Open opened) from key_old key_new value_old value_new =
 -- a text was given, or nothing has changed
 abbrev pub IsGivenTo : Store → ℕ → List ℕ → Answer → Store → Type 0
 IsGivenTo (Gathering sources) what bytes answer new =
-    ((answer ≡ plain GIVEN) × (new ≡ Gathering (given what sources bytes)) × (is_source what ≡ true))
+    ((answer ≡ plain GIVEN) × (new ≡ Gathering (with_source what sources bytes)) × (is_source what ≡ true))
     ⊎ ((new ≡ Gathering sources) × (((answer ≡ refusal_told BadKind) × (is_source what ≡ false)) ⊎ (answer ≡ refusal_told OutOfMemory)))
 IsGivenTo (Open opened) what bytes answer new = (answer ≡ plain OPEN) × (new ≡ Open opened)
 

@@ -9,7 +9,7 @@ use Rattle.pc_model.specs.Maps.{len}
 use Rattle.pc_model.specs.Replies.{Setting}
 use Rattle.pc_recover.specs.Recovery.{Recovery, recovery}
 use Rattle.pc_engine.specs.Runs.{starting}
-use Rattle.pc_border.specs.Sources.{is_given, AreWorth}
+use Rattle.pc_border.specs.Sources.{is_given, IsRecoveredFrom}
 use Rattle.pc_border.specs.declared.opening.Options.{Options}
 use Rattle.pc_border.specs.declared.sources.Sources.{Sources}
 
@@ -23,7 +23,7 @@ option_fault options =
 -- the next run
 abbrev pub IsBaseOf : Bool → Sources → ℕ → BaseFile → Type 0
 IsBaseOf false sources run base = base ≡ record { run = run; point = 0; pairs = database_of [] }
-IsBaseOf true sources run base = (last : ℕ) × (found : Recovery) × AreWorth sources last found × (base ≡ record { run = last + 1; point = 0; pairs = found.pairs })
+IsBaseOf true sources run base = (last : ℕ) × (found : Recovery) × IsRecoveredFrom sources last found × (base ≡ record { run = last + 1; point = 0; pairs = found.pairs })
 
 -- what a store starts from that is opened with these options
 abbrev pub IsStart : Sources → Options → Setting → Type 0
@@ -34,7 +34,7 @@ IsStart sources options setting = (base : BaseFile) × IsBaseOf (is_given source
 abbrev pub IsBaseless : Sources → Refusal → Type 0
 IsBaseless sources why =
     (recovery sources.base sources.parts sources.log ≡ Err why)
-    ⊎ ((why ≡ Full) × ((last : ℕ) × (found : Recovery) × AreWorth sources last found × ((2 ^ 64 ≤ last + 1) ⊎ (MOST_FILE_ENTRIES < len found.pairs))))
+    ⊎ ((why ≡ Full) × ((last : ℕ) × (found : Recovery) × IsRecoveredFrom sources last found × ((2 ^ 64 ≤ last + 1) ⊎ (MOST_FILE_ENTRIES < len found.pairs))))
     ⊎ (why ≡ OutOfMemory)
 
 -- a store with valid options isn't opened: there is no base, or it has more pairs than there is room for

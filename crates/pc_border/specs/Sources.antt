@@ -14,8 +14,8 @@ abbrev pub is_given : Sources → Bool
 is_given sources = not ((length sources.base == 0) && ((length sources.parts == 0) && (length sources.log == 0)))
 
 -- what was given once these bytes are given too: a base or a log in place of the one before, a part after those before
-abbrev pub given : ℕ → Sources → List ℕ → Sources
-given what sources bytes =
+abbrev pub with_source : ℕ → Sources → List ℕ → Sources
+with_source what sources bytes =
     if what == BASE then record sources { base = bytes } else
     if what == PART then record sources { parts = sources.parts ++ bytes ∷ [] } else
     record sources { log = bytes }
@@ -25,7 +25,7 @@ abbrev pub is_source : ℕ → Bool
 is_source what = (what == BASE) || ((what == PART) || (what == LOG))
 
 -- this is recovered from what was given, of this run
-pub record AreWorth (sources : Sources) (run : ℕ) (found : Recovery) : Type 0 where
+pub record IsRecoveredFrom (sources : Sources) (run : ℕ) (found : Recovery) : Type 0 where
   pub recovered : recovery sources.base sources.parts sources.log ≡ Ok found
   pub of_run : IsOfRun sources.base run
 
@@ -40,5 +40,5 @@ worth_of run found pairs = record { run = run; pairs = pairs; entries = found.en
 
 -- a recovery of what was given returns its result in numbers, or is refused by the rules, or for an allocation failure
 abbrev pub IsWorthOf : Sources → Result Worth Refusal → Type 0
-IsWorthOf sources (Ok worth) = (run : ℕ) × (found : Recovery) × AreWorth sources run found × (worth ≡ worth_of run found (len found.pairs))
+IsWorthOf sources (Ok worth) = (run : ℕ) × (found : Recovery) × IsRecoveredFrom sources run found × (worth ≡ worth_of run found (len found.pairs))
 IsWorthOf sources (Err why) = (recovery sources.base sources.parts sources.log ≡ Err why) ⊎ (why ≡ OutOfMemory)

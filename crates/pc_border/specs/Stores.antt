@@ -13,7 +13,7 @@ use Rattle.pc_part.specs.Texts.{part_text}
 use Rattle.pc_bases.specs.Texts.{base_text}
 use Rattle.pc_engine.specs.Store as world
 use Rattle.pc_engine.specs.Stands.{Stands, Follows, IfRefused}
-use Rattle.pc_wire.specs.Answers.{refusal_told, text_told, told_of}
+use Rattle.pc_wire.specs.Answers.{refusal_told, text_told, answer_of_reply}
 use Rattle.pc_wire.specs.Calls.{event_asked}
 use Rattle.pc_wire.specs.declared.answers.Answer.{Answer}
 use Rattle.pc_wire.specs.declared.calls.Call.{Call}
@@ -35,31 +35,31 @@ IsReplied (Ok event) old reply new = IsStep event old reply new ⊎ ((reply ≡ 
 IsReplied (Err why) old reply new = (reply ≡ Refused why) × (new ≡ old)
 
 -- A call was answered by the numbers of its reply, and that reply is shown.
-abbrev pub IsCalled : OpenStore → Call → List ℕ → List ℕ → Answer → OpenStore → Type 0
-IsCalled old call own bytes answer new = (reply : Reply) × IsReplied (event_asked call own bytes) old.world reply new.world × (answer ≡ told_of reply) × (new.shown ≡ shown.Reply reply)
+abbrev pub IsReplyShown : OpenStore → Call → List ℕ → List ℕ → Answer → OpenStore → Type 0
+IsReplyShown old call own bytes answer new = (reply : Reply) × IsReplied (event_asked call own bytes) old.world reply new.world × (answer ≡ answer_of_reply reply) × (new.shown ≡ shown.Reply reply)
 
 -- a text, which is that of this many entries, is shown, and the world is as it was; or an allocation failed, and nothing has
 -- changed
-abbrev pub IsShown : List ℕ → ℕ → OpenStore → Answer → OpenStore → Type 0
-IsShown text entries old answer new =
+abbrev pub IsShownText : List ℕ → ℕ → OpenStore → Answer → OpenStore → Type 0
+IsShownText text entries old answer new =
     ((answer ≡ text_told (length text) entries) × (new ≡ record { world = old.world; shown = shown.Text text }))
     ⊎ ((answer ≡ refusal_told OutOfMemory) × (new ≡ old))
 
 -- the texts of some entries are shown, from the one at this place on: of one at least if there is one
 abbrev pub AreEntriesShown : ℕ → OpenStore → Answer → OpenStore → Type 0
-AreEntriesShown behind old answer new = (count : ℕ) × IsShown (flat_map entry_text (slice_range old.world.log behind (behind + count))) count old answer new
+AreEntriesShown behind old answer new = (count : ℕ) × IsShownText (flat_map entry_text (slice_range old.world.log behind (behind + count))) count old answer new
     × (behind < length old.world.log → (1 ≤ count) × (behind + count ≤ length old.world.log))
 
 -- the text of a file of the shelf is shown, or there is no such file
 abbrev pub IsFileShown : Option File → OpenStore → Answer → OpenStore → Type 0
-IsFileShown (Some file) old answer new = IsShown (part_text file) 0 old answer new
+IsFileShown (Some file) old answer new = IsShownText (part_text file) 0 old answer new
 IsFileShown None old answer new = (answer ≡ refusal_told NoFile) × (new ≡ old)
 
 -- the text that is called so is shown
 abbrev pub IsText : ℕ → ℕ → OpenStore → Answer → OpenStore → Type 0
 IsText what number old answer new =
-    (what ≡ BASE → IsShown (base_text old.world.base) 0 old answer new)
+    (what ≡ BASE → IsShownText (base_text old.world.base) 0 old answer new)
     × (what ≡ PART → IsFileShown (file_at old.world.shelf number) old answer new)
-    × (what ≡ LOG → IsShown (header_text old.world.base.run) 0 old answer new)
+    × (what ≡ LOG → IsShownText (header_text old.world.base.run) 0 old answer new)
     × (what ≡ ENTRIES → AreEntriesShown number old answer new)
     × ((what ≡ 0) ⊎ (ENTRIES < what) → (answer ≡ refusal_told BadKind) × (new ≡ old))

@@ -5,7 +5,7 @@ ghost use Rattle.pc_log.specs.Texts.{header_text};
 ghost use Rattle.pc_part.specs.Texts.{part_text};
 ghost use Rattle.pc_bases.specs.Texts.{base_text};
 ghost use Rattle.pc_wire.specs.Calls.{event_asked};
-ghost use Rattle.pc_border.specs.Stores.{IsCalled, IsReplied, IsShown, IsFileShown, IsText, AreEntriesShown};
+ghost use Rattle.pc_border.specs.Stores.{IsReplyShown, IsReplied, IsShownText, IsFileShown, IsText, AreEntriesShown};
 
 use crate::sources::copied;
 use pc_engine::World;
@@ -43,7 +43,7 @@ impl OpenStore {
     /// Answers a call. If it asks an event, the answer is that of `World::step`, with all that this promises, or `OutOfMemory`, which
     /// changes nothing; otherwise it is the reason why it asks none, which changes nothing. The reply is what is shown from now on.
     pub fn call(&mut self, alloc: Global, call: &Call, key: &[u8], value: &[u8]) -> Answer
-        ensures { IsCalled self.old call.now key.now value.now result self.new }
+        ensures { IsReplyShown self.old call.now key.now value.now result self.new }
     {
         let reply = reply_to(&mut self.world, alloc, call, key, value);
         let answer = told_of(&reply);
@@ -70,7 +70,7 @@ impl OpenStore {
 
     // Shows the text of the base.
     fn show_base(&mut self, alloc: Global) -> Answer
-        ensures { IsShown (base_text self.old.world.base) 0 self.old result self.new }
+        ensures { IsShownText (base_text self.old.world.base) 0 self.old result self.new }
     {
         let text = base_bytes(alloc, &self.world);
         self.show(text, 0)
@@ -78,7 +78,7 @@ impl OpenStore {
 
     // Shows the header of the log's file.
     fn show_header(&mut self, alloc: Global) -> Answer
-        ensures { IsShown (header_text self.old.world.base.run) 0 self.old result self.new }
+        ensures { IsShownText (header_text self.old.world.base.run) 0 self.old result self.new }
     {
         let text = header_bytes(alloc, &self.world);
         self.show(text, 0)
@@ -108,7 +108,7 @@ impl OpenStore {
 
     // Shows the text, which is that of `entries` entries; without a text, an allocation failed.
     fn show(&mut self, text: Option<Items<u8>>, entries: u64) -> Answer
-        ensures { (bytes : List ℕ) → IfSome text (λ text. text ≡ bytes) → IsShown bytes entries self.old result self.new }
+        ensures { (bytes : List ℕ) → IfSome text (λ text. text ≡ bytes) → IsShownText bytes entries self.old result self.new }
     {
         match text {
             Some(text) => {

@@ -4,7 +4,7 @@ ghost use Rattle.pc_types.specs.declared.refusal.Refusal.TheVariants.{OutOfMemor
 ghost use Rattle.pc_io.specs.Fields.{Gives};
 ghost use Rattle.pc_model.specs.Database.{KeysRise};
 ghost use Rattle.pc_recover.specs.Recovery.{IsOfRun, recovery, recovery_of};
-ghost use Rattle.pc_border.specs.Sources.{is_given, is_source, given, worth_of, fault_number};
+ghost use Rattle.pc_border.specs.Sources.{is_given, is_source, with_source, worth_of, fault_number};
 
 use pc_recover::{Recovered, recover};
 use pc_types::{Items, Refusal};
@@ -62,7 +62,7 @@ impl Sources {
     /// Keeps a copy of a text: the base's or the log's in place of what was given before, or a part's after those before. Returns
     /// `BadKind` if and only if it is called none of `BASE`, `PART` and `LOG`; otherwise the only error is `OutOfMemory`.
     pub fn give(&mut self, alloc: Global, what: u32, bytes: &[u8]) -> Result<(), Refusal>
-        ensures given { OnOk result ((self.new ≡ given what self.old bytes.now) × (is_source what ≡ true)) }
+        ensures given { OnOk result ((self.new ≡ with_source what self.old bytes.now) × (is_source what ≡ true)) }
         ensures refused { OnErr result (self.new ≡ self.old) }
         ensures refusals { IfErr result (λ why. ((why ≡ BadKind) × (is_source what ≡ false)) ⊎ ((why ≡ OutOfMemory) × (is_source what ≡ true))) }
     {
@@ -76,7 +76,7 @@ impl Sources {
     }
 
     fn keep(&mut self, what: u32, text: Items<u8>) -> Result<(), Refusal>
-        ensures given { OnOk result (self.new ≡ given what self.old text) }
+        ensures given { OnOk result (self.new ≡ with_source what self.old text) }
         ensures refused { OnErr result (self.new ≡ self.old) }
         ensures refusals { IfErr result (λ why. why ≡ OutOfMemory) }
     {

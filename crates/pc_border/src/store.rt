@@ -1,6 +1,6 @@
 //! A store at the border: open, or what it will be recovered from.
 ghost use Rattle.std.specs.Prelude.{◌≡◌, []};
-ghost use Rattle.pc_border.specs.Handled.{IsAnswered, IsTextShown, IsCopied, IsGivenTo, IsOpenedBy, IsWorth};
+ghost use Rattle.pc_border.specs.Handled.{IsCallAnswered, IsTextShown, IsCopied, IsGivenTo, IsOpenedBy, IsWorth};
 ghost use Rattle.pc_border.specs.declared.store.Store.TheVariants.{Gathering};
 
 use crate::open_store::OpenStore;
@@ -72,7 +72,7 @@ impl Store {
 
     /// Answers a call as `OpenStore::call` does; one that isn't open answers `CLOSED`.
     pub fn call(&mut self, alloc: Global, call: &Call, key: &[u8], value: &[u8]) -> Answer
-        ensures { IsAnswered self.old call.now key.now value.now result self.new }
+        ensures { IsCallAnswered self.old call.now key.now value.now result self.new }
     {
         match self {
             Store::Gathering(_) => plain(CLOSED),

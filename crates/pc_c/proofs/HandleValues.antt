@@ -11,7 +11,7 @@ use denote.Steps.{nothing}
 use denote.Struct.Struct.{within}
 use denote.Struct.Owning.{shape}
 use Rattle.std.specs.contracts.alloc.Global as heap
-use Rattle.pc_c.specs.Held.{held}
+use Rattle.pc_c.specs.Held.{box_or_null}
 use Rattle.pc_c.specs.contracts.handle.Handle as handle
 use Rattle.pc_border.specs.contracts.store.Store as inner
 
@@ -26,14 +26,14 @@ one_field v = vstruct (vcons v vnil)
 
 module _ {M : Type 1} {𝓤 : Ura M} {𝓛 : Logic 𝓤} {K : Type 0} {Γ : List (Item 𝓤)} {G : Goal 𝓤 𝓛.H} where
   pub handle_out : K → (d : handle.the_row.Denot) (vs : List Val)
-      → (vs ≡ one_field (ptr_val d.at) ∷ [] → Seq K 𝓛 (‵ (held R d.at d.value) ∷ Γ) G)
+      → (vs ≡ one_field (ptr_val d.at) ∷ [] → Seq K 𝓛 (‵ (box_or_null R d.at d.value) ∷ Γ) G)
       → Seq K 𝓛 (‵ (handle.the_row.own_val d vs) ∷ Γ) G
   handle_out t d vs k =
       fsplit t $ fpick t (λ vss. fsplit t $ feq_l t (λ ev. fsplit t $ feq_l t (λ ep. drop t $ k
       (subst (λ (ps : List Val). vs ≡ vstruct (of_list (ps ++ [])) ∷ []) ep ev))))
 
   pub handle_in : K → (p : Ptr) (x : Option R.Denot)
-      → Step K 𝓛 (‵ (handle.the_row.own_val (record { at = p; value = x }) (one_field (ptr_val p) ∷ [])) ∷ Γ) G (‵ (held R p x) ∷ Γ) G
+      → Step K 𝓛 (‵ (handle.the_row.own_val (record { at = p; value = x }) (one_field (ptr_val p) ∷ [])) ∷ Γ) G (‵ (box_or_null R p x) ∷ Γ) G
   handle_in t p x = step (λ s. let v : Val = one_field (ptr_val p) in
       nothing t $ feq_i t (List Val) (ptr_val p ∷ []) (ptr_val p ∷ []) refl $ fjoin t $ feq_i t (List Val) (v ∷ []) (v ∷ []) refl $ fjoin t $
       fpack t (Valss (RawPtr ∷ [])) (within (shape handle.the_type) (p, tt) (v ∷ [])) (ptr_val p ∷ [], tt) $ fjoin t $ s)

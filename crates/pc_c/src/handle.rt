@@ -1,6 +1,6 @@
 //! A handle that C keeps: nothing, or a store.
 ghost use Rattle.std.specs.Prelude.{◌≡◌, Option, None, Some, option_map, IfSome};
-ghost use Rattle.pc_c.specs.Held.{held};
+ghost use Rattle.pc_c.specs.Held.{box_or_null};
 ghost use Rattle.pc_c.specs.Handles.{store_of};
 ghost use Rattle.pc_border.specs.declared.store.Store.{Store};
 ghost use Rattle.pc_border.specs.contracts.store.Store.{the_row};
@@ -19,7 +19,7 @@ pub struct Handle {
 }
 
 impl Model for Handle {
-    ghost also_owns = { λ l. held the_row l.at l.value };
+    ghost also_owns = { λ l. box_or_null the_row l.at l.value };
 }
 
 unsafe impl Send for Handle {}

@@ -2,7 +2,7 @@
 #![tactic(auto)]
 
 ghost use Rattle.std.specs.Prelude.{◌≡◌, None};
-ghost use Rattle.pc_border.specs.Handled.{IsAnswered, IsTextShown, IsCopied, IsGivenTo, IsOpenedBy};
+ghost use Rattle.pc_border.specs.Handled.{IsCallAnswered, IsTextShown, IsCopied, IsGivenTo, IsOpenedBy};
 ghost use Rattle.pc_c.specs.Handles.{store_of, IsWorthTold};
 
 mod handle;
@@ -85,7 +85,7 @@ pub extern "C" fn pcalc_call(
     value: &[u8],
     answer: &mut Answer,
 ) -> u32
-    ensures answered { IsAnswered (store_of handle.old.value) call.now key.now value.now answer.new (store_of handle.new.value) }
+    ensures answered { IsCallAnswered (store_of handle.old.value) call.now key.now value.now answer.new (store_of handle.new.value) }
     ensures kind { result ≡ answer.new.kind }
 {
     let Some(mut store) = take(handle, alloc) else {

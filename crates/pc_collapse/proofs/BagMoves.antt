@@ -6,8 +6,8 @@ use Rattle.crossbeam_queue.specs.Fifo.{Pushes, Pops, Learns, Forks, Merges}
 use Rattle.crossbeam_queue.proofs.Lists.{at_set, at_snoc}
 use Rattle.pc_model.specs.Files.{File}
 use Rattle.pc_collapse.specs.declared.rule.Hand.{Hand}
-use Rattle.pc_collapse.specs.Bags.{hand, all_parts, held_by, parts_of, Bagged, rest_of}
-use Rattle.pc_collapse.specs.Worth.{Fact, FactHolds, Among, Stays, AreFactsGiven, AreWorth}
+use Rattle.pc_collapse.specs.Bags.{hand, all_parts, held_by, parts_of, Bagged, held_without_last}
+use Rattle.pc_collapse.specs.Worth.{Fact, FactHolds, Among, MustStay, AreFactsGiven, AreWorth}
 use Rattle.pc_collapse.proofs.FactLists.{among_front, among_back, among_split, stays_among, worth_itself}
 
 -- ---- hands
@@ -67,7 +67,7 @@ idle_set views i w own idle j u e none = ⊎_elim (λ (s : (j ≡ i) × (w ≡ u
 
 module _ (given : List File) where
   -- files that represent the given ones stay so if no fact is new and none is lost that has to stay
-  worth_after : (old new : List File) → AreWorth given old → ((w : Fact) → Among w new → Among w old) → ((w : Fact) → Stays w given → Among w old → Among w new) → AreWorth given new
+  worth_after : (old new : List File) → AreWorth given old → ((w : Fact) → Among w new → Among w old) → ((w : Fact) → MustStay w given → Among w old → Among w new) → AreWorth given new
   worth_after old new h sub keep = record { sound = λ w a. h.sound w (sub w a); whole = λ w stays a. keep w stays (h.whole w stays a) }
 
   module _ (pass : ℕ) (v : Hand) where
@@ -139,8 +139,8 @@ module _ (given : List File) where
     pub puts : (n : ℕ) (x : File) → 0 < v.parts → 0 < length v.held → AreWorth v.held (x ∷ []) → Pushes (Bagged given) n pass v x (λ w. w ≡ hand v.parts [])
     puts n x own some_held join = puts_some n x v.held [] own (sym (append-nil v.held)) some_held join
 
-    pub puts_back : (n : ℕ) (x : File) (rest : List File) → 0 < v.parts → v.held ≡ x ∷ rest → Pushes (Bagged given) n pass v x (λ w. w ≡ hand v.parts (rest_of v.held))
-    puts_back n x rest own is = subst (λ (r : List File). Pushes (Bagged given) n pass v x (λ w. w ≡ hand v.parts r)) (sym (ap rest_of is)) (puts_some n x (x ∷ []) rest own is (omega arith) (worth_itself (x ∷ [])))
+    pub puts_back : (n : ℕ) (x : File) (rest : List File) → 0 < v.parts → v.held ≡ x ∷ rest → Pushes (Bagged given) n pass v x (λ w. w ≡ hand v.parts (held_without_last v.held))
+    puts_back n x rest own is = subst (λ (r : List File). Pushes (Bagged given) n pass v x (λ w. w ≡ hand v.parts r)) (sym (ap held_without_last is)) (puts_some n x (x ∷ []) rest own is (omega arith) (worth_itself (x ∷ [])))
 
     -- who holds a file finds room for it
     pub finds_room : 0 < length v.held → Learns (Bagged given) pass v (λ items. length items < length given)
@@ -223,7 +223,7 @@ module _ (given : List File) where
           (λ q. mine xs i e (omega (arith, own, all)) (λ j u e. idle (suc j) u e) w q) (among_split w x.held (held_by xs) a)
 
 -- a copy of the first of what is held is put in
-pub put_first : (given : List File) (n pass : ℕ) (v : Hand) (x : File) (rest : List File) → v ≡ hand all_parts (x ∷ rest) → Pushes (Bagged given) n pass v x (λ w. w ≡ hand v.parts (rest_of v.held))
+pub put_first : (given : List File) (n pass : ℕ) (v : Hand) (x : File) (rest : List File) → v ≡ hand all_parts (x ∷ rest) → Pushes (Bagged given) n pass v x (λ w. w ≡ hand v.parts (held_without_last v.held))
 put_first given n pass v x rest is = puts_back given pass v n x rest (let p = ap (λ (h : Hand). h.parts) is in omega (arith, p)) (ap (λ (h : Hand). h.held) is)
 
 pub room_first : (given : List File) (pass : ℕ) (v : Hand) (x : File) (rest : List File) → v ≡ hand all_parts (x ∷ rest) → Learns (Bagged given) pass v (λ items. length items < length given)

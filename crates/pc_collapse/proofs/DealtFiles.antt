@@ -10,7 +10,7 @@ use Rattle.pc_model.specs.Files.{File}
 use Rattle.pc_collapse.specs.declared.rounds.Dealt.{Dealt}
 use Rattle.pc_collapse.specs.declared.rounds.Neighbours.{Neighbours}
 use Rattle.pc_collapse.specs.Worth.{AreFactsGiven, AreWorth, IsCauseFor}
-use Rattle.pc_collapse.specs.Rounds.{files_of, hand_files, dealt_files, together, Become, AllBecome}
+use Rattle.pc_collapse.specs.Rounds.{neighbour_files, hand_files, dealt_files, together, Become, AllBecome}
 use Rattle.pc_collapse.proofs.FactLists.{among_front, among_back, among_split, sound_trans, sound_front, sound_back, worth_same, worth_itself, worth_trans, worth_append}
 use Rattle.pc_collapse.proofs.FoldedFiles.{cause_for}
 
@@ -36,12 +36,12 @@ worth_before a b c d worth = subst (λ (l : List File). AreWorth l (d ++ c)) (ap
 
 module _ {G : Type 0} where
   -- two neighbours more
-  pair_more : (pairs : List (Neighbours G)) (pair : Neighbours G) → AreWorth (files_of pair ++ together (map files_of pairs)) (together (map files_of (pairs ++ pair ∷ [])))
-  pair_more [] pair = worth_itself (files_of pair ++ [])
-  pair_more (x ∷ xs) pair = worth_behind (files_of pair) (files_of x) (together (map files_of xs)) (together (map files_of (xs ++ pair ∷ []))) (pair_more xs pair)
+  pair_more : (pairs : List (Neighbours G)) (pair : Neighbours G) → AreWorth (neighbour_files pair ++ together (map neighbour_files pairs)) (together (map neighbour_files (pairs ++ pair ∷ [])))
+  pair_more [] pair = worth_itself (neighbour_files pair ++ [])
+  pair_more (x ∷ xs) pair = worth_behind (neighbour_files pair) (neighbour_files x) (together (map neighbour_files xs)) (together (map neighbour_files (xs ++ pair ∷ []))) (pair_more xs pair)
 
-  hand_more : (before after : Dealt G) (pair : Neighbours G) → after.pairs.items ≡ before.pairs.items ++ pair ∷ [] → AreWorth (files_of pair ++ hand_files before) (hand_files after)
-  hand_more before after pair is = subst (λ (pairs : List (Neighbours G)). AreWorth (files_of pair ++ hand_files before) (together (map files_of pairs))) (sym is) (pair_more before.pairs.items pair)
+  hand_more : (before after : Dealt G) (pair : Neighbours G) → after.pairs.items ≡ before.pairs.items ++ pair ∷ [] → AreWorth (neighbour_files pair ++ hand_files before) (hand_files after)
+  hand_more before after pair is = subst (λ (pairs : List (Neighbours G)). AreWorth (neighbour_files pair ++ hand_files before) (together (map neighbour_files pairs))) (sym is) (pair_more before.pairs.items pair)
 
   hands_more : (files : List File) (all : List (Dealt G)) (number : ℕ) (before after : Dealt G) → number < length all → before ≡ get_or all number before → AreWorth (files ++ hand_files before) (hand_files after) → AreWorth (files ++ dealt_files all) (dealt_files (set all number after))
   hands_more files [] number before after inside at more = absurd (omega (arith, inside))
@@ -50,15 +50,15 @@ module _ {G : Type 0} where
 
   -- a collapser is given two neighbours
   pub given_pair : (all : List (Dealt G)) (number : ℕ) (before after : Dealt G) (pair : Neighbours G) → number < length all → before ≡ get_or all number before → after.pairs.items ≡ before.pairs.items ++ pair ∷ []
-      → AreWorth (files_of pair ++ dealt_files all) (dealt_files (set all number after))
-  given_pair all number before after pair inside at is = hands_more (files_of pair) all number before after inside at (hand_more before after pair is)
+      → AreWorth (neighbour_files pair ++ dealt_files all) (dealt_files (set all number after))
+  given_pair all number before after pair inside at is = hands_more (neighbour_files pair) all number before after inside at (hand_more before after pair is)
 
   -- an empty hand more
   pub empty_more : (old new : List (Dealt G)) (hand : Dealt G) → dealt_files old ≡ [] → hand.pairs.items ≡ [] → new ≡ old ++ hand ∷ [] → dealt_files new ≡ []
   empty_more old new hand none empty is = ap dealt_files is ∙ by old none
     where
       by : (old : List (Dealt G)) → dealt_files old ≡ [] → dealt_files (old ++ hand ∷ []) ≡ []
-      by [] none = ap (λ (pairs : List (Neighbours G)). together (map files_of pairs) ++ []) empty
+      by [] none = ap (λ (pairs : List (Neighbours G)). together (map neighbour_files pairs) ++ []) empty
       by (x ∷ xs) none = both (hand_files x) (dealt_files xs) none (λ rest. by xs rest)
         where
           both : (a b : List File) → a ++ b ≡ [] → (b ≡ [] → dealt_files (xs ++ hand ∷ []) ≡ []) → a ++ dealt_files (xs ++ hand ∷ []) ≡ []

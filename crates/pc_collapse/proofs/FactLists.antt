@@ -4,7 +4,7 @@ use Rattle.std.specs.List.{Contains}
 use Rattle.std.proofs.lemmas.List.{take-append-drop}
 use Rattle.std.proofs.lemmas.List.Elements.{Contains-append_right, Contains-append_cases, Contains-push_cases}
 use Rattle.pc_model.specs.Files.{File}
-use Rattle.pc_collapse.specs.Worth.{Fact, FactHolds, Among, Stays, AreFactsGiven, AreWorth}
+use Rattle.pc_collapse.specs.Worth.{Fact, FactHolds, Among, MustStay, AreFactsGiven, AreWorth}
 use Rattle.pc_collapse.specs.Worth.Fact.{HasTriple, HasPoint, HasRun}
 
 -- ---- facts of a list and of its parts
@@ -24,7 +24,7 @@ among_split w (x ∷ xs) ys (inl i) = inl (inl i)
 among_split w (x ∷ xs) ys (inr r) = ⊎_elim (λ p. inl (inr p)) (λ q. inr q) (among_split w xs ys r)
 
 -- what stays among many stays among some of them
-pub stays_among : (w : Fact) (many few : List File) → AreFactsGiven many few → Stays w many → Stays w few
+pub stays_among : (w : Fact) (many few : List File) → AreFactsGiven many few → MustStay w many → MustStay w few
 stays_among (HasTriple key x) many few sub stays = λ u a. stays u (sub (HasTriple key u) a)
 stays_among (HasPoint p) many few sub stays = tt
 stays_among (HasRun r) many few sub stays = tt

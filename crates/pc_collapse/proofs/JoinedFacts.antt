@@ -7,7 +7,7 @@ use Rattle.pc_model.specs.Points.{AtPoint, later}
 use Rattle.pc_model.specs.Files.{File, joined_file, conflict}
 use Rattle.pc_model.proofs.ContentLaws.{contains-union}
 use Rattle.pc_model.proofs.JoinLaws.{get-joined}
-use Rattle.pc_collapse.specs.Worth.{Fact, FactHolds, Stays, AreWorth}
+use Rattle.pc_collapse.specs.Worth.{Fact, FactHolds, MustStay, AreWorth}
 use Rattle.pc_collapse.specs.Worth.Fact.{HasTriple, HasPoint, HasRun}
 use Rattle.pc_collapse.proofs.KeyConflicts.{one_triple}
 
@@ -69,7 +69,7 @@ join_worth a b run none = record {
   whole = λ w stays h. inl (whole w stays (⊎_elim (λ p. inl p) (λ r. ⊎_elim (λ q. inr q) (λ e. absurd e) r) h));
 }
   where
-    whole : (w : Fact) → Stays w (a ∷ b ∷ []) → FactHolds w a ⊎ FactHolds w b → FactHolds w (joined_file a b)
+    whole : (w : Fact) → MustStay w (a ∷ b ∷ []) → FactHolds w a ⊎ FactHolds w b → FactHolds w (joined_file a b)
     whole (HasTriple key x) stays (inl i) = get-joined a.triples b.triples key ∙ ap (λ y. later y (get b.triples key)) i ∙ later_left x (get b.triples key) (λ c e. stays c (inr (inl e)))
     whole (HasTriple key x) stays (inr i) = get-joined a.triples b.triples key ∙ ap (later (get a.triples key)) i
         ∙ later_right (get a.triples key) x (λ c e. stays c (inl e)) (λ c e. one_triple a.triples b.triples none key c x e i)

@@ -19,7 +19,7 @@ use Rattle.pc_model.specs.Maps.{get, len}
 use Rattle.pc_model.specs.Points.{AtPoint, Triples}
 use Rattle.pc_model.specs.Sets as set
 use Rattle.pc_model.specs.Sets.{Set, number_order}
-use Rattle.pc_model.specs.TripleLists.{entry_of, entries_of, triples_of}
+use Rattle.pc_model.specs.TripleLists.{entry_of, map_entries, triples_of}
 use Rattle.pc_model.proofs.ContentLaws.{contains-union}
 use Rattle.pc_model.proofs.JoinLaws.{get-joined, one_key}
 use Rattle.pc_model.proofs.MapLaws.{get-empty, get-entries, get-from_list}
@@ -31,11 +31,11 @@ use Rattle.pc_merge.specs.Coming.{Coming}
 use Rattle.pc_merge.specs.Given.{HasGiven, HasTooMany, IsCauseOfAll, IsMerge, IsUnder, IsUnderAt, joined_all}
 use Rattle.pc_merge.specs.Inputs.{all_known}
 use Rattle.pc_merge.specs.Standings.{AllStand}
-use Rattle.pc_merge.specs.Merging.{HasFault, HasNoOrder, HaveConflict, IsBelow, all_behind, behind, entries_behind, first_of, firsts_of}
+use Rattle.pc_merge.specs.Merging.{HasFault, HasNoOrder, HaveConflict, IsBelow, all_behind, input_after_key, entries_behind, first_to_come, firsts_of}
 use Rattle.pc_merge.specs.Folds.{NoneConflict, folded, has_other_run, IsFoldCause}
 use Rattle.pc_collapse.specs.declared.merging.PartEntries.{PartEntries}
 use Rattle.pc_collapse.specs.Merges.{AreAllPoints, IsCovered, entries_coming, entries_of_file, entries_standing, entries_within, file_coming, file_entries}
-use Rattle.pc_collapse.specs.Worth.{Fact, FactHolds, Among, Stays, AreFactsGiven, AreWorth, AreOfOneRun, IsCauseFor}
+use Rattle.pc_collapse.specs.Worth.{Fact, FactHolds, Among, MustStay, AreFactsGiven, AreWorth, AreOfOneRun, IsCauseFor}
 use Rattle.pc_collapse.specs.Worth.Fact.{HasTriple, HasPoint, HasRun}
 use Rattle.pc_collapse.proofs.FactLists.{among_back, among_file, among_front, among_split, file_among, sound_halves}
 use Rattle.pc_collapse.proofs.FoldedFiles.{full_by, given_run}
@@ -68,11 +68,11 @@ found_at (e ∷ m) rise t there = ⊎_elim (λ (is : at_key e ≡ t). subst (λ 
         by false other = found
 
 -- what holds of all entries holds of what is found
-found_of : (P : List ℕ → AtPoint → Type 0) (es : List Triple) → All (λ t. P t.key (at_point t)) es → (q : List ℕ) (x : AtPoint) → find key_cmp q (entries_of es) ≡ Some x → P q x
+found_of : (P : List ℕ → AtPoint → Type 0) (es : List Triple) → All (λ t. P t.key (at_point t)) es → (q : List ℕ) (x : AtPoint) → find key_cmp q (map_entries es) ≡ Some x → P q x
 found_of P [] all q x found = cc
 found_of P (t ∷ es) all q x found = by (same_bytes q t.key) refl (found_of P es (All-tail (λ t. P t.key (at_point t)) t es all) q x) found
   where
-    by : (b : Bool) → same_bytes q t.key ≡ b → (find key_cmp q (entries_of es) ≡ Some x → P q x) → cond b (Some (at_point t)) (find key_cmp q (entries_of es)) ≡ Some x → P q x
+    by : (b : Bool) → same_bytes q t.key ≡ b → (find key_cmp q (map_entries es) ≡ Some x → P q x) → cond b (Some (at_point t)) (find key_cmp q (map_entries es)) ≡ Some x → P q x
     by true same rest found = let is : at_point t ≡ x = cc in subst (λ k. P k x) (sym (one_key q t.key same)) (subst (P t.key) is (All-head (λ t. P t.key (at_point t)) t es all))
     by false other rest found = rest found
 
@@ -101,24 +101,24 @@ behind_has key (x ∷ es) t there = by (same_bytes x.key key) there
 each_given : (P : Triple → Type 0) (start : List Coming) (given : List Triple) (left : List Coming) → ((c : Coming) (t : Triple) → Contains start c → Contains c.entries t → P t) → HasGiven start given left → All P given
 each_given P start [] left each has = All-nil P
 each_given P start (entry ∷ given) left each has =
-    let first = mapped_of first_of start (Some entry) has.0.of in
+    let first = mapped_of first_to_come start (Some entry) has.0.of in
     All-cons P entry given (each first.0 entry first.1 (begins_with first.0.entries entry first.2))
     (each_given P (all_behind entry.key start) given left (λ c t there inside.
-    let whole = mapped_of (behind entry.key) start c there in
+    let whole = mapped_of (input_after_key entry.key) start c there in
     each whole.0 t whole.1 (behind_has entry.key whole.0.entries t (subst (λ (d : Coming). Contains d.entries t) (sym whole.2) inside))) has.1)
 
-below_first : (key : List ℕ) (entries : List Triple) → KeysRise (entries_of entries) → IsBelow key (slice_get entries 0) → below_all key_cmp key (entries_of entries) ≡ true
+below_first : (key : List ℕ) (entries : List Triple) → KeysRise (map_entries entries) → IsBelow key (slice_get entries 0) → below_all key_cmp key (map_entries entries) ≡ true
 below_first key [] rise below = refl
 below_first key (entry ∷ entries) rise below =
-    let parts = both (below_all key_cmp entry.key (entries_of entries)) (is_sorted key_cmp (entries_of entries)) rise in
-    and_of (is_lt (key_cmp key entry.key)) (below_all key_cmp key (entries_of entries)) (ap is_lt below) (lesser_below key entry.key (entries_of entries) below parts.0)
+    let parts = both (below_all key_cmp entry.key (map_entries entries)) (is_sorted key_cmp (map_entries entries)) rise in
+    and_of (is_lt (key_cmp key entry.key)) (below_all key_cmp key (map_entries entries)) (ap is_lt below) (lesser_below key entry.key (map_entries entries) below parts.0)
 
 -- they ascend by key
-given_rise : (start : List Coming) (given : List Triple) (left : List Coming) → HasGiven start given left → KeysRise (entries_of given)
+given_rise : (start : List Coming) (given : List Triple) (left : List Coming) → HasGiven start given left → KeysRise (map_entries given)
 given_rise start [] left has = refl
 given_rise start (entry ∷ given) left has =
     let rest = given_rise (all_behind entry.key start) given left has.1 in
-    and_of (below_all key_cmp entry.key (entries_of given)) (is_sorted key_cmp (entries_of given)) (below_first entry.key given rest (next given has.1)) rest
+    and_of (below_all key_cmp entry.key (map_entries given)) (is_sorted key_cmp (map_entries given)) (below_first entry.key given rest (next given has.1)) rest
   where
     next : (given : List Triple) → HasGiven (all_behind entry.key start) given left → IsBelow entry.key (slice_get given 0)
     next [] more = tt
@@ -141,8 +141,8 @@ module _ (parts : List File) (f : File) (fs : List File) (sound : AreFactsGiven 
   too_many : HasTooMany (map file_coming parts) → MOST_FILE_ENTRIES < len (folded f fs).triples
   too_many (given, left, has, above) = full_by f fs (triples_of given)
       (λ key x is. found_of (λ k a. Among (HasTriple k a) (f ∷ fs)) given (each_given (λ (t : Triple). Among (HasTriple t.key (at_point t)) (f ∷ fs)) (map file_coming parts) given left given_entry has) key x
-      (sym (get-from_list key_order (entries_of given) key) ∙ is))
-      (subst (λ n. MOST_FILE_ENTRIES < n) (sym (ap length (pair_maps.entries_of (entries_of given) (given_rise (map file_coming parts) given left has)) ∙ length-map given entry_of)) above)
+      (sym (get-from_list key_order (map_entries given) key) ∙ is))
+      (subst (λ n. MOST_FILE_ENTRIES < n) (sym (ap length (pair_maps.entries_of (map_entries given) (given_rise (map file_coming parts) given left has)) ∙ length-map given entry_of)) above)
 
 no_fault : (parts : List File) (why : Refusal) → HasFault (map file_coming parts) why → ⊥
 no_fault parts why (c, there, fault) =
@@ -150,7 +150,7 @@ no_fault parts why (c, there, fault) =
     let bad : None ≡ Some why = ap (λ (d : Coming). d.fault) of.2 ∙ fault in cc
 
 all_rise : (parts : List File) → HasNoOrder (map file_coming parts) → ⊥
-all_rise parts (c, there, not_rising) = let of = mapped_of file_coming parts c there in not_rising (subst (λ (d : Coming). KeysRise (entries_of d.entries)) of.2 (file_rises of.0))
+all_rise parts (c, there, not_rising) = let of = mapped_of file_coming parts c there in not_rising (subst (λ (d : Coming). KeysRise (map_entries d.entries)) of.2 (file_rises of.0))
 
 -- why a merge of parts is refused, but for a device
 pub merge_cause : (parts : List File) (why : Refusal) → (why ≡ Device → ⊥) → IsCauseOfAll (map file_coming parts) why → IsCauseFor parts why
@@ -194,7 +194,7 @@ module _ (parts : List File) (one : AreOfOneRun parts) (file : File) (run : Amon
   newest key x (Some b) stays at (inl less) = let most = stays b (of_parts (HasTriple key b) at) in absurd (omega (arith, less, most))
   newest key x (Some b) stays at (inr same) = ap (λ (u : AtPoint). Some u) (sym same)
 
-  in_file : (w : Fact) → Stays w parts → Among w parts → FactHolds w file
+  in_file : (w : Fact) → MustStay w parts → Among w parts → FactHolds w file
   in_file (HasTriple key x) stays h =
       let there = among_file (HasTriple key x) parts h in
       let under : IsUnder (triples_of (file_entries there.0)) (triples_of entries) = All-contains (λ (input : Coming). IsUnder (triples_of input.entries) (triples_of entries)) (map file_coming parts) (file_coming there.0) merge.over (mapped_has file_coming parts there.0 there.1) in

@@ -13,7 +13,7 @@ use Rattle.pc_model.specs.Files.{File}
 use Rattle.pc_model.specs.Points.{AtPoint}
 use Rattle.pc_model.specs.Sets as set
 use Rattle.pc_model.specs.Sets.{Set, number_order}
-use Rattle.pc_model.specs.TripleLists.{entries_of, triples_of}
+use Rattle.pc_model.specs.TripleLists.{map_entries, triples_of}
 use Rattle.pc_model.proofs.MapLaws.{get-entries, get-from_list, same_map}
 use Rattle.pc_model.proofs.PairMapLaws.{tested}
 use Rattle.pc_part.specs.Parts.{AreCovered}
@@ -31,28 +31,28 @@ use Rattle.pc_collapse.proofs.Members.{all_of_each}
 abbrev pub at_key : List ℕ × AtPoint → Triple
 at_key e = record { key = e.0; point = e.1.point; content = e.1.content }
 
-entries_in : (m : List (List ℕ × AtPoint)) → entries_of (map at_key m) ≡ m
+entries_in : (m : List (List ℕ × AtPoint)) → map_entries (map at_key m) ≡ m
 entries_in [] = refl
 entries_in (e ∷ m) = ap (λ (es : List (List ℕ × AtPoint)). e ∷ es) (entries_in m)
 
-triples_back : (es : List Triple) → map at_key (entries_of es) ≡ es
+triples_back : (es : List Triple) → map at_key (map_entries es) ≡ es
 triples_back [] = refl
 triples_back (t ∷ es) = ap (λ (ts : List Triple). t ∷ ts) (triples_back es)
 
 pub file_triples : (file : File) → triples_of (file_entries file) ≡ file.triples
-file_triples file = same_map (triples_of (file_entries file)) file.triples (λ q. get-from_list key_order (entries_of (file_entries file)) q ∙ ap (find key_cmp q) (entries_in file.triples.entries) ∙ sym (get-entries file.triples q))
+file_triples file = same_map (triples_of (file_entries file)) file.triples (λ q. get-from_list key_order (map_entries (file_entries file)) q ∙ ap (find key_cmp q) (entries_in file.triples.entries) ∙ sym (get-entries file.triples q))
 
-pub file_rises : (file : File) → KeysRise (entries_of (file_entries file))
+pub file_rises : (file : File) → KeysRise (map_entries (file_entries file))
 file_rises file = subst (λ (es : List (List ℕ × AtPoint)). KeysRise es) (sym (entries_in file.triples.entries)) (tested file.triples.rises)
 
 -- the pass over a part's entries
-pass_is : (file : File) (es : List Triple) → entries_of es ≡ file.triples.entries → es ≡ file_entries file
+pass_is : (file : File) (es : List Triple) → map_entries es ≡ file.triples.entries → es ≡ file_entries file
 pass_is file es is = sym (triples_back es) ∙ ap (λ (m : List (List ℕ × AtPoint)). map at_key m) is
 
-pub opened : (file : File) (es : List Triple) → entries_of es ≡ file.triples.entries → (let e : PartEntries = record { pass = es; refused = None } in e) ≡ entries_of_file file
+pub opened : (file : File) (es : List Triple) → map_entries es ≡ file.triples.entries → (let e : PartEntries = record { pass = es; refused = None } in e) ≡ entries_of_file file
 opened file es is = ap (λ (l : List Triple). let e : PartEntries = record { pass = l; refused = None } in e) (pass_is file es is)
 
-pub covered : (file : File) (es : List Triple) → entries_of es ≡ file.triples.entries → AreCovered file.points es → IsCovered file
+pub covered : (file : File) (es : List Triple) → map_entries es ≡ file.triples.entries → AreCovered file.points es → IsCovered file
 covered file es is all = subst (λ (l : List Triple). AreCovered file.points l) (pass_is file es is) all
 
 -- ---- of all parts

@@ -40,9 +40,9 @@ pub record Bagged (given items : List File) (views : List Hand) : Type 0 where
   pub idle : (pass : ℕ) (v : Hand) → get_elem? views pass ≡ some v → v.parts ≡ 0 → v.held ≡ []
 
 -- what is held without the file that was taken last
-abbrev pub rest_of : List File → List File
-rest_of [] = []
-rest_of (f ∷ fs) = fs
+abbrev pub held_without_last : List File → List File
+held_without_last [] = []
+held_without_last (f ∷ fs) = fs
 
 module _ {G Q A : Type 0} (bag : Slotted (Option File) (Doing File Hand) Q A) where
   -- a collapser that holds nothing

@@ -7,13 +7,13 @@ use Rattle.pc_collapse.specs.declared.piece.Source.{Source}
 use Rattle.pc_collapse.specs.declared.piece.Source.TheVariants.{Lent, Own}
 
 -- the file of a number among the borrowed parts, from 0; the empty one if there is none
-abbrev pub file_at : List File → ℕ → File
-file_at parts number = slice_index_or parts number (record { run = 0; points = set.empty; triples = map_of.empty })
+abbrev pub borrowed_file_at : List File → ℕ → File
+borrowed_file_at parts number = slice_index_or parts number (record { run = 0; points = set.empty; triples = map_of.empty })
 
 -- the file of a part that is borrowed, by its number, or owned
-abbrev pub file_of : List File → Source → File
-file_of parts (Lent number) = file_at parts number
-file_of parts (Own part) = part
+abbrev pub source_file : List File → Source → File
+source_file parts (Lent number) = borrowed_file_at parts number
+source_file parts (Own part) = part
 
 -- a borrowed part is one of these
 abbrev pub IsLentOf : List File → Source → Type 0

@@ -10,8 +10,8 @@ use Rattle.pc_collapse.specs.declared.rounds.Dealt.{Dealt}
 use Rattle.pc_collapse.specs.declared.rounds.Neighbours.{Neighbours}
 
 -- two neighbours, or an odd last file
-abbrev pub files_of : {G : Type 0} → Neighbours G → List File
-files_of pair = pair.first ∷ option_to_list pair.second
+abbrev pub neighbour_files : {G : Type 0} → Neighbours G → List File
+neighbour_files pair = pair.first ∷ option_to_list pair.second
 
 -- the files of several lists, one list after the other
 abbrev pub together : List (List File) → List File
@@ -20,7 +20,7 @@ together (files ∷ lists) = files ++ together lists
 
 -- what a collapser was dealt
 abbrev pub hand_files : {G : Type 0} → Dealt G → List File
-hand_files hand = together (map files_of hand.pairs.items)
+hand_files hand = together (map neighbour_files hand.pairs.items)
 
 -- what all collapsers were dealt
 abbrev pub dealt_files : {G : Type 0} → List (Dealt G) → List File

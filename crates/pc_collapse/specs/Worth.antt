@@ -25,9 +25,9 @@ Among w [] = ⊥
 Among w (f ∷ fs) = FactHolds w f ⊎ Among w fs
 
 -- the fact has to stay: a triple does if none of its key in the files has a greater point
-abbrev pub Stays : Fact → List File → Type 0
-Stays (HasTriple key x) files = (u : AtPoint) → Among (HasTriple key u) files → u.point ≤ x.point
-Stays other files = ⊤
+abbrev pub MustStay : Fact → List File → Type 0
+MustStay (HasTriple key x) files = (u : AtPoint) → Among (HasTriple key u) files → u.point ≤ x.point
+MustStay other files = ⊤
 
 -- each fact of some files is one of the given files
 abbrev pub AreFactsGiven : List File → List File → Type 0
@@ -37,7 +37,7 @@ AreFactsGiven given files = (w : Fact) → Among w files → Among w given
 -- each key the triples of the greatest point are all there
 pub record AreWorth (given files : List File) : Type 0 where
   pub sound : AreFactsGiven given files
-  pub whole : (w : Fact) → Stays w given → Among w given → Among w files
+  pub whole : (w : Fact) → MustStay w given → Among w given → Among w files
 
 -- there are files, and they are of one run
 abbrev pub AreOfOneRun : List File → Type 0

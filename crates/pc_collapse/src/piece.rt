@@ -1,7 +1,7 @@
 //! The pieces to be joined: borrowed parts, by their numbers, and owned parts, which are freed as soon as they are
 //! joined.
 ghost use Rattle.std.specs.Prelude.{◌≡◌, ◌<◌, [], ◌∷◌, length};
-ghost use Rattle.pc_collapse.specs.Pieces.{file_at};
+ghost use Rattle.pc_collapse.specs.Pieces.{borrowed_file_at};
 ghost use Rattle.pc_collapse.specs.Worth.{JoinsToOne};
 
 use pc_part::{Part, join};
@@ -49,9 +49,9 @@ impl<G: Given> Model for Piece<G> {
 
     ghost coded = { file_code };
 
-    ghost use Rattle.pc_collapse.specs.Pieces.{file_of, IsLentOf};
+    ghost use Rattle.pc_collapse.specs.Pieces.{source_file, IsLentOf};
 
-    ghost view = { λ p. file_of G.parts p.source };
+    ghost view = { λ p. source_file G.parts p.source };
 
     ghost invariant = { λ p. IsLentOf G.parts p.source };
 }
@@ -60,7 +60,7 @@ impl<G: Given> Piece<G> {
     // The borrowed part of this number, from 0.
     pub(crate) fn lent(number: usize) -> Piece<G>
         requires { number < length G.parts }
-        ensures { result ≡ file_at G.parts number }
+        ensures { result ≡ borrowed_file_at G.parts number }
     {
         Piece {
             source: Source::Lent(number),

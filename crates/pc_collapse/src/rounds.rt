@@ -2,7 +2,7 @@
 ghost use Rattle.std.specs.Prelude.{◌≡◌, ◌<◌, ◌≤◌, List, [], ◌++◌, length, IfOk, OnOk, vec_len};
 ghost use Rattle.pc_model.specs.Files.{File};
 ghost use Rattle.pc_merge.specs.Folds.{Folds};
-ghost use Rattle.pc_collapse.specs.Rounds.{AllBecome, Become, EachBecomes, dealt_files, files_of, hand_files, together};
+ghost use Rattle.pc_collapse.specs.Rounds.{AllBecome, Become, EachBecomes, dealt_files, neighbour_files, hand_files, together};
 ghost use Rattle.pc_collapse.specs.Worth.{AreWorth, JoinsToOne};
 
 use crate::folding::{check_runs, fold_pieces, join_pieces, pieces_of};
@@ -148,7 +148,7 @@ fn give<G: Given>(
 ) -> Result<(), AllocError>
     requires { number < length all.old }
     ensures len { length all.new ≡ length all.old }
-    ensures given { OnOk result (AreWorth (files_of pair ++ dealt_files all.old) (dealt_files all.new)) }
+    ensures given { OnOk result (AreWorth (neighbour_files pair ++ dealt_files all.old) (dealt_files all.new)) }
 {
     let hand = &mut all[number];
     hand.pairs.push(pair)?;
@@ -203,7 +203,7 @@ fn join_pair<G: Given, E: Gate>(
     gate: &E,
 ) -> Result<Piece<G>, Refusal>
     requires { parts.now ≡ G.parts }
-    ensures { JoinsToOne (files_of pair) result }
+    ensures { JoinsToOne (neighbour_files pair) result }
 {
     let Neighbours { first, second } = pair;
     match second {

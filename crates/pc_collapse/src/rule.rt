@@ -107,9 +107,9 @@ pub(crate) struct PutsBack<G> {
 
 impl<G: Given> Outcome<Piece<G>, Hand> for PutsBack<G> {
     ghost use Rattle.std.specs.Prelude.{◌≡◌};
-    ghost use Rattle.pc_collapse.specs.Bags.{hand, rest_of};
+    ghost use Rattle.pc_collapse.specs.Bags.{hand, held_without_last};
 
-    ghost then = { λ v x w. w ≡ hand v.parts (rest_of v.held) };
+    ghost then = { λ v x w. w ≡ hand v.parts (held_without_last v.held) };
 }
 
 impl<G: Given> Lesson<Piece<G>, Hand> for PutsBack<G> {

@@ -22,12 +22,12 @@ use Rattle.pc_model.specs.TripleLists.{triples_of}
 use Rattle.pc_merge.specs.Coming.{Coming}
 use Rattle.pc_merge.specs.Given.{IsMerge, IsUnder, IsUnderAt, joined_all}
 use Rattle.pc_stream_join.specs.Headers.{IsHeaderOfAll, points_of_all}
-use Rattle.pc_stream_join.specs.Joining.{file_of}
+use Rattle.pc_stream_join.specs.Joining.{file_of_entries}
 use Rattle.pc_merge.specs.Folds.{Folds, IsFold, folded, has_other_run}
 
 -- the files of these headers with these entries
 abbrev pub parts_of : List (ℕ × List Range) → List Coming → List File
-parts_of (header ∷ headers) (input ∷ inputs) = file_of header.0 header.1 input.entries ∷ parts_of headers inputs
+parts_of (header ∷ headers) (input ∷ inputs) = file_of_entries header.0 header.1 input.entries ∷ parts_of headers inputs
 parts_of headers inputs = []
 
 -- a file is covered by itself
@@ -65,13 +65,13 @@ triples_all : (f : File) (headers : List (ℕ × List Range)) (inputs : List Com
 triples_all f [] [] many = nothing_joined f.triples
 triples_all f [] (i ∷ is) many = absurd (omega (arith, many))
 triples_all f (h ∷ hs) [] many = absurd (omega (arith, many))
-triples_all f (h ∷ hs) (i ∷ is) many = ap (joined f.triples) (triples_all (file_of h.0 h.1 i.entries) hs is (omega (arith, many)))
+triples_all f (h ∷ hs) (i ∷ is) many = ap (joined f.triples) (triples_all (file_of_entries h.0 h.1 i.entries) hs is (omega (arith, many)))
 
 points_all : (f : File) (headers : List (ℕ × List Range)) (inputs : List Coming) → length headers ≡ length inputs → (folded f (parts_of headers inputs)).points ≡ set.union f.points (points_of_all headers)
 points_all f [] [] many = nothing_united f.points
 points_all f [] (i ∷ is) many = absurd (omega (arith, many))
 points_all f (h ∷ hs) [] many = absurd (omega (arith, many))
-points_all f (h ∷ hs) (i ∷ is) many = ap (set.union f.points) (points_all (file_of h.0 h.1 i.entries) hs is (omega (arith, many)))
+points_all f (h ∷ hs) (i ∷ is) many = ap (set.union f.points) (points_all (file_of_entries h.0 h.1 i.entries) hs is (omega (arith, many)))
 
 run_of_folded : (g : File) (gs : List File) → (folded g gs).run ≡ g.run
 run_of_folded g [] = refl
@@ -90,7 +90,7 @@ one_run run other (h ∷ hs) (i ∷ is) first all =
 each_part : (P : Triples → Type 0) (headers : List (ℕ × List Range)) (inputs : List Coming) → All (λ (i : Coming). P (triples_of i.entries)) inputs → All (λ (f : File). P f.triples) (parts_of headers inputs)
 each_part P [] inputs all = All-nil (λ (f : File). P f.triples)
 each_part P (h ∷ hs) [] all = All-nil (λ (f : File). P f.triples)
-each_part P (h ∷ hs) (i ∷ is) all = All-cons (λ (f : File). P f.triples) (file_of h.0 h.1 i.entries) (parts_of hs is) (All-head (λ (i : Coming). P (triples_of i.entries)) i is all) (each_part P hs is (All-tail (λ (i : Coming). P (triples_of i.entries)) i is all))
+each_part P (h ∷ hs) (i ∷ is) all = All-cons (λ (f : File). P f.triples) (file_of_entries h.0 h.1 i.entries) (parts_of hs is) (All-head (λ (i : Coming). P (triples_of i.entries)) i is all) (each_part P hs is (All-tail (λ (i : Coming). P (triples_of i.entries)) i is all))
 
 abbrev done : File → Result File Refusal
 done file = Ok file
@@ -100,16 +100,16 @@ folds_by f fs file one is = subst (λ t. MatchBool t (done file ≡ Err OtherRun
 
 -- the fold
 pub merged_folds : (run : ℕ) (ranges : List Range) (given : List Triple) (headers : List (ℕ × List Range)) (inputs : List Coming) → length headers ≡ length inputs → IsHeaderOfAll run ranges headers → IsMerge inputs given
-    → Folds (parts_of headers inputs) (Ok (file_of run ranges given))
+    → Folds (parts_of headers inputs) (Ok (file_of_entries run ranges given))
 merged_folds run ranges given [] inputs many of merge = absurd (let some = of.some in omega (arith, some))
 merged_folds run ranges given (h ∷ hs) [] many of merge = absurd (omega (arith, many))
-merged_folds run ranges given (h ∷ hs) (i ∷ is) many of merge = folds_by first others (file_of run ranges given) (one_run run h.0 hs is own (All-tail (λ (h : ℕ × List Range). h.0 ≡ run) h hs of.one_run)) (record {
+merged_folds run ranges given (h ∷ hs) (i ∷ is) many of merge = folds_by first others (file_of_entries run ranges given) (one_run run h.0 hs is own (All-tail (λ (h : ℕ × List Range). h.0 ≡ run) h hs of.one_run)) (record {
   is = λ k. record { run = runs k; points = points k; triples = triples k };
   over = λ one there. All-contains (λ (f : File). IsUnder f.triples (triples_of given)) (first ∷ others) one (each_part (λ m. IsUnder m (triples_of given)) (h ∷ hs) (i ∷ is) merge.over) there;
 })
   where
     first : File
-    first = file_of h.0 h.1 i.entries
+    first = file_of_entries h.0 h.1 i.entries
 
     others : List File
     others = parts_of hs is

@@ -22,12 +22,12 @@ use Rattle.pc_streams.specs.declared.reader.PartReader.{PartReader}
 use Rattle.pc_streams.specs.Coming.{part_coming, part_header}
 use Rattle.pc_streams.specs.Readers.{coming_of, header_of}
 use Rattle.pc_stream_join.specs.Headers.{AreHeaded}
-use Rattle.pc_stream_join.specs.Joining.{IsJoinRefusal, IsUnjoinedFor, file_of}
+use Rattle.pc_stream_join.specs.Joining.{IsJoinRefusal, IsUnjoinedFor, file_of_entries}
 use Rattle.pc_texts.specs.declared.files.NamedFile.{NamedFile}
 use Rattle.pc_collapse_files.specs.declared.inputs.CollapseFault.{CollapseFault}
 use Rattle.pc_collapse_files.specs.declared.inputs.CollapseFault.TheVariants as fault
 use Rattle.pc_collapse_files.specs.Collapses.{AreUnjoined, HaveHeader, HoldTexts, IsJoinOf, IsShortIn, parts_at}
-use Rattle.pc_collapse_files.specs.Inputs.{AreReadersOf, IsFaultOf, IsUnwritten}
+use Rattle.pc_collapse_files.specs.Inputs.{AreReadersOf, IsFileFault, IsUnwritten}
 use Rattle.pc_collapse_files.specs.Reads.{TellsReads}
 use Rattle.pc_collapse_files.proofs.FewEntries.{part_comes}
 use Rattle.pc_stream_join.proofs.AgreeLaws.{cons_is, read_header, some_is}
@@ -68,7 +68,7 @@ parts_read (h ∷ hs) [] is sound few = cc
 parts_read [] (t ∷ ts) is sound few = cc
 parts_read (h ∷ hs) (t ∷ ts) is sound few =
     let parts = cons_is (known_header t) (read_header h) (map known_header ts) (map read_header hs) is in
-    two_ok (part_at t) (parts_at ts) (file_of h.0 h.1 (part_coming t).entries) (parts_of hs (map part_coming ts))
+    two_ok (part_at t) (parts_at ts) (file_of_entries h.0 h.1 (part_coming t).entries) (parts_of hs (map part_coming ts))
     (part_comes t h (some_is (part_header t) (Ok h) parts.0) (All-head Sound (part_coming t) (map part_coming ts) sound) (All-head Few (part_coming t) (map part_coming ts) few))
     (parts_read hs ts parts.1 (All-tail Sound (part_coming t) (map part_coming ts) sound) (All-tail Few (part_coming t) (map part_coming ts) few))
 
@@ -78,12 +78,12 @@ module _ {R : Type 0} (remaining : R → Option (List ℕ)) (files : List (Named
   of_texts texts hold = ap all_known (are texts hold).1 ∙ known_texts texts
 
   -- the join of the files
-  pub join_is : (run : ℕ) (ranges : List Range) (given : List Triple) → AreHeaded remaining run ranges readers → IsPartFile (file_of run ranges given)
-      → ((was : List Coming) → all_known (map (coming_of remaining) readers) ≡ Some was → IsMerge was given) → IsJoinOf remaining files (file_of run ranges given)
+  pub join_is : (run : ℕ) (ranges : List Range) (given : List Triple) → AreHeaded remaining run ranges readers → IsPartFile (file_of_entries run ranges given)
+      → ((was : List Coming) → all_known (map (coming_of remaining) readers) ≡ Some was → IsMerge was given) → IsJoinOf remaining files (file_of_entries run ranges given)
   join_is run ranges given headed lawful merge = by (all_known (map (coming_of remaining) readers)) refl
     where
-      by : (o : Option (List Coming)) → all_known (map (coming_of remaining) readers) ≡ o → IsJoinOf remaining files (file_of run ranges given)
-      by None unknown = (file_of run ranges given ∷ [], λ texts hold. absurd (let bad : None ≡ Some (map part_coming texts) = sym unknown ∙ of_texts texts hold in cc), alone (file_of run ranges given))
+      by : (o : Option (List Coming)) → all_known (map (coming_of remaining) readers) ≡ o → IsJoinOf remaining files (file_of_entries run ranges given)
+      by None unknown = (file_of_entries run ranges given ∷ [], λ texts hold. absurd (let bad : None ≡ Some (map part_coming texts) = sym unknown ∙ of_texts texts hold in cc), alone (file_of_entries run ranges given))
       by (Some was) known = (parts_of headed.headers was, λ texts hold. read texts hold, merged_folds run ranges given headed.headers was many headed.of_all all)
         where
           all : IsMerge was given
@@ -105,7 +105,7 @@ module _ {R : Type 0} (remaining : R → Option (List ℕ)) (files : List (Named
 
 -- the state of a file that was begun
 pub unwritten : {R F : Type 0} (remaining : R → Option (List ℕ)) (contents : F → Option (List ℕ)) (files : List (NamedFile R)) (inputs : List (PartReader R)) (Refuses : Refusal → Type 0) (file : Tally F) (why : Refusal) (f : CollapseFault)
-    → HaveHeader remaining files → AreUnjoined remaining files why → (nat_lt 0 (failures_of file) ≡ false → TellsReads inputs why) → IsJoinRefusal why → IsShortIn contents file → IsFaultOf file why f → IsUnwritten remaining contents files inputs Refuses (Some file) f
+    → HaveHeader remaining files → AreUnjoined remaining files why → (nat_lt 0 (failures_of file) ≡ false → TellsReads inputs why) → IsJoinRefusal why → IsShortIn contents file → IsFileFault file why f → IsUnwritten remaining contents files inputs Refuses (Some file) f
 unwritten remaining contents files inputs Refuses file why f have cause tells refusal short is = by (nat_lt 0 (failures_of file)) refl is
   where
     by : (t : Bool) → nat_lt 0 (failures_of file) ≡ t → MatchBool t (f ≡ fault.Unwritten) (f ≡ fault.Unjoined why) → IsUnwritten remaining contents files inputs Refuses (Some file) f

@@ -28,8 +28,8 @@ use Rattle.pc_collapse_files.specs.declared.inputs.CollapseFault.TheVariants as 
 use Rattle.pc_collapse_files.specs.Reads.{TellsReads}
 
 -- one of the files has this name
-abbrev pub is_one_of : {R : Type 0} → List (NamedFile R) → List ℕ → Bool
-is_one_of files name = list_any (λ file. bytes_eq file.name.items name) files
+abbrev pub has_file_named : {R : Type 0} → List (NamedFile R) → List ℕ → Bool
+has_file_named files name = list_any (λ file. bytes_eq file.name.items name) files
 
 -- the report if the file that is to be written has the name of an input
 abbrev pub usage_text : List ℕ → List ℕ
@@ -124,12 +124,12 @@ abbrev pub IsShortIn : {F : Type 0} → (F → Option (List ℕ)) → Tally F �
 IsShortIn contents file = AreKnown contents → (bytes : List ℕ) × (contents (inner_of file) ≡ Some bytes) × (part_at bytes ≡ Err Short)
 
 -- a call of the file's own failed
-abbrev pub HasFailed : {F : Type 0} → Tally F → Type 0
-HasFailed file = 0 < failures_of file
+abbrev pub HasFileFailed : {F : Type 0} → Tally F → Type 0
+HasFileFailed file = 0 < failures_of file
 
 -- the line of a joined file
-abbrev pub line_of : File → List ℕ
-line_of file = joined_line (set.items file.points) (map_of.len file.triples)
+abbrev pub joined_file_line : File → List ℕ
+joined_file_line file = joined_line (set.items file.points) (map_of.len file.triples)
 
 -- The fold of the files' parts is whole under the name of the file that is to be written, and its line was printed.
 pub record IsCollapseDone {R F W : Type 0} (remaining : R → Option (List ℕ)) (contents : F → Option (List ℕ)) (printed : W → Option (List ℕ)) (files : List (NamedFile R)) (stands : List ℕ → Type 0) (old new : Tally W) : Type 0 where
@@ -137,7 +137,7 @@ pub record IsCollapseDone {R F W : Type 0} (remaining : R → Option (List ℕ))
   pub file : File
   pub join : IsJoinOf remaining files file
   pub written : StandsThere contents stands (part_text file)
-  pub line : Appends (printed (inner_of old)) (printed (inner_of new)) (line_of file)
+  pub line : Appends (printed (inner_of old)) (printed (inner_of new)) (joined_file_line file)
   pub sound : failures_of new ≡ failures_of old
 
 -- the same, except that the output failed: a beginning of the line went out
@@ -145,7 +145,7 @@ pub record IsCollapseUntold {R F W : Type 0} (remaining : R → Option (List ℕ
   pub file : File
   pub join : IsJoinOf remaining files file
   pub written : StandsThere contents stands (part_text file)
-  pub line : AppendsBeginning (printed (inner_of old)) (printed (inner_of new)) (line_of file)
+  pub line : AppendsBeginning (printed (inner_of old)) (printed (inner_of new)) (joined_file_line file)
   pub counted : HasRisen (failures_of old) (failures_of new)
 
 -- A file that was written whole may have got its name or not: the earlier text is still there, or the fold of the parts is.
@@ -156,7 +156,7 @@ IsNamedOrNot remaining contents files before after = StaysAs before after ⊎ ((
 -- counted a failure if its device failed; under the name the earlier text, unless the file was whole; and nothing printed but a
 -- beginning of the line if the output failed.
 abbrev pub IsLeftByCollapse : {R F W : Type 0} → (R → Option (List ℕ)) → (F → Option (List ℕ)) → (W → Option (List ℕ)) → List (NamedFile R) → CollapseFault → Option (Tally F) → (List ℕ → Type 0) → (List ℕ → Type 0) → Tally W → Tally W → Type 0
-IsLeftByCollapse remaining contents printed files fault.Unwritten begun before after old new = MatchOption begun ⊥ (λ f. HasFailed f × IsShortIn contents f) × StaysAs before after × (new ≡ old)
+IsLeftByCollapse remaining contents printed files fault.Unwritten begun before after old new = MatchOption begun ⊥ (λ f. HasFileFailed f × IsShortIn contents f) × StaysAs before after × (new ≡ old)
 IsLeftByCollapse remaining contents printed files (fault.Unjoined why) begun before after old new = MatchOption begun ⊥ (IsShortIn contents) × StaysAs before after × (new ≡ old)
 IsLeftByCollapse remaining contents printed files (fault.Unnamed why) begun before after old new = (begun ≡ None) × IsNamedOrNot remaining contents files before after × (new ≡ old)
 IsLeftByCollapse remaining contents printed files fault.Output begun before after old new = (begun ≡ None) × IsCollapseUntold remaining contents printed files after old new

@@ -21,7 +21,7 @@ use Rattle.pc_collapse_files.specs.declared.inputs.CollapseFault.TheVariants as 
 use Rattle.pc_collapse_files.specs.declared.inputs.OpenedInputs.{OpenedInputs}
 use Rattle.pc_collapse_files.specs.declared.output.WrittenFile.{WrittenFile}
 use Rattle.pc_collapse_files.specs.Reads.{AreSound, TellsReads}
-use Rattle.pc_collapse_files.specs.Collapses.{AreUnjoined, HasFailed, HaveHeader, HaveNoHeader, HoldTexts, IsFirstUnopened, IsHeadRefusal, IsJoinOf, IsShortIn, IsWholeIn}
+use Rattle.pc_collapse_files.specs.Collapses.{AreUnjoined, HasFileFailed, HaveHeader, HaveNoHeader, HoldTexts, IsFirstUnopened, IsHeadRefusal, IsJoinOf, IsShortIn, IsWholeIn}
 
 -- a reader has the header of the file's text, and all its entries, if the bytes are known
 abbrev pub IsReaderOf : {R : Type 0} → (R → Option (List ℕ)) → NamedFile R → PartReader R → Type 0
@@ -61,9 +61,9 @@ pub record IsWrittenOf {R F : Type 0} (remaining : R → Option (List ℕ)) (con
 abbrev pub IsUnwritten : {R F : Type 0} → (R → Option (List ℕ)) → (F → Option (List ℕ)) → List (NamedFile R) → List (PartReader R) → (Refusal → Type 0) → Option (Tally F) → CollapseFault → Type 0
 IsUnwritten remaining contents files inputs Refuses made (fault.Unmade why) = HaveHeader remaining files × Refuses why × (made ≡ None)
 IsUnwritten remaining contents files inputs Refuses made (fault.Unjoined why) = HaveHeader remaining files × AreUnjoined remaining files why × TellsReads inputs why × IsJoinRefusal why × MatchOption made ⊥ (IsShortIn contents)
-IsUnwritten remaining contents files inputs Refuses made fault.Unwritten = HaveHeader remaining files × MatchOption made ⊥ (λ f. HasFailed f × IsShortIn contents f)
+IsUnwritten remaining contents files inputs Refuses made fault.Unwritten = HaveHeader remaining files × MatchOption made ⊥ (λ f. HasFileFailed f × IsShortIn contents f)
 IsUnwritten remaining contents files inputs Refuses made other = ⊥
 
 -- the fault of a file that was begun and can't be joined for this reason: its device's if one of its calls failed
-abbrev pub IsFaultOf : {F : Type 0} → Tally F → Refusal → CollapseFault → Type 0
-IsFaultOf file why other = MatchBool (nat_lt 0 (failures_of file)) (other ≡ fault.Unwritten) (other ≡ fault.Unjoined why)
+abbrev pub IsFileFault : {F : Type 0} → Tally F → Refusal → CollapseFault → Type 0
+IsFileFault file why other = MatchBool (nat_lt 0 (failures_of file)) (other ≡ fault.Unwritten) (other ≡ fault.Unjoined why)

@@ -3,7 +3,7 @@ ghost use Rattle.std.specs.Prelude.{◌≡◌, ◌⊎◌, None, IfErr, MatchBool
 ghost use Rattle.std.specs.declared.result.Result.{Result};
 ghost use Rattle.pc_types.specs.declared.refusal.Refusal.{Refusal};
 ghost use Rattle.pc_io.specs.Tallies.{Puts};
-ghost use Rattle.pc_collapse_files.specs.Collapses.{IsCollapseCause, IsCollapseDone, IsCollapseFailed, IsLeftByCollapse, IsCollapseTold, TellsUsage, is_one_of, usage_text};
+ghost use Rattle.pc_collapse_files.specs.Collapses.{IsCollapseCause, IsCollapseDone, IsCollapseFailed, IsLeftByCollapse, IsCollapseTold, TellsUsage, has_file_named, usage_text};
 
 use crate::inputs::{CollapseFault, UnopenedInputs, is_input, open_inputs};
 use crate::output::{Maker, Unfinished, WrittenFile, name_file, print, unmade, write_file};
@@ -46,7 +46,7 @@ pub fn run_collapse<R: Read + Drop, F: Write + Drop, M: Maker<F>, W: Write, E: W
     errors: &mut Tally<E>,
 ) -> EndedCollapse<R, F>
     ensures status { (result.status ≡ 0) ⊎ (result.status ≡ 1) ⊎ (result.status ≡ 2) }
-    ensures usage { MatchBool (is_one_of files.items name.now)
+    ensures usage { MatchBool (has_file_named files.items name.now)
         ((result.status ≡ 2) × (result.begun ≡ None) × (maker.new ≡ maker.old) × (out.new ≡ out.old) × TellsUsage E.contents errors.old errors.new name.now)
         (¬ (result.status ≡ 2)) }
     ensures done { result.status ≡ 0 → IsCollapseDone R.remaining F.contents W.contents files.items (M.stands maker.new) out.old out.new × (errors.new ≡ errors.old) × (result.begun ≡ None) }

@@ -7,7 +7,7 @@ ghost use Rattle.pc_merge.specs.Standings.{AllStand};
 ghost use Rattle.pc_streams.specs.Readers.{header_of, standing_of};
 ghost use Rattle.pc_stream_join.specs.Headers.{AreHeaded, IsHeadersFault, IsHeadersRefusal, StayKnown};
 ghost use Rattle.pc_texts.specs.Files.{AreOpened};
-ghost use Rattle.pc_collapse_files.specs.Collapses.{IsFirstUnopened, is_one_of};
+ghost use Rattle.pc_collapse_files.specs.Collapses.{IsFirstUnopened, has_file_named};
 ghost use Rattle.pc_collapse_files.specs.Reads.{AreSound, sound};
 ghost use Rattle.pc_collapse_files.specs.Inputs.{AreReadersOf, IsHeadFault, IsOpenedAs, IsReaderOf};
 ghost use Rattle.pc_collapse_files.specs.declared.inputs.CollapseFault.{CollapseFault};
@@ -57,7 +57,7 @@ pub(crate) struct UnopenedInputs<R> {
 
 // Whether one of the files has this name.
 pub(crate) fn is_input<R>(files: &[NamedFile<R>], name: &[u8]) -> bool
-    ensures { result ≡ is_one_of files.now name.now }
+    ensures { result ≡ has_file_named files.now name.now }
 {
     files.iter().any(|file| file.name.as_slice() == name)
 }

@@ -8,7 +8,7 @@ ghost use Rattle.pc_texts.specs.Texts.{joined_line};
 ghost use Rattle.pc_texts.specs.declared.files.NamedFile.{NamedFile};
 ghost use Rattle.pc_stream_join.specs.Headers.{AreHeaded};
 ghost use Rattle.pc_collapse_files.specs.Collapses.{StaysAs};
-ghost use Rattle.pc_collapse_files.specs.Inputs.{IsFaultOf, IsOpenedAs, IsUnwritten, IsWrittenOf};
+ghost use Rattle.pc_collapse_files.specs.Inputs.{IsFileFault, IsOpenedAs, IsUnwritten, IsWrittenOf};
 ghost use Rattle.pc_collapse_files.specs.declared.inputs.CollapseFault.{CollapseFault};
 
 use crate::inputs::{CollapseFault, OpenedInputs};
@@ -120,7 +120,7 @@ pub(crate) fn write_file<R: Read + Drop, F: Write + Drop, M: Maker<F>>(
 
 // The fault of a file that was begun: the device's if one of its own calls failed.
 fn fault_of<F>(file: &Tally<F>, why: Refusal) -> CollapseFault
-    ensures { IsFaultOf file.now why result }
+    ensures { IsFileFault file.now why result }
 {
     if file.failures() > 0 {
         CollapseFault::Unwritten

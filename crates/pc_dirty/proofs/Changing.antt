@@ -7,7 +7,7 @@ use Rattle.pc_dirty.specs.declared.side.SideSlot.{SideSlot}
 use Rattle.pc_dirty.specs.declared.side.Side.{Side}
 use Rattle.pc_dirty.specs.declared.side.Side.TheVariants.{First, Second}
 use Rattle.pc_dirty.specs.declared.dirty.Dirty.{Dirty}
-use Rattle.pc_dirty.specs.Sets.{other_side, place_of, places_of, AreSets}
+use Rattle.pc_dirty.specs.Sets.{other_side, place_on_side, places_of, AreSets}
 
 sides_differ : (side : Side) → side ≢ other_side side
 sides_differ First e = cc
@@ -17,20 +17,20 @@ pub turned_twice : (side : Side) → other_side (other_side side) ≡ side
 turned_twice First = refl
 turned_twice Second = refl
 
-pub avoids_places : (side : Side) (slot : ℕ) (slots : List ℕ) → Avoids slot slots → Avoids (place_of side slot) (places_of side slots)
+pub avoids_places : (side : Side) (slot : ℕ) (slots : List ℕ) → Avoids slot slots → Avoids (place_on_side side slot) (places_of side slots)
 avoids_places side slot [] a = tt
 avoids_places side slot (x ∷ xs) a = ((λ e. a.0 (ap (λ (p : SideSlot). p.slot) e)), avoids_places side slot xs a.1)
 
-pub avoids_slots : (side : Side) (slot : ℕ) (slots : List ℕ) → Avoids (place_of side slot) (places_of side slots) → Avoids slot slots
+pub avoids_slots : (side : Side) (slot : ℕ) (slots : List ℕ) → Avoids (place_on_side side slot) (places_of side slots) → Avoids slot slots
 avoids_slots side slot [] a = tt
-avoids_slots side slot (x ∷ xs) a = ((λ e. a.0 (ap (place_of side) e)), avoids_slots side slot xs a.1)
+avoids_slots side slot (x ∷ xs) a = ((λ e. a.0 (ap (place_on_side side) e)), avoids_slots side slot xs a.1)
 
 pub places_count : (side : Side) (slots : List ℕ) → length (places_of side slots) ≡ length slots
 places_count side [] = refl
 places_count side (x ∷ xs) = let h = places_count side xs in omega (arith, h)
 
 -- a place is in a list if its slot is
-pub place_told : (side : Side) (slot : ℕ) (slots : List ℕ) (answer : Bool) → (answer ≡ false) ↔ Avoids (place_of side slot) (places_of side slots) → (answer ≡ false) ↔ Avoids slot slots
+pub place_told : (side : Side) (slot : ℕ) (slots : List ℕ) (answer : Bool) → (answer ≡ false) ↔ Avoids (place_on_side side slot) (places_of side slots) → (answer ≡ false) ↔ Avoids slot slots
 place_told side slot slots answer h = ((λ e. avoids_slots side slot slots (h.0 e)), (λ a. h.1 (avoids_places side slot slots a)))
 
 -- nothing is in a list of no slots
@@ -39,11 +39,11 @@ none_told slot [] count e z = ((λ f. tt), (λ a. refl))
 none_told slot (x ∷ xs) count e z = absurd (omega (arith, e, z))
 
 -- no place is on both sides
-pub avoids_other : (side : Side) (slot : ℕ) (slots : List ℕ) → Avoids (place_of side slot) (places_of (other_side side) slots)
+pub avoids_other : (side : Side) (slot : ℕ) (slots : List ℕ) → Avoids (place_on_side side slot) (places_of (other_side side) slots)
 avoids_other side slot [] = tt
 avoids_other side slot (x ∷ xs) = ((λ e. sides_differ side (sym (ap (λ (p : SideSlot). p.side) e))), avoids_other side slot xs)
 
-avoids_turned : (side : Side) (slot : ℕ) (slots : List ℕ) → Avoids (place_of (other_side side) slot) (places_of side slots)
+avoids_turned : (side : Side) (slot : ℕ) (slots : List ℕ) → Avoids (place_on_side (other_side side) slot) (places_of side slots)
 avoids_turned side slot [] = tt
 avoids_turned side slot (x ∷ xs) = ((λ e. sides_differ side (ap (λ (p : SideSlot). p.side) e)), avoids_turned side slot xs)
 
@@ -51,16 +51,16 @@ pub sides_apart : (side : Side) (xs ys : List ℕ) → AreDisjoint (places_of si
 sides_apart side xs [] = tt
 sides_apart side xs (y ∷ ys) = (avoids_turned side y xs, sides_apart side xs ys)
 
-pub places_push : (side : Side) (slots : List ℕ) (slot : ℕ) → places_of side (slots ++ slot ∷ []) ≡ places_of side slots ++ place_of side slot ∷ []
+pub places_push : (side : Side) (slots : List ℕ) (slot : ℕ) → places_of side (slots ++ slot ∷ []) ≡ places_of side slots ++ place_on_side side slot ∷ []
 places_push side [] slot = refl
-places_push side (x ∷ xs) slot = ap (λ (ps : List SideSlot). place_of side x ∷ ps) (places_push side xs slot)
+places_push side (x ∷ xs) slot = ap (λ (ps : List SideSlot). place_on_side side x ∷ ps) (places_push side xs slot)
 
 length_push : (xs : List ℕ) (x : ℕ) → length (xs ++ x ∷ []) ≡ length xs + 1
 length_push [] x = refl
 length_push (y ∷ ys) x = let h = length_push ys x in omega (arith, h)
 
 -- a slot went in
-pub set_added : (has has' : SideSlot → Type 0) (next next' : SideSlot → Option SideSlot) (old : Dirty) (chain : Chain SideSlot) (opened closed : List ℕ) (slot : ℕ) → AreSets has next old opened closed → IsChain has' next' chain (places_of old.side opened ++ place_of old.side slot ∷ []) →
+pub set_added : (has has' : SideSlot → Type 0) (next next' : SideSlot → Option SideSlot) (old : Dirty) (chain : Chain SideSlot) (opened closed : List ℕ) (slot : ℕ) → AreSets has next old opened closed → IsChain has' next' chain (places_of old.side opened ++ place_on_side old.side slot ∷ []) →
     IsChain has' next' old.closed (places_of (other_side old.side) closed) → AreSets has' next' (record old { opened = chain; open_count = old.open_count + 1 }) (opened ++ slot ∷ []) closed
 set_added has has' next next' old chain opened closed slot d c k = record {
   open_chain = subst (λ (ps : List SideSlot). IsChain has' next' chain ps) (sym (places_push old.side opened slot)) c;
@@ -81,7 +81,7 @@ set_closed has next old chain opened d e = record {
 
 pub first_place : (side : Side) (slots : List ℕ) (place : SideSlot) → Some place ≡ first_of (places_of side slots) → Some place.slot ≡ first_of slots
 first_place side [] place e = absurd cc
-first_place side (x ∷ xs) place e = let f : place ≡ place_of side x = cc in ap (λ (p : SideSlot). Some p.slot) f
+first_place side (x ∷ xs) place e = let f : place ≡ place_on_side side x = cc in ap (λ (p : SideSlot). Some p.slot) f
 
 pub no_place : (side : Side) (slots : List ℕ) → None ≡ first_of (places_of side slots) → slots ≡ []
 no_place side [] e = refl

@@ -12,12 +12,12 @@ other_side First = Second
 other_side Second = First
 
 -- the slot's place on the side
-abbrev pub place_of : Side → ℕ → SideSlot
-place_of side slot = record { slot = slot; side = side }
+abbrev pub place_on_side : Side → ℕ → SideSlot
+place_on_side side slot = record { slot = slot; side = side }
 
 -- the places of the slots on the side
 abbrev pub places_of : Side → List ℕ → List SideSlot
-places_of side slots = map (place_of side) slots
+places_of side slots = map (place_on_side side) slots
 
 -- over these links the open set is the one list, and the closed set the other
 pub record AreSets (has : SideSlot → Type 0) (next : SideSlot → Option SideSlot) (dirty : Dirty) (opened closed : List ℕ) : Type 0 where
@@ -34,18 +34,18 @@ pub record AreEmpty (dirty : Dirty) : Type 0 where
   pub closed_count : dirty.closed_count ≡ 0
 
 -- at most that many slots, along the links from this place on
-abbrev pub follow : (SideSlot → Option SideSlot) → ℕ → Option SideSlot → List ℕ
-follow next n None = []
-follow next zero (Some place) = []
-follow next (suc n) (Some place) = place.slot ∷ follow next n (next place)
+abbrev pub linked_slots : (SideSlot → Option SideSlot) → ℕ → Option SideSlot → List ℕ
+linked_slots next n None = []
+linked_slots next zero (Some place) = []
+linked_slots next (suc n) (Some place) = place.slot ∷ linked_slots next n (next place)
 
 -- the slots of the open set, by the links
 abbrev pub opened_of : (SideSlot → Option SideSlot) → Dirty → List ℕ
-opened_of next dirty = follow next dirty.open_count dirty.opened.first
+opened_of next dirty = linked_slots next dirty.open_count dirty.opened.first
 
 -- the slots of the closed set, by the links
 abbrev pub closed_of : (SideSlot → Option SideSlot) → Dirty → List ℕ
-closed_of next dirty = follow next dirty.closed_count dirty.closed.first
+closed_of next dirty = linked_slots next dirty.closed_count dirty.closed.first
 
 -- no slot occurs twice
 abbrev pub HasNoRepeats : List ℕ → Type 0

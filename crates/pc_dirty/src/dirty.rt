@@ -1,7 +1,7 @@
 //! The two sets.
 ghost use Rattle.std.specs.Prelude.{◌≡◌, ◌<◌, ◌+◌, ◌^◌, ◌∷◌, ◌++◌, ◌↔◌, [], false, ℕ, List, length, IsTrue};
 ghost use Rattle.pc_chain.specs.Chains.{first_of, rest_of, Avoids};
-ghost use Rattle.pc_dirty.specs.Sets.{other_side, place_of, AreSets, AreEmpty};
+ghost use Rattle.pc_dirty.specs.Sets.{other_side, place_on_side, AreSets, AreEmpty};
 
 use crate::side::{Side, SideSlot};
 use pc_chain::{Chain, Links};
@@ -73,7 +73,7 @@ impl Dirty {
     /// Adds a slot at the end of the open set; if the set has it, all stays as it is. It looks for the slot along the set
     /// (`in_open`); `add_new` doesn't.
     pub fn add<K, L: Links<K, Id = SideSlot>>(&mut self, links: &mut L, slot: SlotId)
-        requires has { L.has links.old (place_of self.old.side slot) }
+        requires has { L.has links.old (place_on_side self.old.side slot) }
         requires stands { (opened closed : List ℕ) × AreSets (L.has links.old) (L.next_of links.old) self.old opened closed × (length opened + 1 < 2 ^ 32) }
         ensures added { (opened closed : List ℕ) → AreSets (L.has links.old) (L.next_of links.old) self.old opened closed → Avoids slot opened → AreSets (L.has links.new) (L.next_of links.new) self.new (opened ++ slot ∷ []) closed }
         ensures kept { (opened closed : List ℕ) → AreSets (L.has links.old) (L.next_of links.old) self.old opened closed → ¬ Avoids slot opened → (self.new ≡ self.old) × (links.new ≡ links.old) }
@@ -88,7 +88,7 @@ impl Dirty {
 
     /// Adds a slot, which isn't in the open set, at its end. No slot of the set is looked at.
     pub fn add_new<K, L: Links<K, Id = SideSlot>>(&mut self, links: &mut L, slot: SlotId)
-        requires has { L.has links.old (place_of self.old.side slot) }
+        requires has { L.has links.old (place_on_side self.old.side slot) }
         requires stands { (opened closed : List ℕ) × AreSets (L.has links.old) (L.next_of links.old) self.old opened closed × Avoids slot opened × (length opened + 1 < 2 ^ 32) }
         ensures sets { (opened closed : List ℕ) → AreSets (L.has links.old) (L.next_of links.old) self.old opened closed → Avoids slot opened → AreSets (L.has links.new) (L.next_of links.new) self.new (opened ++ slot ∷ []) closed }
         ensures side { self.new.side ≡ self.old.side }

@@ -4,10 +4,10 @@ use Rattle.std.specs.Prelude.{filter}
 use Rattle.std.proofs.lemmas.Bool.Decides.{nat_tests}
 use Rattle.std.proofs.lemmas.List.{take_more, take_all, get_or-set_same, get_or-set_other}
 use Rattle.pc_model.specs.Files.{numbers_to}
-use Rattle.pc_model.specs.History.{History, Effect, class_of, class_by, phase_of, begun, is_open, open_by, number_of, number_by, has_died, died_by, writes_of, writes_by}
+use Rattle.pc_model.specs.History.{History, Effect, class_of, class_by, phase_of, begun, is_open, open_by, transaction_number_of, transaction_number_by, has_died, died_by, writes_of, writes_by}
 use Rattle.pc_types.specs.declared.Class.{Class}
 use Rattle.pc_types.specs.Phases.{same_class}
-use Rattle.pc_transactions.specs.Sessions.{with_session, is_of, count_of}
+use Rattle.pc_transactions.specs.Sessions.{with_session, is_of_class, class_count}
 use Rattle.pc_transactions.specs.Actives.{active_in as session_at}
 use Rattle.pc_transactions.specs.Actives.{Active}
 use Rattle.pc_engine.specs.Stands.{active_after}
@@ -18,11 +18,11 @@ is_past sessions s = eqb s 0 || nat_lt (length sessions) s
 
 -- the session's last transaction, by the history
 abbrev pub active_now : ℕ → History → Active
-active_now s h = record { number = number_of s h; class = class_of s h; has_died = has_died s h; writes = writes_of s h }
+active_now s h = record { number = transaction_number_of s h; class = class_of s h; has_died = has_died s h; writes = writes_of s h }
 
 -- the session's open transaction after this effect
 abbrev pub active_by : ℕ → Effect → History → Option Active
-active_by s e h = cond (open_by s e (is_open s h)) (Some (record { number = number_by s e (begun h) (number_of s h); class = class_by s e (phase_of h) (class_of s h); has_died = died_by s e (has_died s h); writes = writes_by s e (writes_of s h) })) None
+active_by s e h = cond (open_by s e (is_open s h)) (Some (record { number = transaction_number_by s e (begun h) (transaction_number_of s h); class = class_by s e (phase_of h) (class_of s h); has_died = died_by s e (has_died s h); writes = writes_by s e (writes_of s h) })) None
 
 -- the sessions say which transactions are open after the history, and after one more effect
 abbrev pub AreSessions : List (Option Active) → History → Type 0
@@ -55,7 +55,7 @@ one_session ss s x e h own is others before t there = session_set ss s t x own t
     by_same false same = before t there ∙ sym (others t same)
 
 -- the sessions determine how many are active of a class
-of_in : (class : Class) (b : Bool) (a : Active) → is_of class (cond b (Some a) None) ≡ (b && same_class a.class class)
+of_in : (class : Class) (b : Bool) (a : Active) → is_of_class class (cond b (Some a) None) ≡ (b && same_class a.class class)
 of_in class true a = refl
 of_in class false a = refl
 
@@ -71,21 +71,21 @@ module _ (ss : List (Option Active)) (h : History) (class : Class) (are : AreSes
   abbrev open_of : ℕ → Bool
   open_of s = is_open s h && same_class (class_of s h) class
 
-  count_to : (n : ℕ) → n ≤ length ss → count_of class (take n ss) ≡ length (filter open_of (numbers_to n))
+  count_to : (n : ℕ) → n ≤ length ss → class_count class (take n ss) ≡ length (filter open_of (numbers_to n))
   count_to zero le = refl
   count_to (suc n) le =
       let inside : n < length ss = omega (arith, le) in
       let there : is_past ss (n + 1) ≡ false = grind (arith, nat_tests, inside) in
       let less : n ≤ length ss = omega (arith, le) in
       let place : n ≡ n + 1 - 1 = omega arith in
-      let found : is_of class (get_or ss n None) ≡ open_of (n + 1) = ap (λ k. is_of class (get_or ss k None)) place ∙ ap (is_of class) (are (n + 1) there) ∙ of_in class (is_open (n + 1) h) (active_now (n + 1) h) in
+      let found : is_of_class class (get_or ss n None) ≡ open_of (n + 1) = ap (λ k. is_of_class class (get_or ss k None)) place ∙ ap (is_of_class class) (are (n + 1) there) ∙ of_in class (is_open (n + 1) h) (active_now (n + 1) h) in
       let next : suc n ≡ n + 1 = omega arith in
-      ap (λ k. count_of class (take k ss)) next
-      ∙ ap (count_of class) (take_more ss n None inside) ∙ length-filter_push (is_of class) (take n ss) (get_or ss n None)
-      ∙ ap (λ m. m + cond (is_of class (get_or ss n None)) 1 0) (count_to n less)
+      ap (λ k. class_count class (take k ss)) next
+      ∙ ap (class_count class) (take_more ss n None inside) ∙ length-filter_push (is_of_class class) (take n ss) (get_or ss n None)
+      ∙ ap (λ m. m + cond (is_of_class class (get_or ss n None)) 1 0) (count_to n less)
       ∙ ap (λ b. length (filter open_of (numbers_to n)) + cond b 1 0) found
       ∙ sym (length-filter_push open_of (numbers_to n) (n + 1))
       ∙ ap (λ k. length (filter open_of (numbers_to n ++ k ∷ []))) (sym next)
 
-  pub count_now : count_of class ss ≡ length (filter open_of (numbers_to (length ss)))
-  count_now = ap (count_of class) (sym (take_all (length ss) ss (let le : length ss ≤ length ss = omega arith in le))) ∙ count_to (length ss) (let le : length ss ≤ length ss = omega arith in le)
+  pub count_now : class_count class ss ≡ length (filter open_of (numbers_to (length ss)))
+  count_now = ap (class_count class) (sym (take_all (length ss) ss (let le : length ss ≤ length ss = omega arith in le))) ∙ count_to (length ss) (let le : length ss ≤ length ss = omega arith in le)

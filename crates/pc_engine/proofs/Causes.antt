@@ -1,6 +1,6 @@
 -- The reply that is owed if a cause applies.
-use Rattle.pc_transactions.specs.Adds.{add_causes, GoesOn, IsRefusedFor, sum_in}
-use Rattle.pc_types.specs.Changes.{number_of, sum_if, added, can_add}
+use Rattle.pc_transactions.specs.Adds.{sum_causes, AddProceeds, IsRefusedFor, sum_or_zero}
+use Rattle.pc_types.specs.Changes.{content_number, sum_if, added, can_add}
 use Rattle.pc_types.specs.declared.Outcome.TheVariants.{Granted, Queued, Died}
 use Rattle.pc_types.specs.declared.Change.TheVariants.{Add}
 use Rattle.pc_types.specs.declared.Change.{Change}
@@ -16,9 +16,9 @@ use Rattle.pc_types.specs.declared.Outcome.{Outcome}
 use Rattle.pc_model.specs.Database.{change_to, write_of, written}
 use Rattle.pc_model.specs.Replies.{first_refusal, by_outcome, is_granted}
 use Rattle.pc_answers.specs.Replies.{write_reply}
-use Rattle.pc_transactions.specs.Ongoing.{Ongoing, own, after_answer}
+use Rattle.pc_transactions.specs.Ongoing.{Ongoing, own_transaction, after_answer}
 use Rattle.pc_transactions.specs.Sessions.{with_session, after_writing, if_granted, writes_in, seen_in}
-use Rattle.pc_engine.specs.Steps.{OpenCause, WriteCause, Gets, WritesKey, Commits, is_log_full, Owes, outcome_in, after_asking, write_causes, adding_causes, AddsTo}
+use Rattle.pc_engine.specs.Steps.{OpenCause, WriteCause, Gets, WritesKey, Commits, is_log_full, Owes, outcome_in, after_asking, write_refusal_causes, adding_causes, AddsTo}
 use Rattle.pc_records.specs.RowSteps.{is_full_for, why_refused}
 
 -- the refusal of an open transaction's event is due, whatever else the event asks
@@ -40,7 +40,7 @@ full_or_memory false old Done = inr (refl, refl)
 
 -- what goes on once the request of a write is answered
 abbrev asked_so : Ongoing → ℕ → List ℕ → Option (List ℕ) → Outcome → Ongoing
-asked_so was s key content o = after_answer was s key Exclusive o (if_granted o (with_session was.sessions s (after_writing (own was s) (write_of key (change_to content)))) was.sessions)
+asked_so was s key content o = after_answer was s key Exclusive o (if_granted o (with_session was.sessions s (after_writing (own_transaction was s) (write_of key (change_to content)))) was.sessions)
 
 -- a write that is answered
 pub write_answered : (old new : Store) (s : ℕ) (key : List ℕ) (content : Option (List ℕ)) (reply : Reply) (o : Outcome) → WriteCause old s key None → is_full_for old.kept key ≡ false → o ≡ outcome_in old s key Exclusive → reply ≡ by_outcome o told.Ok
@@ -75,28 +75,28 @@ stands_before (c ∷ causes) more r e = by_test c.0 refl e (stands_before causes
 -- an add that goes on: nothing prevents it, and it has this sum if its request is granted
 record Goes (full : Bool) (o : Outcome) (there : Option (List ℕ)) (own : Option Change) (delta : ℤ) (sum : Option ℤ) : Type 0 where
   room : full ≡ false
-  none : first_refusal (add_causes o there own delta) ≡ None
-  told_so : by_outcome o (told.Sum (sum_in sum)) ≡ by_outcome o (told.Sum (sum_in (added delta there)))
+  none : first_refusal (sum_causes o there own delta) ≡ None
+  told_so : by_outcome o (told.Sum (sum_or_zero sum)) ≡ by_outcome o (told.Sum (sum_or_zero (added delta there)))
 
-goes : (full : Bool) (o : Outcome) (there : Option (List ℕ)) (own : Option Change) (delta : ℤ) (sum : Option ℤ) → GoesOn full o there own delta sum → Goes full o there own delta sum
+goes : (full : Bool) (o : Outcome) (there : Option (List ℕ)) (own : Option Change) (delta : ℤ) (sum : Option ℤ) → AddProceeds full o there own delta sum → Goes full o there own delta sum
 goes full o there own delta None g = record {
   room = g.0;
-  none = ap (λ b. first_refusal ((b && is_none (number_of there), why.NotNumber) ∷ (b && (is_none (added delta there) || not (can_add own delta)), why.OutOfRange) ∷ [])) g.1;
+  none = ap (λ b. first_refusal ((b && is_none (content_number there), why.NotNumber) ∷ (b && (is_none (added delta there) || not (can_add own delta)), why.OutOfRange) ∷ [])) g.1;
   told_so = by_outcome_of o g.1;
 }
   where
-    by_outcome_of : (o : Outcome) → is_granted o ≡ false → by_outcome o (told.Sum (sum_in None)) ≡ by_outcome o (told.Sum (sum_in (added delta there)))
+    by_outcome_of : (o : Outcome) → is_granted o ≡ false → by_outcome o (told.Sum (sum_or_zero None)) ≡ by_outcome o (told.Sum (sum_or_zero (added delta there)))
     by_outcome_of Granted e = absurd (let no : true ≡ false = e in cc)
     by_outcome_of Queued e = refl
     by_outcome_of Died e = refl
 goes full o there own delta (Some sum) g = record {
   room = g.0;
   none =
-      ap (λ o. first_refusal (add_causes o there own delta)) g.1
-      ∙ ap (λ b. first_refusal ((b, why.NotNumber) ∷ (is_none (added delta there) || not (can_add own delta), why.OutOfRange) ∷ [])) (has_number (number_of there) g.2)
+      ap (λ o. first_refusal (sum_causes o there own delta)) g.1
+      ∙ ap (λ b. first_refusal ((b, why.NotNumber) ∷ (is_none (added delta there) || not (can_add own delta), why.OutOfRange) ∷ [])) (has_number (content_number there) g.2)
       ∙ ap (λ (x : Option ℤ). first_refusal ((is_none x || not (can_add own delta), why.OutOfRange) ∷ [])) g.2
       ∙ ap (λ b. first_refusal ((not b, why.OutOfRange) ∷ [])) g.3;
-  told_so = ap (λ x. by_outcome o (told.Sum (sum_in x))) (sym g.2);
+  told_so = ap (λ x. by_outcome o (told.Sum (sum_or_zero x))) (sym g.2);
 }
   where
     has_number : (n : Option ℤ) → sum_if n delta ≡ Some sum → is_none n ≡ false
@@ -105,11 +105,11 @@ goes full o there own delta (Some sum) g = record {
 
 -- a cause that refuses a write refuses an add too
 pub add_stopped : (w : Store) (s : ℕ) (key : List ℕ) (delta : ℤ) (r : Refusal) → WriteCause w s key (Some r) → AddsTo w s key delta (told.Refused r) w
-add_stopped w s key delta r due = rw (stands_before (write_causes w s key) (add_causes (outcome_in w s key Exclusive) (seen_in w.kept.rows (active w s) key) (written (writes_in (active w s)) key) delta) (told.Refused r) due) (refl, refl)
+add_stopped w s key delta r due = rw (stands_before (write_refusal_causes w s key) (sum_causes (outcome_in w s key Exclusive) (seen_in w.kept.rows (active w s) key) (written (writes_in (active w s)) key) delta) (told.Refused r) due) (refl, refl)
 
 module _ (w : Store) (s : ℕ) (key : List ℕ) (delta : ℤ) (may : WriteCause w s key None) where
   abbrev mine : List (Bool × Refusal)
-  mine = add_causes (outcome_in w s key Exclusive) (seen_in w.kept.rows (active w s) key) (written (writes_in (active w s)) key) delta
+  mine = sum_causes (outcome_in w s key Exclusive) (seen_in w.kept.rows (active w s) key) (written (writes_in (active w s)) key) delta
 
   left_causes : first_refusal (adding_causes w s key delta) ≡ first_refusal ((is_full_for w.kept key, why.Full) ∷ mine)
   left_causes = rw (may.0.known, may.0.opened, may.0.ready, may.0.alive, may.1) refl
@@ -118,7 +118,7 @@ module _ (w : Store) (s : ℕ) (key : List ℕ) (delta : ℤ) (may : WriteCause 
   pub add_refused : (r : Refusal) → IsRefusedFor (is_full_for w.kept key) (outcome_in w s key Exclusive) (seen_in w.kept.rows (active w s) key) (written (writes_in (active w s)) key) delta r → AddsTo w s key delta (told.Refused r) w
   add_refused r due = rw (left_causes ∙ due) (refl, refl)
 
-  module _ (sum : Option ℤ) (on : GoesOn (is_full_for w.kept key) (outcome_in w s key Exclusive) (seen_in w.kept.rows (active w s) key) (written (writes_in (active w s)) key) delta sum) where
+  module _ (sum : Option ℤ) (on : AddProceeds (is_full_for w.kept key) (outcome_in w s key Exclusive) (seen_in w.kept.rows (active w s) key) (written (writes_in (active w s)) key) delta sum) where
     none_stands : first_refusal (adding_causes w s key delta) ≡ None
     none_stands =
         let g = goes _ _ _ _ _ _ on in
@@ -132,10 +132,10 @@ module _ (w : Store) (s : ℕ) (key : List ℕ) (delta : ℤ) (may : WriteCause 
     add_refusal_is = ap (λ b. if b then why.Full else why.OutOfMemory) (goes _ _ _ _ _ _ on).room
 
     -- an add that is answered
-    pub add_answered : (new : Store) (reply : Reply) (o : Outcome) → o ≡ outcome_in w s key Exclusive → reply ≡ by_outcome o (told.Sum (sum_in sum)) →
+    pub add_answered : (new : Store) (reply : Reply) (o : Outcome) → o ≡ outcome_in w s key Exclusive → reply ≡ by_outcome o (told.Sum (sum_or_zero sum)) →
         new ≡ after_asking w s key Exclusive o (if_granted o (with_session w.sessions s (after_writing (active w s) (write_of key (Add delta)))) w.sessions) → AddsTo w s key delta reply new
     add_answered new reply o asked is leaves =
         rw none_stands (inl (
-          is ∙ ap (λ p. by_outcome p (told.Sum (sum_in sum))) asked ∙ (goes _ _ _ _ _ _ on).told_so,
+          is ∙ ap (λ p. by_outcome p (told.Sum (sum_or_zero sum))) asked ∙ (goes _ _ _ _ _ _ on).told_so,
           leaves ∙ ap (λ p. after_asking w s key Exclusive p (if_granted p (with_session w.sessions s (after_writing (active w s) (write_of key (Add delta)))) w.sessions)) asked,
         ))

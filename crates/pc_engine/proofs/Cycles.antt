@@ -24,7 +24,7 @@ use Rattle.pc_model.specs.History.Effect.{Moves, Nothing}
 use Rattle.pc_types.specs.declared.Class.TheVariants.{Before, During, After}
 use Rattle.pc_model.specs.Locks.{queue_of, queue_by}
 use Rattle.pc_model.specs.Points.{Triples, is_among, touched, taken, taken_by}
-use Rattle.pc_model.specs.Replies.{Setting, first_refusal, or_else, not_yet, is_in, active_in, log_is_full, join_refusal, join_causes, IsFileReply, is_empty, open_set, written_by, closed_set, TakesFirst as AnswersFirst}
+use Rattle.pc_model.specs.Replies.{Setting, first_refusal, or_else, not_yet, is_in_phase, active_in_class, log_is_full, join_refusal, join_causes, IsFileReply, is_empty, open_set, written_by, closed_set, TakesFirst as AnswersFirst}
 use Rattle.pc_types.specs.Phases.{same_phase}
 use Rattle.pc_model.specs.Headline.{is_taking}
 use Rattle.pc_model.specs.Standing.{HasLegalEffects, is_past_token}
@@ -38,7 +38,7 @@ use Rattle.pc_engine.specs.Steps.{after_moving, after_sealing, start_causes, mov
 use Rattle.pc_engine.specs.Stands.{IsReadOff, Stands, Follows, by_key}
 use Rattle.pc_records.proofs.FollowingLaws.{same_records}
 use Rattle.pc_records.proofs.CycleLaws.{closed_records, left_records, taken_value}
-use Rattle.pc_transactions.specs.Sessions.{count_of}
+use Rattle.pc_transactions.specs.Sessions.{class_count}
 use Rattle.pc_records.specs.Rows.{record_of, at_point}
 use Rattle.pc_engine.proofs.ActiveSessions.{active_by, count_now}
 use Rattle.pc_engine.proofs.Gathered.{apart_from, by_key_more, by_key_none, count_by_key, earlier_apart, front_once, same_triples}
@@ -93,13 +93,13 @@ module _ (old new : Store) (h : History) (reply : Reply) (stands : Stands old h)
   legal_before : HasLegalEffects st h
   legal_before = legal_has_legal_effects st h stands.legal
 
-  in_phase : (p : Phase) → same_phase old.cycle.phase p ≡ is_in p h
+  in_phase : (p : Phase) → same_phase old.cycle.phase p ≡ is_in_phase p h
   in_phase p = ap (λ x. same_phase x p) stands.parts.cycle.phase
 
   log_full : eqb (length old.log) 16777216 ≡ log_is_full h
   log_full = ap (λ (l : List Entry). eqb (length l) 16777216) stands.parts.log
 
-  is_phase : (p : Phase) → is_in p h ≡ true → phase_of h ≡ p
+  is_phase : (p : Phase) → is_in_phase p h ≡ true → phase_of h ≡ p
   is_phase p e = one_phase (phase_of h) p e
 
   pub starts_follows : StartsPoint old reply new → Follows st h asked.StartPoint reply new
@@ -107,8 +107,8 @@ module _ (old new : Store) (h : History) (reply : Reply) (stands : Stands old h)
       owes_follows old new h asked.StartPoint reply _ (first_refusal (start_causes old)) stands tt
       (start_due (not (same_phase old.cycle.phase Rest)) ((eqb old.cycle.point 65535, why.PointsFull) ∷ (eqb (length old.log) 16777216, why.LogFull) ∷ [])
       ∙ ap (λ b. or_else (first_refusal ((not b, why.WrongPhase) ∷ [])) (first_refusal ((eqb old.cycle.point 65535, why.PointsFull) ∷ (eqb (length old.log) 16777216, why.LogFull) ∷ []))) (in_phase Rest)
-      ∙ ap (λ n. or_else (first_refusal ((not (is_in Rest h), why.WrongPhase) ∷ [])) (first_refusal ((eqb n 65535, why.PointsFull) ∷ (eqb (length old.log) 16777216, why.LogFull) ∷ []))) stands.parts.cycle.point
-      ∙ ap (λ b. or_else (first_refusal ((not (is_in Rest h), why.WrongPhase) ∷ [])) (first_refusal ((eqb (point_of h) 65535, why.PointsFull) ∷ (b, why.LogFull) ∷ []))) log_full)
+      ∙ ap (λ n. or_else (first_refusal ((not (is_in_phase Rest h), why.WrongPhase) ∷ [])) (first_refusal ((eqb n 65535, why.PointsFull) ∷ (eqb (length old.log) 16777216, why.LogFull) ∷ []))) stands.parts.cycle.point
+      ∙ ap (λ b. or_else (first_refusal ((not (is_in_phase Rest h), why.WrongPhase) ∷ [])) (first_refusal ((eqb (point_of h) 65535, why.PointsFull) ∷ (b, why.LogFull) ∷ []))) log_full)
       (refused_idle asked.StartPoint (start_causes old)) step
       (λ none d. d.0 ∙ ap (λ n. told.Phase Prepare (n + 1)) stands.parts.cycle.point)
       (λ none d legal.
@@ -120,22 +120,22 @@ module _ (old new : Store) (h : History) (reply : Reply) (stands : Stands old h)
       start_due false cs = refl
 
   -- what is due to a change of the phase
-  moves_due : (from : Phase) (class : Class) → move_due from class old ≡ or_else (first_refusal ((not (is_in from h), why.WrongPhase) ∷ [])) (or_else (not_yet (active_in st class h)) (first_refusal ((log_is_full h, why.LogFull) ∷ [])))
+  moves_due : (from : Phase) (class : Class) → move_due from class old ≡ or_else (first_refusal ((not (is_in_phase from h), why.WrongPhase) ∷ [])) (or_else (not_yet (active_in_class st class h)) (first_refusal ((log_is_full h, why.LogFull) ∷ [])))
   moves_due from class =
-      ap (λ b. or_else (first_refusal ((not b, why.WrongPhase) ∷ [])) (or_else (not_yet (count_of class old.sessions)) (first_refusal ((eqb (length old.log) 16777216, why.LogFull) ∷ [])))) (in_phase from)
-      ∙ ap (λ n. or_else (first_refusal ((not (is_in from h), why.WrongPhase) ∷ [])) (or_else (not_yet n) (first_refusal ((eqb (length old.log) 16777216, why.LogFull) ∷ [])))) (count_now old.sessions h class stands.parts.sessions)
-      ∙ ap (λ b. or_else (first_refusal ((not (is_in from h), why.WrongPhase) ∷ [])) (or_else (not_yet (active_in st class h)) (first_refusal ((b, why.LogFull) ∷ [])))) log_full
+      ap (λ b. or_else (first_refusal ((not b, why.WrongPhase) ∷ [])) (or_else (not_yet (class_count class old.sessions)) (first_refusal ((eqb (length old.log) 16777216, why.LogFull) ∷ [])))) (in_phase from)
+      ∙ ap (λ n. or_else (first_refusal ((not (is_in_phase from h), why.WrongPhase) ∷ [])) (or_else (not_yet n) (first_refusal ((eqb (length old.log) 16777216, why.LogFull) ∷ [])))) (count_now old.sessions h class stands.parts.sessions)
+      ∙ ap (λ b. or_else (first_refusal ((not (is_in_phase from h), why.WrongPhase) ∷ [])) (or_else (not_yet (active_in_class st class h)) (first_refusal ((b, why.LogFull) ∷ [])))) log_full
 
   -- it does nothing
   move_idle : (event : Event) (from : Phase) (class : Class) → IfSome (move_due from class old) (λ d. effect_of event d ≡ Nothing)
   move_idle event from class =
       let full : List (Bool × Refusal) = (eqb (length old.log) 16777216, why.LogFull) ∷ [] in
       let other : List (Bool × Refusal) = (not (same_phase old.cycle.phase from), why.WrongPhase) ∷ [] in
-      idle_or event (first_refusal other) (or_else (not_yet (count_of class old.sessions)) (first_refusal full)) (refused_idle event other)
-      (idle_or event (not_yet (count_of class old.sessions)) (first_refusal full) (yet_idle event (count_of class old.sessions)) (refused_idle event full))
+      idle_or event (first_refusal other) (or_else (not_yet (class_count class old.sessions)) (first_refusal full)) (refused_idle event other)
+      (idle_or event (not_yet (class_count class old.sessions)) (first_refusal full) (yet_idle event (class_count class old.sessions)) (refused_idle event full))
 
   -- if nothing else is due at first, the phase is the right one
-  first_phase : (p : Phase) (rest : Option Reply) → or_else (first_refusal ((not (same_phase old.cycle.phase p), why.WrongPhase) ∷ [])) rest ≡ None → is_in p h ≡ true
+  first_phase : (p : Phase) (rest : Option Reply) → or_else (first_refusal ((not (same_phase old.cycle.phase p), why.WrongPhase) ∷ [])) rest ≡ None → is_in_phase p h ≡ true
   first_phase p rest none = sym (in_phase p) ∙ by_test (same_phase old.cycle.phase p) none
     where
       by_test : (b : Bool) → or_else (first_refusal ((not b, why.WrongPhase) ∷ [])) rest ≡ None → b ≡ true
@@ -143,8 +143,8 @@ module _ (old new : Store) (h : History) (reply : Reply) (stands : Stands old h)
       by_test false e = cc
 
   -- and so it is if no refusal is due
-  right_phase : (from : Phase) (class : Class) → move_due from class old ≡ None → is_in from h ≡ true
-  right_phase from class none = first_phase from (or_else (not_yet (count_of class old.sessions)) (first_refusal ((eqb (length old.log) 16777216, why.LogFull) ∷ []))) none
+  right_phase : (from : Phase) (class : Class) → move_due from class old ≡ None → is_in_phase from h ≡ true
+  right_phase from class none = first_phase from (or_else (not_yet (class_count class old.sessions)) (first_refusal ((eqb (length old.log) 16777216, why.LogFull) ∷ []))) none
 
   pub seals_follows : Seals old reply new → Follows st h asked.Seal reply new
   seals_follows step =
@@ -203,7 +203,7 @@ module _ (old new : Store) (h : History) (reply : Reply) (stands : Stands old h)
   takes_follows step =
       owes_follows old new h asked.Take reply _ (take_due old) stands tt
       (ap (λ b. or_else (first_refusal ((not b, why.WrongPhase) ∷ [])) (cond (is_empty old.cycle.closed_set) (Some told.NoneLeft) None)) (in_phase Capture)
-      ∙ ap (λ (ks : List (List ℕ)). or_else (first_refusal ((not (is_in Capture h), why.WrongPhase) ∷ [])) (cond (is_empty ks) (Some told.NoneLeft) None)) stands.parts.cycle.closed_set)
+      ∙ ap (λ (ks : List (List ℕ)). or_else (first_refusal ((not (is_in_phase Capture h), why.WrongPhase) ∷ [])) (cond (is_empty ks) (Some told.NoneLeft) None)) stands.parts.cycle.closed_set)
       (idle_or asked.Take (first_refusal ((not (same_phase old.cycle.phase Capture), why.WrongPhase) ∷ [])) (cond (is_empty old.cycle.closed_set) (Some told.NoneLeft) None) (refused_idle asked.Take ((not (same_phase old.cycle.phase Capture), why.WrongPhase) ∷ [])) (none_idle (is_empty old.cycle.closed_set)))
       step
       (λ none d. answers old.cycle.closed_set stands.parts.cycle.closed_set d)
@@ -259,12 +259,12 @@ module _ (old new : Store) (h : History) (reply : Reply) (stands : Stands old h)
       late : List (Bool × Refusal)
       late = (eqb (length old.shelf) 65536, why.ShelfFull) ∷ (eqb (length old.log) 16777216, why.LogFull) ∷ []
 
-      same : done_due old ≡ or_else (first_refusal ((not (is_in Capture h), why.WrongPhase) ∷ [])) (or_else (not_yet (length (closed_set h))) (first_refusal ((eqb (length (shelf st.run h)) 65536, why.ShelfFull) ∷ (log_is_full h, why.LogFull) ∷ [])))
+      same : done_due old ≡ or_else (first_refusal ((not (is_in_phase Capture h), why.WrongPhase) ∷ [])) (or_else (not_yet (length (closed_set h))) (first_refusal ((eqb (length (shelf st.run h)) 65536, why.ShelfFull) ∷ (log_is_full h, why.LogFull) ∷ [])))
       same =
           ap (λ b. or_else (first_refusal ((not b, why.WrongPhase) ∷ [])) (or_else (not_yet (length old.cycle.closed_set)) (first_refusal late))) (in_phase Capture)
-          ∙ ap (λ (ks : List (List ℕ)). or_else (first_refusal ((not (is_in Capture h), why.WrongPhase) ∷ [])) (or_else (not_yet (length ks)) (first_refusal late))) stands.parts.cycle.closed_set
-          ∙ ap (λ (fs : List File). or_else (first_refusal ((not (is_in Capture h), why.WrongPhase) ∷ [])) (or_else (not_yet (length (closed_set h))) (first_refusal ((eqb (length fs) 65536, why.ShelfFull) ∷ (eqb (length old.log) 16777216, why.LogFull) ∷ [])))) stands.parts.cycle.shelved
-          ∙ ap (λ b. or_else (first_refusal ((not (is_in Capture h), why.WrongPhase) ∷ [])) (or_else (not_yet (length (closed_set h))) (first_refusal ((eqb (length (shelf st.run h)) 65536, why.ShelfFull) ∷ (b, why.LogFull) ∷ [])))) log_full
+          ∙ ap (λ (ks : List (List ℕ)). or_else (first_refusal ((not (is_in_phase Capture h), why.WrongPhase) ∷ [])) (or_else (not_yet (length ks)) (first_refusal late))) stands.parts.cycle.closed_set
+          ∙ ap (λ (fs : List File). or_else (first_refusal ((not (is_in_phase Capture h), why.WrongPhase) ∷ [])) (or_else (not_yet (length (closed_set h))) (first_refusal ((eqb (length fs) 65536, why.ShelfFull) ∷ (eqb (length old.log) 16777216, why.LogFull) ∷ [])))) stands.parts.cycle.shelved
+          ∙ ap (λ b. or_else (first_refusal ((not (is_in_phase Capture h), why.WrongPhase) ∷ [])) (or_else (not_yet (length (closed_set h))) (first_refusal ((eqb (length (shelf st.run h)) 65536, why.ShelfFull) ∷ (b, why.LogFull) ∷ [])))) log_full
 
       idle : IfSome (done_due old) (λ d. effect_of asked.Done d ≡ Nothing)
       idle =
@@ -278,7 +278,7 @@ module _ (old new : Store) (h : History) (reply : Reply) (stands : Stands old h)
           let order = keys.taken_and_left (past_token st h legal_before (ap is_past_token captures)) in
           ap (λ (ts : List (List ℕ × Option (List ℕ))). length ts) (stands.parts.cycle.taken (ap is_taking captures)) ∙ count_by_key (taken h) (front_once (map (λ t. t.0) (taken h)) (closed_set h) (subst (IsDistinct same_bytes) (sym order) keys.once))
 
-      shelved_off : is_in Capture h ≡ true → HasLegalEffects st (with_step h asked.Done (told.PartDone old.cycle.point (length old.shelf + 1) (length old.cycle.taken))) →
+      shelved_off : is_in_phase Capture h ≡ true → HasLegalEffects st (with_step h asked.Done (told.PartDone old.cycle.point (length old.shelf + 1) (length old.cycle.taken))) →
           IsLeft old (record old { log = old.log ++ Token Complete old.cycle.point ∷ []; cycle = record old.cycle { phase = Complete; taken = [] }; shelf = old.shelf ++ part_taken old ∷ [] }) h asked.Done (told.PartDone old.cycle.point (length old.shelf + 1) (length old.cycle.taken))
       shelved_off captures legal =
           let done : Step = record { event = asked.Done; reply = told.PartDone old.cycle.point (length old.shelf + 1) (length old.cycle.taken) } in

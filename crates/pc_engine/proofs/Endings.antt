@@ -12,7 +12,7 @@ use Rattle.pc_types.specs.declared.Entry.{Entry}
 use Rattle.pc_types.specs.declared.Entry.TheVariants.{Commit}
 use Rattle.pc_model.specs.Log.{after}
 use Rattle.pc_model.specs.Files.{shelf}
-use Rattle.pc_model.specs.History.{History, class_in, effect_of, contents, log_of, begun, is_open, number_of, writes_of}
+use Rattle.pc_model.specs.History.{History, class_in, effect_of, contents, log_of, begun, is_open, transaction_number_of, writes_of}
 use Rattle.pc_model.specs.History.Effect.{Begins, Commits, Aborts, Nothing}
 use Rattle.pc_model.specs.Standing.{HasLegalEffects}
 use Rattle.pc_model.specs.Replies.{Setting, IsLegal, first_refusal, or_else, no_session, open_set}
@@ -31,7 +31,7 @@ use Rattle.pc_records.proofs.NewKeyLaws.{with_keys_new}
 use Rattle.pc_records.proofs.ReleaseLaws.{now_or, released_records, let_go_records}
 use Rattle.pc_transactions.proofs.PlacedWrites.{is_left}
 use Rattle.pc_types.specs.declared.Change.{Change}
-use Rattle.pc_types.specs.Changes.{changed}
+use Rattle.pc_types.specs.Changes.{changed_content}
 use Rattle.pc_model.proofs.DistinctWriteLaws.{seen_of}
 use Rattle.pc_records.proofs.WaitingLaws.{held_writes}
 use Rattle.pc_transactions.specs.Sessions.{number_in, writes_in, left_by, with_session}
@@ -67,9 +67,9 @@ told_of_abort (Some due) reply fact = fact
 
 -- what distinct writes leave of a key, if the rows have what the database has of it
 left_of_writes : (rows : List Row) (db : Database) (ws : List Write) (q : List ℕ) → AreDistinct ws → stored (record_of rows q) ≡ map_of.get db q → map_of.get (applied_all db ws) q ≡ now_or (left_by ws rows q) (map_of.get db q)
-left_of_writes rows db ws q distinct is = seen_of db ws q distinct ∙ by_change (written ws q) ∙ ap (λ c. now_or (option_map (λ change. changed change c) (written ws q)) (map_of.get db q)) (sym is)
+left_of_writes rows db ws q distinct is = seen_of db ws q distinct ∙ by_change (written ws q) ∙ ap (λ c. now_or (option_map (λ change. changed_content change c) (written ws q)) (map_of.get db q)) (sym is)
   where
-    by_change : (o : Option Change) → seen o (map_of.get db q) ≡ now_or (option_map (λ change. changed change (map_of.get db q)) o) (map_of.get db q)
+    by_change : (o : Option Change) → seen o (map_of.get db q) ≡ now_or (option_map (λ change. changed_content change (map_of.get db q)) o) (map_of.get db q)
     by_change None = refl
     by_change (Some change) = refl
 
@@ -132,7 +132,7 @@ module _ (old new : Store) (h : History) (s : ℕ) (reply : Reply) (stands : Sta
     where
       committed_off : IsOpenIn old h s → HasLegalEffects st (with_step h (asked.Commit s) (told.Committed (length old.log + 1))) →
           IsLeft old (record old {
-            kept = record old.kept { rows = released_rows (number_of s h) (map (written_row (left_by (writes_of s h) old.kept.rows)) old.kept.rows) };
+            kept = record old.kept { rows = released_rows (transaction_number_of s h) (map (written_row (left_by (writes_of s h) old.kept.rows)) old.kept.rows) };
             log = old.log ++ Commit s (writes_of s h) ∷ [];
             sessions = with_session old.sessions s None;
             cycle = record old.cycle { open_set = old.cycle.open_set ++ new_keys old.kept.rows (writes_of s h) };
@@ -143,7 +143,7 @@ module _ (old new : Store) (h : History) (s : ℕ) (reply : Reply) (stands : Sta
           let closed = closed_stays st h step legal refl in (
             same_setting old _ (length-set old.sessions _ _),
             record {
-              records = released_records old.base.pairs old.kept.rows h (step ∷ h) (writes_of s h) (left_by (writes_of s h) old.kept.rows) (number_of s h) (is_left (writes_of s h) old.kept.rows) locks.settled (held_writes h s locks at.opened)
+              records = released_records old.base.pairs old.kept.rows h (step ∷ h) (writes_of s h) (left_by (writes_of s h) old.kept.rows) (transaction_number_of s h) (is_left (writes_of s h) old.kept.rows) locks.settled (held_writes h s locks at.opened)
                   (λ q. ap (λ (db : Database). map_of.get db q) (after-append old.base.pairs (log_of h) (Commit s (writes_of s h) ∷ [])) ∙ left_of_writes old.kept.rows (contents old.base.pairs h) (writes_of s h) q (distinct_writes s h) (stands.parts.records.stored q)) (λ q. refl) refl closed (states_stay st h step legal) stands.parts.records;
               log = ap (λ (log : List Entry). log ++ Commit s (writes_of s h) ∷ []) stands.parts.log;
               begun = stands.parts.begun;
@@ -172,11 +172,11 @@ module _ (old new : Store) (h : History) (s : ℕ) (reply : Reply) (stands : Sta
       legal_by o is fact = subst (ToldOfAbort reply) (sym is ∙ causes_are) (told_of_abort o reply fact)
 
       aborted_off : IsOpenIn old h s → HasLegalEffects st (with_step h (asked.Abort s) told.Aborted) →
-          IsLeft old (record old { kept = record old.kept { rows = released_rows (number_of s h) old.kept.rows }; sessions = with_session old.sessions s None }) h (asked.Abort s) told.Aborted
+          IsLeft old (record old { kept = record old.kept { rows = released_rows (transaction_number_of s h) old.kept.rows }; sessions = with_session old.sessions s None }) h (asked.Abort s) told.Aborted
       aborted_off at legal =
           let stays : IsLocal old.base.run h (Aborts s) = record { no_entry = refl; no_begin = refl; same_phase = refl; same_point = refl; no_key = refl; same_closed = refl; none_taken = refl; none_shelved = refl } in
-          local_left old h (asked.Abort s) told.Aborted (Aborts s) refl stays legal (released_rows (number_of s h) old.kept.rows) (with_session old.sessions s None) (length-set old.sessions _ _)
-          (let_go_records old.base.pairs old.kept.rows h (with_step h (asked.Abort s) told.Aborted) (number_of s h) (locked_now old h stands).settled (ap (after old.base.pairs) (log_stays old h (asked.Abort s) told.Aborted (Aborts s) refl stays legal)) (λ q. refl)
+          local_left old h (asked.Abort s) told.Aborted (Aborts s) refl stays legal (released_rows (transaction_number_of s h) old.kept.rows) (with_session old.sessions s None) (length-set old.sessions _ _)
+          (let_go_records old.base.pairs old.kept.rows h (with_step h (asked.Abort s) told.Aborted) (transaction_number_of s h) (locked_now old h stands).settled (ap (after old.base.pairs) (log_stays old h (asked.Abort s) told.Aborted (Aborts s) refl stays legal)) (λ q. refl)
           (keys_stay old h (asked.Abort s) told.Aborted (Aborts s) refl stays legal) (closed_set_stays old h (asked.Abort s) told.Aborted (Aborts s) refl stays legal) (state_stays_at old h (asked.Abort s) told.Aborted (Aborts s) refl stays legal) stands.parts.records)
           (one_session old.sessions s None (Aborts s) h at.there (rw (same_number s) refl) (λ t other. rw other refl) stands.parts.sessions) tt stands.parts
 

@@ -18,7 +18,7 @@ use Rattle.pc_phase.specs.Agreement.{reply_of}
 use Rattle.pc_types.specs.declared.Entry.{Entry}
 use Rattle.pc_types.specs.declared.Entry.TheVariants.{Token}
 use Rattle.pc_model.specs.Files.{BaseFile, File}
-use Rattle.pc_transactions.specs.Ongoing.{Ongoing, changed}
+use Rattle.pc_transactions.specs.Ongoing.{Ongoing, after_phase_change}
 use Rattle.pc_engine.specs.Store.{Store}
 use Rattle.pc_types.specs.declared.limits.TheConstants.{MOST_POINTS}
 use Rattle.pc_types.specs.declared.Reply.TheVariants as told
@@ -127,7 +127,7 @@ seen_world base shelf o log taken = record {
 }
 
 -- the phases once a change is made
-pub changed_phases : (c : Change) (o : Ongoing) → (changed c o).phases ≡ advanced o.phases c
+pub changed_phases : (c : Change) (o : Ongoing) → (after_phase_change c o).phases ≡ advanced o.phases c
 changed_phases change.StartPoint o = refl
 changed_phases change.Seal o = refl
 changed_phases change.OpenCapture o = refl
@@ -136,7 +136,7 @@ changed_phases change.Rest o = refl
 
 -- the world once a change is made, and its token is logged
 pub changed_view : (base : BaseFile) (shelf : List File) (o : Ongoing) (log now : List Entry) (taken gathered : List (List ℕ × Option (List ℕ))) (c : Change) → LeavesShelf c → (c ≡ change.Seal → gathered ≡ []) → ((c ≡ change.Seal → ⊥) → gathered ≡ taken) → now ≡ log ++ Token (to_of c) (point_after c o.phases.point) ∷ [] →
-    seen_world base shelf (changed c o) now gathered ≡ after_change c (seen_world base shelf o log taken)
+    seen_world base shelf (after_phase_change c o) now gathered ≡ after_change c (seen_world base shelf o log taken)
 changed_view base shelf o log now taken gathered change.StartPoint it sealed other is = rw (is, other (λ e. let no : change.StartPoint ≡ change.Seal = e in cc)) refl
 changed_view base shelf o log now taken gathered change.Seal it sealed other is = rw (is, sealed refl) refl
 changed_view base shelf o log now taken gathered change.OpenCapture it sealed other is = rw (is, other (λ e. let no : change.OpenCapture ≡ change.Seal = e in cc)) refl

@@ -10,7 +10,7 @@ use Rattle.pc_types.specs.declared.Step.{Step}
 use Rattle.pc_model.specs.Maps as map_of
 use Rattle.pc_model.specs.Log.{after, state_at}
 use Rattle.pc_model.specs.Files.{File, shelf, shelved_by}
-use Rattle.pc_model.specs.History.{History, effect, effect_of, log_of, is_open, number_of, has_died, entries_by, begun_by, phase_by, point_by, begun, phase_of, point_of}
+use Rattle.pc_model.specs.History.{History, effect, effect_of, log_of, is_open, transaction_number_of, has_died, entries_by, begun_by, phase_by, point_by, begun, phase_of, point_of}
 use Rattle.pc_model.specs.History.Effect.{Nothing}
 use Rattle.pc_model.specs.Points.{is_among, taken, taken_by}
 use Rattle.pc_model.specs.Locks.{queue_of, queue_by, is_waiting}
@@ -26,7 +26,7 @@ use Rattle.pc_model.specs.SessionLocks.{Locked}
 use Rattle.pc_model.proofs.StandingLaws.{closed_stays, each_key_once, none_left}
 use Rattle.pc_model.specs.LegalEffects.{changes_closed}
 use Rattle.pc_model.proofs.ShelfFileLaws.{headline}
-use Rattle.pc_records.specs.RowSteps.{is_waiting as waits_in_rows}
+use Rattle.pc_records.specs.RowSteps.{is_waiting_in_rows as waits_in_rows}
 use Rattle.pc_records.proofs.FollowingLaws.{same_records}
 use Rattle.pc_records.proofs.WaitingLaws.{waiting_now}
 use Rattle.pc_transactions.specs.Sessions.{number_in, has_died_in}
@@ -179,7 +179,7 @@ pub in_transaction : (w : Store) (h : History) (s : ℕ) (mine theirs : List (Bo
     first_refusal (open_causes w s mine) ≡ first_refusal ((no_session (setting_of w) s, why.NoSession) ∷ (not (is_open s h), why.NoTransaction) ∷ (is_waiting s h, why.StillWaiting) ∷ (has_died s h, why.MustAbort) ∷ theirs)
 in_transaction w h s mine theirs stands then = by_session (setting_of w) s (causes_by w mine (active w s)) (causes_after h s theirs) (λ there. ap (λ a. first_refusal (causes_by w mine a)) (stands.parts.sessions s there) ∙ by_open (is_open s h) refl (then there))
   where
-    waits : is_open s h ≡ true → waits_in_rows w.kept.rows (number_of s h) ≡ is_waiting s h
+    waits : is_open s h ≡ true → waits_in_rows w.kept.rows (transaction_number_of s h) ≡ is_waiting s h
     waits opened = waiting_now w.base.pairs w.kept.rows h s (locked_now w h stands) stands.parts.records opened
 
     by_open : (b : Bool) → is_open s h ≡ b → (is_open s h ≡ true → first_refusal mine ≡ first_refusal theirs) →

@@ -1,9 +1,9 @@
 -- What a read and a write leave of a world that represents a history.
 use Rattle.std.specs.Prelude.{ℤ}
 use Rattle.pc_types.specs.declared.Change.TheVariants.{Add}
-use Rattle.pc_types.specs.Changes.{added, fits}
+use Rattle.pc_types.specs.Changes.{added, fits_i64}
 use Rattle.pc_model.proofs.AddLaws.{add_stands}
-use Rattle.pc_transactions.specs.Adds.{add_causes, sum_in}
+use Rattle.pc_transactions.specs.Adds.{sum_causes, sum_or_zero}
 use Rattle.std.proofs.Common.{◌≡◌, ℕ, List, [], ◌∷◌, ◌++◌, length, subst, Option, Some, None, is_some, is_none, refl, sym, ap, ◌∙◌, cond, true, false, Bool, not, eqb, ◌&&◌}
 use Rattle.std.proofs.lemmas.List.{length-set}
 use Rattle.pc_types.specs.declared.Mode.{Mode}
@@ -17,7 +17,7 @@ use Rattle.pc_types.specs.declared.Refusal.TheVariants as why
 use Rattle.pc_types.specs.Limits.{IsKey, IsValue}
 use Rattle.pc_model.specs.Database.{same_bytes, written, seen, change_to, write_of}
 use Rattle.pc_model.specs.Log.{after}
-use Rattle.pc_model.specs.History.{History, Effect, effect_of, effect_of_get, effect_of_write, is_open, number_of, writes_of, has_died, effect_of_add}
+use Rattle.pc_model.specs.History.{History, Effect, effect_of, effect_of_get, effect_of_write, is_open, transaction_number_of, writes_of, has_died, effect_of_add}
 use Rattle.pc_model.specs.History.Effect.{Reads, Writes, Waits, Dies, Adds}
 use Rattle.pc_model.specs.Headline.{ValueBy}
 use Rattle.pc_model.specs.Standing.{HasLegalEffects}
@@ -34,7 +34,7 @@ use Rattle.pc_transactions.specs.Sessions.{number_in, writes_in, seen_in, with_s
 use Rattle.pc_engine.specs.Store.{Store, setting_of, active}
 use Rattle.pc_transactions.specs.Actives.{active_in as session_at}
 use Rattle.pc_transactions.specs.Actives.{Active}
-use Rattle.pc_engine.specs.Steps.{open_causes, write_causes, after_asking, outcome_in, Gets, WritesKey, AddsTo, adding_causes}
+use Rattle.pc_engine.specs.Steps.{open_causes, write_refusal_causes, after_asking, outcome_in, Gets, WritesKey, AddsTo, adding_causes}
 use Rattle.pc_engine.specs.Stands.{IsReadOff, Stands, Follows}
 use Rattle.pc_engine.proofs.ActiveSessions.{is_past, active_now, active_by, same_number, one_session}
 use Rattle.pc_engine.proofs.LocalSteps.{IsLocal, local_left, log_stays, keys_stay, closed_set_stays, state_stays_at}
@@ -63,7 +63,7 @@ add_effect s key delta sum Queued = refl
 add_effect s key delta sum Died = refl
 
 -- if a granted add has a sum, that is the reply
-sum_told : (o : Outcome) (sum : Option ℤ) → (o ≡ Granted → is_none sum ≡ false) → by_outcome o (told.Sum (sum_in sum)) ≡ by_outcome o (sum_reply sum)
+sum_told : (o : Outcome) (sum : Option ℤ) → (o ≡ Granted → is_none sum ≡ false) → by_outcome o (told.Sum (sum_or_zero sum)) ≡ by_outcome o (sum_reply sum)
 sum_told Granted None some = absurd (let no : true ≡ false = some refl in cc)
 sum_told Granted (Some n) some = refl
 sum_told Queued sum some = refl
@@ -72,7 +72,7 @@ sum_told Died sum some = refl
 -- what a granted request does: it takes the lock, and leaves these sessions
 record IsGrant (w : Store) (h : History) (s : ℕ) (key : List ℕ) (mode : Mode) (granted : Effect) (sessions : List (Option Active)) : Type 0 where
   stays : IsLocal w.base.run h granted
-  queues : (q : List ℕ) → queue_by q granted h (queue_of q h) ≡ cond (same_bytes key q) (queue_after (queue_of q h) (number_of s h) mode Granted) (queue_of q h)
+  queues : (q : List ℕ) → queue_by q granted h (queue_of q h) ≡ cond (same_bytes key q) (queue_after (queue_of q h) (transaction_number_of s h) mode Granted) (queue_of q h)
   same : length sessions ≡ length w.sessions
   are : (t : ℕ) → is_past w.sessions t ≡ false → session_at sessions t ≡ active_by t granted h
   value : ValueBy w.base.pairs granted h
@@ -83,11 +83,11 @@ either false queue = refl
 
 -- the records once the request is answered, whatever its effect
 asked_rows : (w : Store) (h : History) (s : ℕ) (key : List ℕ) (mode : Mode) (event : Event) (reply : Reply) (e : Effect) (o : Outcome) → effect_of event reply ≡ e → IsLocal w.base.run h e → HasLegalEffects (setting_of w) (with_step h event reply) →
-    ((q : List ℕ) → queue_by q e h (queue_of q h) ≡ cond (same_bytes key q) (queue_after (queue_of q h) (number_of s h) mode o) (queue_of q h)) → IsOpenIn w h s → IsReadOff w h →
+    ((q : List ℕ) → queue_by q e h (queue_of q h) ≡ cond (same_bytes key q) (queue_after (queue_of q h) (transaction_number_of s h) mode o) (queue_of q h)) → IsOpenIn w h s → IsReadOff w h →
     AreRecords w.base.pairs (rows_after w.kept.rows key (number_in (active w s)) mode o) (with_step h event reply)
 asked_rows w h s key mode event reply e o is stays legal queues at parts =
     subst (λ n. AreRecords w.base.pairs (rows_after w.kept.rows key n mode o) (with_step h event reply)) (sym (ap number_in at.same))
-    (asked_records w.base.pairs w.kept.rows h (with_step h event reply) key (number_of s h) mode o (ap (after w.base.pairs) (log_stays w h event reply e is stays legal)) (λ q. ap (λ d. queue_by q d h (queue_of q h)) is ∙ queues q)
+    (asked_records w.base.pairs w.kept.rows h (with_step h event reply) key (transaction_number_of s h) mode o (ap (after w.base.pairs) (log_stays w h event reply e is stays legal)) (λ q. ap (λ d. queue_by q d h (queue_of q h)) is ∙ queues q)
     (keys_stay w h event reply e is stays legal) (closed_set_stays w h event reply e is stays legal) (state_stays_at w h event reply e is stays legal) parts.records)
 
 -- after a request, by its outcome
@@ -106,7 +106,7 @@ asked_left w h s key mode event reply granted sessions Died is grant legal at pa
     (one_session w.sessions s (after_dying (active w s)) (Dies s key mode) h at.there (ap after_dying at.same ∙ rw (at.opened, same_number s) refl) (λ t other. rw other refl) parts.sessions) tt parts
 
 -- what is granted to the session's transaction by the world is what the history grants
-outcome_same : (w : Store) (h : History) (s : ℕ) (key : List ℕ) (mode : Mode) → IsOpenIn w h s → IsReadOff w h → outcome_in w s key mode ≡ outcome (queue_of key h) (number_of s h) mode
+outcome_same : (w : Store) (h : History) (s : ℕ) (key : List ℕ) (mode : Mode) → IsOpenIn w h s → IsReadOff w h → outcome_in w s key mode ≡ outcome (queue_of key h) (transaction_number_of s h) mode
 outcome_same w h s key mode at parts = ap (λ q. outcome q (number_in (active w s)) mode) (parts.records.requests key) ∙ ap (λ a. outcome (queue_of key h) (number_in a) mode) at.same
 
 same_either : (o : Outcome) (sessions : List (Option Active)) → if_granted o sessions sessions ≡ sessions
@@ -157,15 +157,15 @@ module _ (old new : Store) (h : History) (s : ℕ) (reply : Reply) (stands : Sta
       (λ none d.
       let at = open_then old h s mine stands none in
       d.0 ∙ ap (λ o. by_outcome o (read_reply answer)) (outcome_same old h s key Shared at stands.parts)
-      ∙ ap (λ a. by_outcome (outcome (queue_of key h) (number_of s h) Shared) (read_reply (seen_in old.kept.rows a key))) at.same
-      ∙ ap (λ v. by_outcome (outcome (queue_of key h) (number_of s h) Shared) (read_reply (seen (written (writes_of s h) key) v))) (stands.parts.records.stored key))
+      ∙ ap (λ a. by_outcome (outcome (queue_of key h) (transaction_number_of s h) Shared) (read_reply (seen_in old.kept.rows a key))) at.same
+      ∙ ap (λ v. by_outcome (outcome (queue_of key h) (transaction_number_of s h) Shared) (read_reply (seen (written (writes_of s h) key) v))) (stands.parts.records.stored key))
       (λ none d legal.
       let now = rw d.0 at legal in
       rw (d.0, d.1) (subst (λ sessions. IsLeft old (after_asking old s key Shared o sessions) h (asked_for.Get s key) (by_outcome o (read_reply answer))) (same_either o old.sessions)
       (asked_left old h s key Shared (asked_for.Get s key) (by_outcome o (read_reply answer)) (Reads s key answer) old.sessions o (get_effect s key answer o) (read_grant old h s key answer stands.parts) now (open_then old h s mine stands none) stands.parts)))
 
   -- the causes of a write's refusals are those of the history
-  write_causes_are : (key : List ℕ) → first_refusal (write_causes old s key) ≡ first_refusal ((no_session (setting_of old) s, why.NoSession) ∷ (not (is_open s h), why.NoTransaction) ∷ (is_waiting s h, why.StillWaiting) ∷ (has_died s h, why.MustAbort) ∷ (too_many s key h, why.TooManyWrites) ∷ (is_full (setting_of old) key h, why.Full) ∷ [])
+  write_causes_are : (key : List ℕ) → first_refusal (write_refusal_causes old s key) ≡ first_refusal ((no_session (setting_of old) s, why.NoSession) ∷ (not (is_open s h), why.NoTransaction) ∷ (is_waiting s h, why.StillWaiting) ∷ (has_died s h, why.MustAbort) ∷ (too_many s key h, why.TooManyWrites) ∷ (is_full (setting_of old) key h, why.Full) ∷ [])
   write_causes_are key =
       in_transaction old h s ((is_one_too_many (writes_in (active old s)) key, why.TooManyWrites) ∷ (is_full_for old.kept key, why.Full) ∷ []) ((too_many s key h, why.TooManyWrites) ∷ (is_full (setting_of old) key h, why.Full) ∷ []) stands
       (λ there opened.
@@ -173,10 +173,10 @@ module _ (old new : Store) (h : History) (s : ℕ) (reply : Reply) (stands : Sta
       ap (λ b. first_refusal ((b, why.TooManyWrites) ∷ (is_full_for old.kept key, why.Full) ∷ [])) (ap (λ a. is_one_too_many (writes_in a) key) same ∙ ap (λ b. eqb (length (writes_of s h)) 256 && b) (is_none-some (written (writes_of s h) key)))
       ∙ ap (λ b. first_refusal ((too_many s key h, why.TooManyWrites) ∷ (b, why.Full) ∷ [])) (full_now (setting_of old) old.kept h key refl stands.parts.records))
 
-  write_open : (key : List ℕ) → first_refusal (write_causes old s key) ≡ None → IsOpenIn old h s
+  write_open : (key : List ℕ) → first_refusal (write_refusal_causes old s key) ≡ None → IsOpenIn old h s
   write_open key none = open_then old h s ((is_one_too_many (writes_in (active old s)) key, why.TooManyWrites) ∷ (is_full_for old.kept key, why.Full) ∷ []) stands none
 
-  write_left : (key : List ℕ) (content : Option (List ℕ)) (event : Event) → ((r : Reply) → effect_of event r ≡ effect_of_write s key content r) → first_refusal (write_causes old s key) ≡ None →
+  write_left : (key : List ℕ) (content : Option (List ℕ)) (event : Event) → ((r : Reply) → effect_of event r ≡ effect_of_write s key content r) → first_refusal (write_refusal_causes old s key) ≡ None →
       HasLegalEffects (setting_of old) (with_step h event (by_outcome (outcome_in old s key Exclusive) told.Ok)) →
       IsLeft old (after_asking old s key Exclusive (outcome_in old s key Exclusive) (if_granted (outcome_in old s key Exclusive) (with_session old.sessions s (after_writing (active old s) (write_of key (change_to content)))) old.sessions)) h event (by_outcome (outcome_in old s key Exclusive) told.Ok)
   write_left key content event same none legal =
@@ -186,13 +186,13 @@ module _ (old new : Store) (h : History) (s : ℕ) (reply : Reply) (stands : Sta
 
   pub puts_follows : (key value : List ℕ) → IsKey key × IsValue value → WritesKey old s key (Some value) reply new → Follows (setting_of old) h (asked_for.Put s key value) reply new
   puts_follows key value limits step =
-      owes_follows old new h (asked_for.Put s key value) reply _ (first_refusal (write_causes old s key)) stands limits (write_causes_are key) (refused_idle (asked_for.Put s key value) (write_causes old s key)) step
+      owes_follows old new h (asked_for.Put s key value) reply _ (first_refusal (write_refusal_causes old s key)) stands limits (write_causes_are key) (refused_idle (asked_for.Put s key value) (write_refusal_causes old s key)) step
       (λ none d. d.0 ∙ ap (λ o. by_outcome o told.Ok) (outcome_same old h s key Exclusive (write_open key none) stands.parts))
       (λ none d legal. let now = rw d.0 at legal in rw (d.0, d.1) (write_left key (Some value) (asked_for.Put s key value) (λ r. refl) none now))
 
   pub dels_follows : (key : List ℕ) → IsKey key → WritesKey old s key None reply new → Follows (setting_of old) h (asked_for.Del s key) reply new
   dels_follows key limits step =
-      owes_follows old new h (asked_for.Del s key) reply _ (first_refusal (write_causes old s key)) stands limits (write_causes_are key) (refused_idle (asked_for.Del s key) (write_causes old s key)) step
+      owes_follows old new h (asked_for.Del s key) reply _ (first_refusal (write_refusal_causes old s key)) stands limits (write_causes_are key) (refused_idle (asked_for.Del s key) (write_refusal_causes old s key)) step
       (λ none d. d.0 ∙ ap (λ o. by_outcome o told.Ok) (outcome_same old h s key Exclusive (write_open key none) stands.parts))
       (λ none d legal. let now = rw d.0 at legal in rw (d.0, d.1) (write_left key None (asked_for.Del s key) (λ r. refl) none now))
 
@@ -203,26 +203,26 @@ module _ (old new : Store) (h : History) (s : ℕ) (reply : Reply) (stands : Sta
   -- the causes of an add's refusals are those of the history
   adding_causes_are : (key : List ℕ) (delta : ℤ) → first_refusal (adding_causes old s key delta) ≡ first_refusal (causes_of_write (setting_of old) s key h ++ causes_of_add (setting_of old) s key delta h)
   adding_causes_are key delta =
-      let mine = add_causes (outcome_in old s key Exclusive) (seen_in old.kept.rows (active old s) key) (written (writes_in (active old s)) key) delta in
+      let mine = sum_causes (outcome_in old s key Exclusive) (seen_in old.kept.rows (active old s) key) (written (writes_in (active old s)) key) delta in
       in_transaction old h s ((is_one_too_many (writes_in (active old s)) key, why.TooManyWrites) ∷ (is_full_for old.kept key, why.Full) ∷ mine) ((too_many s key h, why.TooManyWrites) ∷ (is_full (setting_of old) key h, why.Full) ∷ causes_of_add (setting_of old) s key delta h) stands
       (λ there opened.
       let same : active old s ≡ Some (active_now s h) = stands.parts.sessions s there ∙ ap (λ b. cond b (Some (active_now s h)) None) opened in
       let at : IsOpenIn old h s = record { there = there; opened = opened; same = same } in
       ap (λ b. first_refusal ((b, why.TooManyWrites) ∷ (is_full_for old.kept key, why.Full) ∷ mine)) (ap (λ a. is_one_too_many (writes_in a) key) same ∙ ap (λ b. eqb (length (writes_of s h)) 256 && b) (is_none-some (written (writes_of s h) key)))
       ∙ ap (λ b. first_refusal ((too_many s key h, why.TooManyWrites) ∷ (b, why.Full) ∷ mine)) (full_now (setting_of old) old.kept h key refl stands.parts.records)
-      ∙ (λ i. first_refusal ((too_many s key h, why.TooManyWrites) ∷ (is_full (setting_of old) key h, why.Full) ∷ add_causes (outcome_same old h s key Exclusive at stands.parts i) (add_seen key at i) (written (writes_in (same i)) key) delta)))
+      ∙ (λ i. first_refusal ((too_many s key h, why.TooManyWrites) ∷ (is_full (setting_of old) key h, why.Full) ∷ sum_causes (outcome_same old h s key Exclusive at stands.parts i) (add_seen key at i) (written (writes_in (same i)) key) delta)))
 
-  pub adds_follows : (key : List ℕ) (delta : ℤ) → IsKey key × (fits delta ≡ true) → AddsTo old s key delta reply new → Follows (setting_of old) h (asked_for.Add s key delta) reply new
+  pub adds_follows : (key : List ℕ) (delta : ℤ) → IsKey key × (fits_i64 delta ≡ true) → AddsTo old s key delta reply new → Follows (setting_of old) h (asked_for.Add s key delta) reply new
   adds_follows key delta limits step =
       let o : Outcome = outcome_in old s key Exclusive in
       let there : Option (List ℕ) = seen_in old.kept.rows (active old s) key in
-      let sum : ℤ = sum_in (added delta there) in
+      let sum : ℤ = sum_or_zero (added delta there) in
       let then : List (Option Active) = with_session old.sessions s (after_writing (active old s) (write_of key (Add delta))) in
       owes_follows old new h (asked_for.Add s key delta) reply _ (first_refusal (adding_causes old s key delta)) stands limits (adding_causes_are key delta) (refused_idle (asked_for.Add s key delta) (adding_causes old s key delta)) step
       (λ none d.
       let at = add_open key delta none in
-      let O : Outcome = outcome (queue_of key h) (number_of s h) Exclusive in
-      d.0 ∙ ap (λ o. by_outcome o (told.Sum sum)) (outcome_same old h s key Exclusive at stands.parts) ∙ ap (λ v. by_outcome O (told.Sum (sum_in (added delta v)))) (add_seen key at)
+      let O : Outcome = outcome (queue_of key h) (transaction_number_of s h) Exclusive in
+      d.0 ∙ ap (λ o. by_outcome o (told.Sum sum)) (outcome_same old h s key Exclusive at stands.parts) ∙ ap (λ v. by_outcome O (told.Sum (sum_or_zero (added delta v)))) (add_seen key at)
       ∙ sum_told O (added delta (seen_by (setting_of old) s key h)) (λ granted. (add_stands (setting_of old) h s key delta (sym (adding_causes_are key delta) ∙ none) granted).0))
       (λ none d legal.
       let now = rw d.0 at legal in
@@ -231,4 +231,4 @@ module _ (old new : Store) (h : History) (s : ℕ) (reply : Reply) (stands : Sta
     where
       add_open : (key : List ℕ) (delta : ℤ) → first_refusal (adding_causes old s key delta) ≡ None → IsOpenIn old h s
       add_open key delta none =
-          open_then old h s ((is_one_too_many (writes_in (active old s)) key, why.TooManyWrites) ∷ (is_full_for old.kept key, why.Full) ∷ add_causes (outcome_in old s key Exclusive) (seen_in old.kept.rows (active old s) key) (written (writes_in (active old s)) key) delta) stands none
+          open_then old h s ((is_one_too_many (writes_in (active old s)) key, why.TooManyWrites) ∷ (is_full_for old.kept key, why.Full) ∷ sum_causes (outcome_in old s key Exclusive) (seen_in old.kept.rows (active old s) key) (written (writes_in (active old s)) key) delta) stands none

@@ -1,5 +1,5 @@
 -- What a transaction sees of a key that it has set or removed.
-use Rattle.pc_transactions.specs.Adds.{GoesOn, value_of_sum}
+use Rattle.pc_transactions.specs.Adds.{AddProceeds, value_of_sum}
 use Rattle.pc_model.specs.Replies.{is_granted}
 use Rattle.pc_types.specs.declared.Outcome.TheVariants.{Granted}
 use Rattle.pc_types.specs.declared.Outcome.{Outcome}
@@ -63,7 +63,7 @@ sees_sum rows (Some a) key delta sum there apply is =
     )
 
 -- an add that goes on leaves its sum in the key's place, if its request is granted
-pub sum_left : (rows : List Row) (a : Option Active) (key : List ℕ) (delta : ℤ) (full : Bool) (o : Outcome) (sum : Option ℤ) → is_none a ≡ false → AppliesIfAny (written (writes_in a) key) (stored (record_of rows key)) → GoesOn full o (seen_in rows a key) (written (writes_in a) key) delta sum → o ≡ Granted →
+pub sum_left : (rows : List Row) (a : Option Active) (key : List ℕ) (delta : ℤ) (full : Bool) (o : Outcome) (sum : Option ℤ) → is_none a ≡ false → AppliesIfAny (written (writes_in a) key) (stored (record_of rows key)) → AddProceeds full o (seen_in rows a key) (written (writes_in a) key) delta sum → o ≡ Granted →
     value_of_sum sum ≡ seen_in rows (after_writing a (write_of key (Add delta))) key
 sum_left rows a key delta full o None there apply on granted = absurd (let no : true ≡ false = sym (ap is_granted granted) ∙ on.1 in cc)
 sum_left rows a key delta full o (Some sum) there apply on granted = sees_sum rows a key delta sum there apply on.2

@@ -3,7 +3,7 @@ use Rattle.std.proofs.Common.{◌≡◌, ℕ, ◌-◌, ◌≤◌, Bool, true, fa
 use Rattle.std.specs.Prelude.{is_some}
 use Rattle.std.proofs.lemmas.Bool.Decides.{nat_tests}
 use Rattle.std.proofs.lemmas.List.{get_or_past}
-use Rattle.pc_model.specs.History.{History, is_open, number_of, class_of, has_died, writes_of}
+use Rattle.pc_model.specs.History.{History, is_open, transaction_number_of, class_of, has_died, writes_of}
 use Rattle.pc_model.specs.Locks.{is_waiting}
 use Rattle.pc_model.specs.Replies.{no_session}
 use Rattle.pc_model.proofs.LegalEffectLaws.{legal_has_legal_effects}
@@ -32,7 +32,7 @@ pub waits_told : (w : Store) (h : History) (s : ℕ) → Stands w h → waits_in
 waits_told w h s stands = by_session (no_session (setting_of w) s) refl
   where
     latest : Active
-    latest = record { number = number_of s h; class = class_of s h; has_died = has_died s h; writes = writes_of s h }
+    latest = record { number = transaction_number_of s h; class = class_of s h; has_died = has_died s h; writes = writes_of s h }
 
     by_open : (b : Bool) → is_open s h ≡ b → waits_in w.kept.rows (cond b (Some latest) None) ≡ (b && is_waiting s h)
     by_open true e = waiting_now w.base.pairs w.kept.rows h s (locked (setting_of w) h (legal_has_legal_effects (setting_of w) h stands.legal)) stands.parts.records e
@@ -47,7 +47,7 @@ pub opens_told : (w : Store) (h : History) (s : ℕ) → Stands w h → is_some 
 opens_told w h s stands = by_session (no_session (setting_of w) s) refl
   where
     latest : Active
-    latest = record { number = number_of s h; class = class_of s h; has_died = has_died s h; writes = writes_of s h }
+    latest = record { number = transaction_number_of s h; class = class_of s h; has_died = has_died s h; writes = writes_of s h }
 
     by_open : (b : Bool) → is_some (cond b (Some latest) None) ≡ b
     by_open true = refl

@@ -9,7 +9,7 @@ use Rattle.pc_model.specs.Maps as map_of
 use Rattle.pc_model.specs.Database.{key_order}
 use Rattle.pc_model.specs.Points.{taken}
 use Rattle.pc_model.specs.Log.{after}
-use Rattle.pc_model.specs.History.{History, log_of, begun, is_open, number_of, class_of, has_died, writes_of, phase_of, point_of}
+use Rattle.pc_model.specs.History.{History, log_of, begun, is_open, transaction_number_of, class_of, has_died, writes_of, phase_of, point_of}
 use Rattle.pc_model.specs.Files.{File, shelf}
 use Rattle.pc_model.specs.Replies.{Setting, IsLegal, IsLegalHistory, no_session, open_set, closed_set}
 use Rattle.pc_model.specs.Headline.{is_taking, TakesEachKeyOnce, TakesPointValue, HasHeadline}
@@ -35,7 +35,7 @@ pub record IsCycle (run : ℕ) (c : Cycle) (files : List File) (history : Histor
 
 -- the session's open transaction, by the history
 abbrev pub active_after : ℕ → History → Option Active
-active_after s history = if is_open s history then Some (record { number = number_of s history; class = class_of s history; has_died = has_died s history; writes = writes_of s history }) else None
+active_after s history = if is_open s history then Some (record { number = transaction_number_of s history; class = class_of s history; has_died = has_died s history; writes = writes_of s history }) else None
 
 -- each part of the world is what is read off the history
 pub record IsReadOff (w : Store) (history : History) : Type 0 where

@@ -26,12 +26,12 @@ use Rattle.pc_types.specs.declared.Class.TheVariants.{Before, During, After}
 use Rattle.pc_phase.specs.declared.change.Change.{Change}
 use Rattle.pc_phase.specs.declared.change.Change.TheVariants as change
 use Rattle.pc_records.specs.Rows.{record_of, at_point, requests_on}
-use Rattle.pc_records.specs.RowSteps.{is_full_for, is_waiting, rows_after, released_rows, written_row, closed_row, left_rows}
+use Rattle.pc_records.specs.RowSteps.{is_full_for, is_waiting_in_rows, rows_after, released_rows, written_row, closed_row, left_rows}
 use Rattle.pc_records.specs.NewKeys.{new_keys, is_one_too_many}
-use Rattle.pc_transactions.specs.Adds.{add_causes, sum_in}
+use Rattle.pc_transactions.specs.Adds.{sum_causes, sum_or_zero}
 use Rattle.pc_engine.specs.Store.{Store, setting_of, active}
 use Rattle.pc_transactions.specs.Actives.{Active}
-use Rattle.pc_transactions.specs.Sessions.{with_session, number_in, has_died_in, writes_in, left_by, seen_in, count_of, after_writing, after_dying, if_died, if_granted}
+use Rattle.pc_transactions.specs.Sessions.{with_session, number_in, has_died_in, writes_in, left_by, seen_in, class_count, after_writing, after_dying, if_died, if_granted}
 
 -- A certain reply is given and changes nothing; if no reply is certain this is done, or an allocation failed and nothing
 -- changed.
@@ -40,8 +40,8 @@ Owes None old reply new Done = Done ⊎ ((reply ≡ told.Refused why.OutOfMemory
 Owes (Some due) old reply new Done = (reply ≡ due) × (new ≡ old)
 
 -- the phase is this one
-abbrev pub is_in : Phase → Store → Bool
-is_in phase w = same_phase w.cycle.phase phase
+abbrev pub store_in_phase : Phase → Store → Bool
+store_in_phase phase w = same_phase w.cycle.phase phase
 
 -- the log has as many entries as it may
 abbrev pub is_log_full : Store → Bool
@@ -50,14 +50,14 @@ is_log_full w = length w.log == MOST_LOG_ENTRIES
 -- the causes of an open transaction's refusals, before these
 abbrev pub open_causes : Store → ℕ → List (Bool × Refusal) → List (Bool × Refusal)
 open_causes w s causes =
-    (no_session (setting_of w) s, why.NoSession) ∷ (is_none (active w s), why.NoTransaction) ∷ (is_waiting w.kept.rows (number_in (active w s)), why.StillWaiting) ∷ (has_died_in (active w s), why.MustAbort) ∷ causes
+    (no_session (setting_of w) s, why.NoSession) ∷ (is_none (active w s), why.NoTransaction) ∷ (is_waiting_in_rows w.kept.rows (number_in (active w s)), why.StillWaiting) ∷ (has_died_in (active w s), why.MustAbort) ∷ causes
 
 -- the session has a transaction open, which may go on: none of its requests waits or has died
 pub record MayGoOn (w : Store) (s : ℕ) : Type 0 where
   pub known : no_session (setting_of w) s ≡ false
   pub in_range : s - 1 < length w.sessions
   pub opened : is_none (active w s) ≡ false
-  pub ready : is_waiting w.kept.rows (number_in (active w s)) ≡ false
+  pub ready : is_waiting_in_rows w.kept.rows (number_in (active w s)) ≡ false
   pub alive : has_died_in (active w s) ≡ false
 
 -- the first of those causes that applies, or none does
@@ -91,31 +91,31 @@ Gets old s key reply new =
     × (new ≡ after_asking old s key Shared (outcome_in old s key Shared) old.sessions))
 
 -- the causes of a write's refusals
-abbrev pub write_causes : Store → ℕ → List ℕ → List (Bool × Refusal)
-write_causes w s key = open_causes w s ((is_one_too_many (writes_in (active w s)) key, why.TooManyWrites) ∷ (is_full_for w.kept key, why.Full) ∷ [])
+abbrev pub write_refusal_causes : Store → ℕ → List ℕ → List (Bool × Refusal)
+write_refusal_causes w s key = open_causes w s ((is_one_too_many (writes_in (active w s)) key, why.TooManyWrites) ∷ (is_full_for w.kept key, why.Full) ∷ [])
 
 -- the first of them that applies, or none does but perhaps the last
 abbrev pub WriteCause : Store → ℕ → List ℕ → Option Refusal → Type 0
 WriteCause w s key None = MayGoOn w s × (is_one_too_many (writes_in (active w s)) key ≡ false)
-WriteCause w s key (Some r) = first_refusal (write_causes w s key) ≡ Some (told.Refused r)
+WriteCause w s key (Some r) = first_refusal (write_refusal_causes w s key) ≡ Some (told.Refused r)
 
 -- the key is set to the content or removed by the transaction, if the request is granted
 abbrev pub WritesKey : Store → ℕ → List ℕ → Option (List ℕ) → Reply → Store → Type 0
 WritesKey old s key content reply new =
-    Owes (first_refusal (write_causes old s key)) old reply new
+    Owes (first_refusal (write_refusal_causes old s key)) old reply new
     ((reply ≡ by_outcome (outcome_in old s key Exclusive) told.Ok)
     × (new ≡ after_asking old s key Exclusive (outcome_in old s key Exclusive) (if_granted (outcome_in old s key Exclusive) (with_session old.sessions s (after_writing (active old s) (write_of key (change_to content)))) old.sessions)))
 
 -- the causes of an add's refusals
 abbrev pub adding_causes : Store → ℕ → List ℕ → ℤ → List (Bool × Refusal)
 adding_causes w s key delta =
-    write_causes w s key ++ add_causes (outcome_in w s key Exclusive) (seen_in w.kept.rows (active w s) key) (written (writes_in (active w s)) key) delta
+    write_refusal_causes w s key ++ sum_causes (outcome_in w s key Exclusive) (seen_in w.kept.rows (active w s) key) (written (writes_in (active w s)) key) delta
 
 -- the transaction adds to the number that it sees of the key, if the request is granted
 abbrev pub AddsTo : Store → ℕ → List ℕ → ℤ → Reply → Store → Type 0
 AddsTo old s key delta reply new =
     Owes (first_refusal (adding_causes old s key delta)) old reply new
-    ((reply ≡ by_outcome (outcome_in old s key Exclusive) (told.Sum (sum_in (added delta (seen_in old.kept.rows (active old s) key)))))
+    ((reply ≡ by_outcome (outcome_in old s key Exclusive) (told.Sum (sum_or_zero (added delta (seen_in old.kept.rows (active old s) key)))))
     × (new ≡ after_asking old s key Exclusive (outcome_in old s key Exclusive) (if_granted (outcome_in old s key Exclusive) (with_session old.sessions s (after_writing (active old s) (write_of key (Add delta)))) old.sessions)))
 
 -- the writes are logged and committed, and the transaction is over: none of its requests is left
@@ -148,7 +148,7 @@ after_moving phase point w = record w { log = w.log ++ Token phase point ∷ [];
 
 -- the causes of the refusals of a start of a cycle
 abbrev pub start_causes : Store → List (Bool × Refusal)
-start_causes w = (not (is_in phase.Rest w), why.WrongPhase) ∷ (w.cycle.point == MOST_POINTS, why.PointsFull) ∷ (is_log_full w, why.LogFull) ∷ []
+start_causes w = (not (store_in_phase phase.Rest w), why.WrongPhase) ∷ (w.cycle.point == MOST_POINTS, why.PointsFull) ∷ (is_log_full w, why.LogFull) ∷ []
 
 -- the cycle of the next point starts
 abbrev pub StartsPoint : Store → Reply → Store → Type 0
@@ -158,7 +158,7 @@ StartsPoint old reply new =
 -- what is answered if the phase is not changed: it is another one, transactions of this class are open, or the log is full
 abbrev pub move_due : Phase → Class → Store → Option Reply
 move_due from class w =
-    or_else (first_refusal ((not (is_in from w), why.WrongPhase) ∷ [])) (or_else (not_yet (count_of class w.sessions)) (first_refusal ((is_log_full w, why.LogFull) ∷ [])))
+    or_else (first_refusal ((not (store_in_phase from w), why.WrongPhase) ∷ [])) (or_else (not_yet (class_count class w.sessions)) (first_refusal ((is_log_full w, why.LogFull) ∷ [])))
 
 -- the phase changes from one to another, once no transaction of the class is open
 abbrev pub Moves : Phase → Class → Phase → Store → Reply → Store → Type 0
@@ -188,7 +188,7 @@ Changes change.Rest old reply new = Moves phase.Complete After phase.Rest old re
 
 -- what is answered to a Take if no key is taken
 abbrev pub take_due : Store → Option Reply
-take_due w = or_else (first_refusal ((not (is_in phase.Capture w), why.WrongPhase) ∷ [])) (if is_empty w.cycle.closed_set then Some told.NoneLeft else None)
+take_due w = or_else (first_refusal ((not (store_in_phase phase.Capture w), why.WrongPhase) ∷ [])) (if is_empty w.cycle.closed_set then Some told.NoneLeft else None)
 
 -- the first of these keys is taken with what it has at the point, and is at its place among those that were taken
 abbrev pub TakesFirstKey : List (List ℕ) → Store → Reply → Store → Type 0
@@ -205,7 +205,7 @@ Takes old reply new = Owes (take_due old) old reply new (TakesFirstKey old.cycle
 -- what is answered to a Done if no part is shelved
 abbrev pub done_due : Store → Option Reply
 done_due w =
-    or_else (first_refusal ((not (is_in phase.Capture w), why.WrongPhase) ∷ [])) (or_else (not_yet (length w.cycle.closed_set))
+    or_else (first_refusal ((not (store_in_phase phase.Capture w), why.WrongPhase) ∷ [])) (or_else (not_yet (length w.cycle.closed_set))
     (first_refusal ((length w.shelf == MOST_FILES, why.ShelfFull) ∷ (is_log_full w, why.LogFull) ∷ [])))
 
 -- the part of the point, of what was taken

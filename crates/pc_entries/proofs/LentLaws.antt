@@ -17,7 +17,7 @@ use Rattle.pc_types.proofs.HeadLaws.{by_heads}
 use Rattle.pc_model.specs.Database.{key_cmp}
 use Rattle.pc_part.specs.declared.ranges.Range.{Range}
 use Rattle.pc_part.specs.Lawful.{HasLimits}
-use Rattle.pc_entries.specs.Lent.{IsEntryIn, IsHead, IsKept, content_behind, entry_in}
+use Rattle.pc_entries.specs.Lent.{IsEntryIn, IsHead, IsEntryText, content_after_key, entry_in}
 use Rattle.pc_part.specs.Reading.{next_entry_at}
 use Rattle.pc_part.specs.Texts.{triple_text, triple_text_in}
 use Rattle.pc_part.proofs.ReadFieldLaws.{next_entry_takes}
@@ -86,7 +86,7 @@ module _ (entry : Triple) where
   content_is None = refl
   content_is (Some value) = ap (λ (v : List ℕ). Some v) (drop_at (to_be_bytes w32 (length value)) value 4 (wide32.len (length value)))
 
-  content_shown : content_behind text (2 + length entry.key) ≡ entry.content
+  content_shown : content_after_key text (2 + length entry.key) ≡ entry.content
   content_shown =
       ap (λ (n : ℕ). cond (eqb n 0) None (Some (drop (2 + length entry.key + 9) text))) first_behind ∙
       ap (λ (l : List ℕ). cond (eqb (get_or (content_text entry.content) 0 0) 0) None (Some l)) value_behind ∙ content_is entry.content
@@ -105,7 +105,7 @@ module _ (entry : Triple) where
   value_content None some = absurd (some refl)
   value_content (Some value) some = omega (arith, length-append (to_be_bytes w32 (length value)) value, wide32.len (length value))
 
-  kept : HasLimits entry → IsKept text (2 + length entry.key) entry.point
+  kept : HasLimits entry → IsEntryText text (2 + length entry.key) entry.point
   kept limits = record {
     of = rw text_shows (record { is = refl; limits = limits });
     ends = (omega arith, omega (arith, text_length, some_content entry.content));
@@ -116,7 +116,7 @@ module _ (entry : Triple) where
 pub shown : (text : List ℕ) (key_end point : ℕ) (entry : Triple) → text ≡ triple_text entry → key_end ≡ 2 + length entry.key → point ≡ entry.point → entry_in text key_end point ≡ entry
 shown text key_end point entry is ends same = rw (is, ends, same) (text_shows entry)
 
-pub is_kept : (text : List ℕ) (key_end point : ℕ) (entry : Triple) → text ≡ triple_text entry → key_end ≡ 2 + length entry.key → point ≡ entry.point → HasLimits entry → IsKept text key_end point
+pub is_kept : (text : List ℕ) (key_end point : ℕ) (entry : Triple) → text ≡ triple_text entry → key_end ≡ 2 + length entry.key → point ≡ entry.point → HasLimits entry → IsEntryText text key_end point
 is_kept text key_end point entry is ends same limits = rw (is, ends, same) (kept entry limits)
 
 -- the text in format 01, with space 0 after the length

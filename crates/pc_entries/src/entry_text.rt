@@ -4,7 +4,7 @@ ghost use Rattle.pc_types.specs.Bytes.{IsBytes};
 ghost use Rattle.pc_types.specs.Heads.{head};
 ghost use Rattle.pc_types.specs.Limits.{IsKey};
 ghost use Rattle.pc_part.specs.Lawful.{HasLimits};
-ghost use Rattle.pc_entries.specs.Lent.{IsKept, entry_in};
+ghost use Rattle.pc_entries.specs.Lent.{IsEntryText, entry_in};
 ghost use Rattle.pc_part.specs.Texts.{triple_text};
 
 use crate::lent_entry::LentEntry;
@@ -31,13 +31,13 @@ pub struct EntryText {
 
 impl Model for EntryText {
     ghost use Rattle.pc_types.specs.declared.Triple.{Triple};
-    ghost use Rattle.pc_entries.specs.Lent.{IsHead, IsKept, entry_in};
+    ghost use Rattle.pc_entries.specs.Lent.{IsHead, IsEntryText, entry_in};
 
     ghost Value = { Triple };
 
     ghost view = { λ e. entry_in e.text.items e.key_end e.point };
 
-    ghost invariant = { λ e. IsKept e.text.items e.key_end e.point × IsHead (entry_in e.text.items e.key_end e.point).key e.head };
+    ghost invariant = { λ e. IsEntryText e.text.items e.key_end e.point × IsHead (entry_in e.text.items e.key_end e.point).key e.head };
 }
 
 impl EntryText {
@@ -61,7 +61,7 @@ impl EntryText {
     // The entry of this point with this text, in which its key ends there.
     #[inline(always)]
     fn of_text(text: Vec<u8>, key_end: u16, point: u16) -> EntryText
-        requires { IsKept text.items key_end point }
+        requires { IsEntryText text.items key_end point }
         ensures { result ≡ entry_in text.items key_end point }
     {
         let head = head_of(&text[LENGTH_BYTES..usize::from(key_end)]);

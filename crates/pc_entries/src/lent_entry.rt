@@ -8,7 +8,7 @@ ghost use Rattle.pc_types.specs.declared.refusal.Refusal.TheVariants.{Short};
 ghost use Rattle.pc_model.specs.Database.{key_cmp};
 ghost use Rattle.pc_entries.specs.Lent.{IsHead};
 ghost use Rattle.pc_part.specs.Parts.{RangesFrom};
-ghost use Rattle.pc_part.specs.Reading.{entry_at, next_entry_at, next_key_at};
+ghost use Rattle.pc_part.specs.Reading.{part_entry_at, next_entry_at, next_key_at};
 
 use crate::heads::head_in_space_0;
 use pc_io::{Format, read_bytes, read_key_text, read_u16, read_u32};
@@ -146,14 +146,14 @@ fn comes_after_in_space_0(own: &[u8], last: &[u8]) -> bool
 }
 
 // The point of a key's entry, and the value that the key had there, if there was one.
-#[tactic(auto, unfolding(pc_part::specs::Reading::entry_at))]
+#[tactic(auto, unfolding(pc_part::specs::Reading::part_entry_at))]
 #[inline(always)]
 fn lend_entry<'a>(
     ranges: &[Range],
     bytes: &'a [u8],
 ) -> Result<(u16, Option<&'a [u8]>, &'a [u8]), Refusal>
     requires { RangesFrom 1 ranges.now }
-    ensures { Reads (λ x. (record { point = x.0; content = option_map (λ value. value.now) x.1 }, x.2.now)) result (entry_at ranges.now bytes.now) }
+    ensures { Reads (λ x. (record { point = x.0; content = option_map (λ value. value.now) x.1 }, x.2.now)) result (part_entry_at ranges.now bytes.now) }
 {
     let (point, rest) = read_point(ranges, bytes)?;
     let (value, rest) = lend_content(rest)?;

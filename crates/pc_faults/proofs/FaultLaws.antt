@@ -1,7 +1,7 @@
 -- Laws of the faults of texts.
 use Rattle.std.proofs.Common.{◌≡◌, ◌<◌, ◌∙◌, ℕ, Bool, true, false, true≢false, List, [], ◌∷◌, length, refl, sym, arith}
 use Rattle.pc_io.specs.Fields.{magic_at}
-use Rattle.pc_part.specs.Reading.{header_at, part_fields_at}
+use Rattle.pc_part.specs.Reading.{part_header_at, part_fields_at}
 use Rattle.pc_bases.specs.Reading.{base_fields_at}
 use Rattle.pc_faults.specs.declared.texts.TextKind.{TextKind}
 use Rattle.pc_faults.specs.declared.texts.TextKind.TheVariants as kind
@@ -9,7 +9,7 @@ use Rattle.pc_faults.specs.Faults.{fault_at, is_short}
 
 -- no bytes are too few for a text of either kind
 pub nothing_is_short : (kind : TextKind) → is_short (fault_at kind []) ≡ true
-unfolding fault_at part_fields_at base_fields_at header_at magic_at
+unfolding fault_at part_fields_at base_fields_at part_header_at magic_at
 nothing_is_short kind.Part = refl
 nothing_is_short kind.Base = refl
 

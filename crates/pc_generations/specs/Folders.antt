@@ -48,8 +48,8 @@ abbrev pub IsLogged : (ℕ → List ℕ → Option (List ℕ) → Type 0) → �
 IsLogged stands number log = stands number log_name (Some log) × ((name : List ℕ) → name ≢ log_name → stands number name None)
 
 -- it counts, with these files
-abbrev pub Counts : (ℕ → List ℕ → Option (List ℕ) → Type 0) → ℕ → List ℕ → List ℕ → Type 0
-Counts stands number base log = IsWhole stands number base log × IsGreatest stands number
+abbrev pub IsCurrentGeneration : (ℕ → List ℕ → Option (List ℕ) → Type 0) → ℕ → List ℕ → List ℕ → Type 0
+IsCurrentGeneration stands number base log = IsWhole stands number base log × IsGreatest stands number
 
 -- but for those whose numbers are lower by more than `keep` than this one, all generations are as they were
 abbrev pub KeepsLast : ℕ → (ℕ → List ℕ → Option (List ℕ) → Type 0) → (ℕ → List ℕ → Option (List ℕ) → Type 0) → ℕ → Type 0

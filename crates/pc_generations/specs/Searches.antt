@@ -9,14 +9,14 @@ IsFound stands (Some number) = HasBase stands number
 IsFound stands None = ⊤
 
 -- the generation isn't above the one that was found
-abbrev pub IsWithin : Option ℕ → ℕ → Type 0
-IsWithin (Some found) number = number ≤ found
-IsWithin None number = ⊥
+abbrev pub IsNotAbove : Option ℕ → ℕ → Type 0
+IsNotAbove (Some found) number = number ≤ found
+IsNotAbove None number = ⊥
 
 -- nor is it one with a base that was passed over
-abbrev pub IsCovered : (ℕ → List ℕ → Option (List ℕ) → Type 0) → Option ℕ → ℕ → Type 0
-IsCovered stands found number = IsWithin found number ⊎ stands number base_name None
+abbrev pub IsNotMissed : (ℕ → List ℕ → Option (List ℕ) → Type 0) → Option ℕ → ℕ → Type 0
+IsNotMissed stands found number = IsNotAbove found number ⊎ stands number base_name None
 
 -- of the generation that was found and one more, the greatest one that has a base
 abbrev pub IsLaterOf : (ℕ → List ℕ → Option (List ℕ) → Type 0) → Option ℕ → ℕ → Option ℕ → Type 0
-IsLaterOf stands found number next = IsFound stands next × ((other : ℕ) → IsWithin found other → IsWithin next other) × IsCovered stands next number
+IsLaterOf stands found number next = IsFound stands next × ((other : ℕ) → IsNotAbove found other → IsNotAbove next other) × IsNotMissed stands next number

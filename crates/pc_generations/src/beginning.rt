@@ -2,7 +2,7 @@
 ghost use Rattle.std.specs.Prelude.{◌≡◌, ◌⊎◌, ◌≤◌, ◌<◌, ◌+◌, ℕ, List, None, Err, IsOk, IfOk, IfSome, OnOk, OnErr};
 ghost use Rattle.pc_types.specs.declared.refusal.Refusal.{Refusal};
 ghost use Rattle.pc_generations.specs.Names.{base_name};
-ghost use Rattle.pc_generations.specs.Folders.{AreGone, Counts, HasBase, IsLatest, IsLogged, IsUnbegun, IsWhole, KeepsLast, NothingComes, StayBut, next_of};
+ghost use Rattle.pc_generations.specs.Folders.{AreGone, IsCurrentGeneration, HasBase, IsLatest, IsLogged, IsUnbegun, IsWhole, KeepsLast, NothingComes, StayBut, next_of};
 ghost use Rattle.pc_generations.specs.Searches.{IsFound, IsLaterOf};
 
 use crate::folders::Generations;
@@ -56,10 +56,10 @@ pub fn begin_generation<G: Generations>(
     base: &[u8],
     log: &[u8],
 ) -> Result<u32, Refusal>
-    ensures begun { IsLatest (G.stands folders.old) latest → OnOk result (Counts (G.stands folders.new) (next_of latest) base.now log.now) }
+    ensures begun { IsLatest (G.stands folders.old) latest → OnOk result (IsCurrentGeneration (G.stands folders.new) (next_of latest) base.now log.now) }
     ensures number { IfOk result (λ number. number ≡ next_of latest) }
     ensures has_base { OnOk result (HasBase (G.stands folders.new) (next_of latest)) }
-    ensures cut_off { IsLatest (G.stands folders.old) latest → OnErr result (Counts (G.stands folders.new) (next_of latest) base.now log.now ⊎ IsUnbegun (G.stands folders.old) (G.stands folders.new) latest) }
+    ensures cut_off { IsLatest (G.stands folders.old) latest → OnErr result (IsCurrentGeneration (G.stands folders.new) (next_of latest) base.now log.now ⊎ IsUnbegun (G.stands folders.old) (G.stands folders.new) latest) }
     ensures others { StayBut (G.stands folders.old) (G.stands folders.new) (next_of latest) }
     ensures full { MOST_GENERATIONS < next_of latest → (result ≡ Err Refusal.Full) × (folders.new ≡ folders.old) }
 {

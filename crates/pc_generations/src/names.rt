@@ -1,7 +1,7 @@
 //! The names of generations and of their files.
 ghost use Rattle.std.specs.Prelude.{◌≡◌, ◌≢◌, ◌≤◌, ◌<◌, ◌↔◌, ℕ, IfSome, IsTrue, None};
 ghost use Rattle.pc_generations.specs.Names.{folder_name, last_digit};
-ghost use Rattle.pc_generations.specs.Digits.{digit_in, number_of};
+ghost use Rattle.pc_generations.specs.Digits.{digit_in, seven_digit_number};
 
 /// Generations are numbered 1 to 9,999,999.
 pub const MOST_GENERATIONS: u32 = 9_999_999;
@@ -47,7 +47,7 @@ fn digit_at(name: &[u8], at: usize) -> u32
 
 // The number of the seven digits after `gen-`, if they are digits.
 fn digits_of(name: &[u8]) -> u32
-    ensures { result ≡ number_of name.now }
+    ensures { result ≡ seven_digit_number name.now }
 {
     let high = 1_000_000 * digit_at(name, 4)
         + 100_000 * digit_at(name, 5)

@@ -8,7 +8,7 @@ use Rattle.pc_chain.specs.Stacks.{IsStack}
 use Rattle.pc_chain.proofs.StackLaws.{stack_fits}
 use Rattle.pc_chain.specs.Slots.{Slots, at, IsTaken}
 use Rattle.pc_chain.proofs.SlotLaws.{taken_below}
-use Rattle.pc_index.specs.Indexes.{IndexView, place_of, chain_at, IsIndex}
+use Rattle.pc_index.specs.Indexes.{IndexView, bucket_of, chain_at, IsIndex}
 use Rattle.pc_index.specs.Keys.{key_at, IsAbsent, IsSlotOf}
 use Rattle.pc_index.proofs.Linked.{linked}
 use Rattle.pc_index.proofs.Texts.{same_text, one_text, own_text}
@@ -47,15 +47,15 @@ module _ {T : Type 0} (key_of : T → List ℕ) where
 
   -- the chain of a key's place, over the links of whoever keeps the slots
   pub line_of : (slots : Slots T) (table : IndexView) (i : IsIndex key_of slots table) (key : List ℕ) (n : ℕ) (has : ℕ → Type 0) (next : ℕ → Option ℕ) → ((id : ℕ) → next id ≡ at slots.links id) → ((id : ℕ) → IsTaken slots.items id → has id) →
-      n ≡ place_of table key → n < length table.chains → IsStack has next (chain_at table (place_of table key)) (i.ids (place_of table key))
+      n ≡ bucket_of table key → n < length table.chains → IsStack has next (chain_at table (bucket_of table key)) (i.ids (bucket_of table key))
   line_of slots table i key n has next l k e w =
-      let p : ℕ = place_of table key in
+      let p : ℕ = bucket_of table key in
       linked slots has next l (chain_at table p) (i.ids p) k (i.chains p (subst (λ (q : ℕ). q < length table.chains) e w))
 
   -- if none of the chain has the key, no record has it
-  pub slot_missing : (slots : Slots T) (table : IndexView) (key : List ℕ) (i : IsIndex key_of slots table) → false ≡ list_any (λ id. is_key key (at slots.items id)) (i.ids (place_of table key)) → IsSlotOf key_of slots.items key None
+  pub slot_missing : (slots : Slots T) (table : IndexView) (key : List ℕ) (i : IsIndex key_of slots table) → false ≡ list_any (λ id. is_key key (at slots.items id)) (i.ids (bucket_of table key)) → IsSlotOf key_of slots.items key None
   slot_missing slots table key i n = λ id.
-      let absent : IsAbsent key_of slots.items key = λ y e. i.all y key e (avoids_where_none (λ z. is_key key (at slots.items z)) (i.ids (place_of table key)) y (sym n) (is_key_at key (at slots.items y) e)) in
+      let absent : IsAbsent key_of slots.items key = λ y e. i.all y key e (avoids_where_none (λ z. is_key key (at slots.items z)) (i.ids (bucket_of table key)) y (sym n) (is_key_at key (at slots.items y) e)) in
       ((λ s. absurd (none-some id s)), (λ h. absurd (absent id h)))
 
   -- no record has the key if its slot is none, and no other if it is one

@@ -9,7 +9,7 @@ use Rattle.pc_chain.proofs.ChainLaws.{have_still, have_from, have_both, avoids_a
 use Rattle.pc_chain.proofs.StackLaws.{stack_still}
 use Rattle.pc_chain.specs.Slots.{Slots, at, with_item, IsTaken, IsFree}
 use Rattle.pc_chain.proofs.SlotLaws.{at_here, at_other, not_both}
-use Rattle.pc_index.specs.Indexes.{IndexView, place_of, chain_at, IsIndex}
+use Rattle.pc_index.specs.Indexes.{IndexView, bucket_of, chain_at, IsIndex}
 use Rattle.pc_index.specs.Keys.{key_at, IsAbsent, IsSlotOf}
 use Rattle.pc_index.proofs.IndexLaws.{slot_kept}
 use Rattle.pc_index.proofs.Places.{changed, with_chain, place_same, changed_here, each_place, each_list, one_key, IsPlaced}
@@ -41,14 +41,14 @@ module _ {T : Type 0} (key_of : T → List ℕ) where
     pub free : IsFree old.items id
     pub key_is : key_of item ≡ key
     pub absent : IsAbsent key_of old.items key
-    pub place_in : place_of table key < length table.chains
+    pub place_in : bucket_of table key < length table.chains
     pub items : new.items ≡ set old.items id (Some item)
-    pub list : IsStack (IsTaken new.items) (at new.links) chain (id ∷ i.ids (place_of table key))
-    pub others : (b : ℕ) → b < length table.chains → b ≢ place_of table key → IsStack (IsTaken new.items) (at new.links) (chain_at table b) (i.ids b)
+    pub list : IsStack (IsTaken new.items) (at new.links) chain (id ∷ i.ids (bucket_of table key))
+    pub others : (b : ℕ) → b < length table.chains → b ≢ bucket_of table key → IsStack (IsTaken new.items) (at new.links) (chain_at table b) (i.ids b)
 
   module _ (old new : Slots T) (table : IndexView) (i : IsIndex key_of old table) (key : List ℕ) (id : ℕ) (item : T) (chain : Stack ℕ) (m : Pushed old new table i key id item chain) where
     abbrev place : ℕ
-    place = place_of table key
+    place = bucket_of table key
 
     abbrev list : List ℕ
     list = id ∷ i.ids place
@@ -76,15 +76,15 @@ module _ {T : Type 0} (key_of : T → List ℕ) where
 
     placed : (b : ℕ) → b < length table.chains → AllHave (IsPlaced key_of new.items new_table b) (changed i.ids place list b)
     placed = each_list (λ b ys. b < length table.chains → AllHave (IsPlaced key_of new.items new_table b) ys) i.ids place list
-        (λ w. ((λ k e. place_same table place chain k ∙ ap (place_of table) (known id k refl e)), olds_placed place w)) olds_placed
+        (λ w. ((λ k e. place_same table place chain k ∙ ap (bucket_of table) (known id k refl e)), olds_placed place w)) olds_placed
 
-    all : (y : ℕ) (k : List ℕ) → key_at key_of new.items y ≡ Some k → Avoids y (changed i.ids place list (place_of new_table k)) → ⊥
+    all : (y : ℕ) (k : List ℕ) → key_at key_of new.items y ≡ Some k → Avoids y (changed i.ids place list (bucket_of new_table k)) → ⊥
     all y k e a = elim (cases_eq y id) [
       | inl s ↦
-          let here : place_of new_table k ≡ place = place_same table place chain k ∙ ap (place_of table) (known y k s e) in
-          let b : Avoids y list = subst (Avoids y) (changed_here i.ids place list (place_of new_table k) here) a in
+          let here : bucket_of new_table k ≡ place = place_same table place chain k ∙ ap (bucket_of table) (known y k s e) in
+          let b : Avoids y list = subst (Avoids y) (changed_here i.ids place list (bucket_of new_table k) here) a in
           b.0 (sym s)
-      | inr n ↦ i.all y k (before y k n e) (fewer (place_of table k) (subst (λ (q : ℕ). Avoids y (changed i.ids place list q)) (place_same table place chain k) a))
+      | inr n ↦ i.all y k (before y k n e) (fewer (bucket_of table k) (subst (λ (q : ℕ). Avoids y (changed i.ids place list q)) (place_same table place chain k) a))
     ]
       where
         fewer : (q : ℕ) → Avoids y (changed i.ids place list q) → Avoids y (i.ids q)
@@ -102,7 +102,7 @@ module _ {T : Type 0} (key_of : T → List ℕ) where
       ]
     ]
 
-    pub index_made : IsIndex key_of new (with_chain table (place_of table key) chain)
+    pub index_made : IsIndex key_of new (with_chain table (bucket_of table key) chain)
     index_made =
         let n : length new_table.chains ≡ length table.chains = length-set table.chains place chain in
         record {

@@ -7,7 +7,7 @@ use Rattle.pc_chain.specs.Chains.{Avoids, AreDisjoint, AllHave}
 use Rattle.pc_chain.proofs.ChainLaws.{have_still, have_both, all_avoids}
 use Rattle.pc_chain.specs.Slots.{Slots, at, IsTaken}
 use Rattle.pc_index.specs.Hashes.{key_hash}
-use Rattle.pc_index.specs.Indexes.{IndexView, place_of, chain_at, IsIndex}
+use Rattle.pc_index.specs.Indexes.{IndexView, bucket_of, chain_at, IsIndex}
 use Rattle.pc_index.specs.Keys.{key_at}
 
 -- what each place has, with another at one place
@@ -24,7 +24,7 @@ changed_other f p x b n = cond-false (b == p) x (f b) (ne_eqb b p n)
 abbrev pub with_chain : IndexView → ℕ → Stack ℕ → IndexView
 with_chain table p chain = record table { chains = set table.chains p chain }
 
-pub place_same : (table : IndexView) (p : ℕ) (chain : Stack ℕ) (key : List ℕ) → place_of (with_chain table p chain) key ≡ place_of table key
+pub place_same : (table : IndexView) (p : ℕ) (chain : Stack ℕ) (key : List ℕ) → bucket_of (with_chain table p chain) key ≡ bucket_of table key
 place_same table p chain key = ap (λ (n : ℕ). bit_and (key_hash table.seed key) (n - 1)) (length-set table.chains p chain)
 
 pub table_written : (inside table : IndexView) (n p : ℕ) (chain : Stack ℕ) → inside ≡ table → n ≡ p → with_chain inside n chain ≡ with_chain table p chain
@@ -66,14 +66,14 @@ one_key a b o e f = cc
 module _ {T : Type 0} (key_of : T → List ℕ) where
   -- the slot's key, if it has one, has the place
   abbrev pub IsPlaced : List (Option T) → IndexView → ℕ → ℕ → Type 0
-  IsPlaced items table b id = (key : List ℕ) → key_at key_of items id ≡ Some key → place_of table key ≡ b
+  IsPlaced items table b id = (key : List ℕ) → key_at key_of items id ≡ Some key → bucket_of table key ≡ b
 
   pub some_key : (o : Option T) → is_some o ≡ true → (key : List ℕ) × (option_map key_of o ≡ Some key)
   some_key None e = absurd (false≢true e)
   some_key (Some x) e = (key_of x, refl)
 
   -- a slot of another place isn't in the chain
-  pub elsewhere : (slots : Slots T) (table : IndexView) (i : IsIndex key_of slots table) (b id : ℕ) (key : List ℕ) → b < length table.chains → key_at key_of slots.items id ≡ Some key → b ≢ place_of table key → Avoids id (i.ids b)
+  pub elsewhere : (slots : Slots T) (table : IndexView) (i : IsIndex key_of slots table) (b id : ℕ) (key : List ℕ) → b < length table.chains → key_at key_of slots.items id ≡ Some key → b ≢ bucket_of table key → Avoids id (i.ids b)
   elsewhere slots table i b id key w e n =
       all_avoids id (i.ids b) (have_still (IsPlaced slots.items table b) (λ y. y ≢ id) (λ y h s. n (sym (h key (ap (key_at key_of slots.items) s ∙ e)))) (i.ids b) (i.placed b w))
 

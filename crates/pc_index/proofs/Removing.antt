@@ -8,7 +8,7 @@ use Rattle.pc_chain.specs.Stacks.{IsStack}
 use Rattle.pc_chain.proofs.ChainLaws.{have_still, have_both, have_without, avoids_all, leads_still, once}
 use Rattle.pc_chain.specs.Slots.{Slots, at, IsTaken}
 use Rattle.pc_chain.proofs.SlotLaws.{at_here, at_other, taken_below}
-use Rattle.pc_index.specs.Indexes.{IndexView, place_of, chain_at, IsIndex}
+use Rattle.pc_index.specs.Indexes.{IndexView, bucket_of, chain_at, IsIndex}
 use Rattle.pc_index.specs.Keys.{key_at, IsAbsent, IsSlotOf}
 use Rattle.pc_index.proofs.Places.{changed, with_chain, place_same, each_place, each_list, elsewhere, places_apart, one_key, IsPlaced}
 use Rattle.pc_index.proofs.IndexLaws.{slot_kept}
@@ -30,17 +30,17 @@ module _ {T : Type 0} (key_of : T → List ℕ) where
   -- the chain of the slot's key, and the place of the slot in it
   pub record Standing (old : Slots T) (table : IndexView) (i : IsIndex key_of old table) (id : ℕ) (item : T) (chain : Stack ℕ) : Type 0 where
     pub taken : at old.items id ≡ Some item
-    pub place_in : place_of table (key_of item) < length table.chains
+    pub place_in : bucket_of table (key_of item) < length table.chains
     pub before : List ℕ
     pub rest : List ℕ
-    pub split : i.ids (place_of table (key_of item)) ≡ before ++ id ∷ rest
+    pub split : i.ids (bucket_of table (key_of item)) ≡ before ++ id ∷ rest
     pub line : IsStack (IsTaken old.items) (at old.links) chain (before ++ id ∷ rest)
     pub short : length (before ++ id ∷ rest) ≤ length old.items
 
-  pub standing : (old : Slots T) (table : IndexView) (i : IsIndex key_of old table) (id : ℕ) (item : T) (chain : Stack ℕ) → at old.items id ≡ Some item → place_of table (key_of item) < length table.chains →
-      chain ≡ chain_at table (place_of table (key_of item)) → Standing old table i id item chain
+  pub standing : (old : Slots T) (table : IndexView) (i : IsIndex key_of old table) (id : ℕ) (item : T) (chain : Stack ℕ) → at old.items id ≡ Some item → bucket_of table (key_of item) < length table.chains →
+      chain ≡ chain_at table (bucket_of table (key_of item)) → Standing old table i id item chain
   standing old table i id item chain t w e =
-      let p : ℕ = place_of table (key_of item) in
+      let p : ℕ = bucket_of table (key_of item) in
       let s = stands id (i.ids p) (i.all id (key_of item) (ap (option_map key_of) t)) in
       record {
         taken = t;
@@ -53,14 +53,14 @@ module _ {T : Type 0} (key_of : T → List ℕ) where
       }
 
   -- chains of other places have nothing in common with it
-  pub others_apart : (old : Slots T) (table : IndexView) (i : IsIndex key_of old table) (id : ℕ) (item : T) (chain : Stack ℕ) (s : Standing old table i id item chain) (b : ℕ) → b < length table.chains → b ≢ place_of table (key_of item) →
+  pub others_apart : (old : Slots T) (table : IndexView) (i : IsIndex key_of old table) (id : ℕ) (item : T) (chain : Stack ℕ) (s : Standing old table i id item chain) (b : ℕ) → b < length table.chains → b ≢ bucket_of table (key_of item) →
       AreDisjoint (s.before ++ id ∷ s.rest) (i.ids b)
-  others_apart old table i id item chain s b w n = subst (λ (ys : List ℕ). AreDisjoint ys (i.ids b)) s.split (places_apart key_of old table i (place_of table (key_of item)) b s.place_in w n)
+  others_apart old table i id item chain s b w n = subst (λ (ys : List ℕ). AreDisjoint ys (i.ids b)) s.split (places_apart key_of old table i (bucket_of table (key_of item)) b s.place_in w n)
 
   -- what the slot leaves: its chain without it, and no record
   pub record Removed (old mid new : Slots T) (table : IndexView) (i : IsIndex key_of old table) (id : ℕ) (item : T) (chain left : Stack ℕ) (s : Standing old table i id item chain) : Type 0 where
     pub list : IsStack (IsTaken mid.items) (at mid.links) left (s.before ++ s.rest)
-    pub others : (b : ℕ) → b < length table.chains → b ≢ place_of table (key_of item) → IsStack (IsTaken mid.items) (at mid.links) (chain_at table b) (i.ids b)
+    pub others : (b : ℕ) → b < length table.chains → b ≢ bucket_of table (key_of item) → IsStack (IsTaken mid.items) (at mid.links) (chain_at table b) (i.ids b)
     pub same : mid.items ≡ old.items
     pub items : new.items ≡ set mid.items id None
     pub links : (y : ℕ) → y ≢ id → IsTaken mid.items y → at new.links y ≡ at mid.links y
@@ -82,7 +82,7 @@ module _ {T : Type 0} (key_of : T → List ℕ) where
 
   module _ (old mid new : Slots T) (table : IndexView) (i : IsIndex key_of old table) (id : ℕ) (item : T) (chain left : Stack ℕ) (s : Standing old table i id item chain) (m : Removed old mid new table i id item chain left s) where
     abbrev place : ℕ
-    place = place_of table (key_of item)
+    place = bucket_of table (key_of item)
 
     abbrev list : List ℕ
     list = s.before ++ s.rest
@@ -118,13 +118,13 @@ module _ {T : Type 0} (key_of : T → List ℕ) where
         (λ w. still_placed place list (have_without (IsPlaced key_of old.items table place) id s.before s.rest (subst (AllHave (IsPlaced key_of old.items table place)) s.split (i.placed place w))))
         (λ b w. still_placed b (i.ids b) (i.placed b w))
 
-    all : (y : ℕ) (k : List ℕ) → key_at key_of new.items y ≡ Some k → Avoids y (changed i.ids place list (place_of new_table k)) → ⊥
-    all y k e a = i.all y k (gone y k e).1 (more (place_of table k) (subst (λ (q : ℕ). Avoids y (changed i.ids place list q)) (place_same table place left k) a))
+    all : (y : ℕ) (k : List ℕ) → key_at key_of new.items y ≡ Some k → Avoids y (changed i.ids place list (bucket_of new_table k)) → ⊥
+    all y k e a = i.all y k (gone y k e).1 (more (bucket_of table k) (subst (λ (q : ℕ). Avoids y (changed i.ids place list q)) (place_same table place left k) a))
       where
         more : (q : ℕ) → Avoids y (changed i.ids place list q) → Avoids y (i.ids q)
         more = each_list (λ q ys. Avoids y ys → Avoids y (i.ids q)) i.ids place list (λ a. subst (Avoids y) (sym s.split) (avoids_with y id s.before s.rest (gone y k e).0 a)) (λ q a. a)
 
-    pub index_removed : IsIndex key_of new (with_chain table (place_of table (key_of item)) left)
+    pub index_removed : IsIndex key_of new (with_chain table (bucket_of table (key_of item)) left)
     index_removed =
         let n : length new_table.chains ≡ length table.chains = length-set table.chains place left in
         record {

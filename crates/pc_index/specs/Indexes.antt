@@ -14,8 +14,8 @@ pub record IndexView : Type 0 where
   pub seed : RandomState
 
 -- the place of a key
-abbrev pub place_of : IndexView → List ℕ → ℕ
-place_of table key = bit_and (key_hash table.seed key) (length table.chains - 1)
+abbrev pub bucket_of : IndexView → List ℕ → ℕ
+bucket_of table key = bit_and (key_hash table.seed key) (length table.chains - 1)
 
 -- the chain of a place
 abbrev pub chain_at : IndexView → ℕ → Stack ℕ
@@ -26,6 +26,6 @@ chain_at table place = slice_index_or table.chains place (record { first = None 
 pub record IsIndex {T : Type 0} (key_of : T → List ℕ) (slots : Slots T) (table : IndexView) : Type 0 where
   pub ids : ℕ → List ℕ
   pub chains : (place : ℕ) → place < length table.chains → IsStack (IsTaken slots.items) (at slots.links) (chain_at table place) (ids place)
-  pub placed : (place : ℕ) → place < length table.chains → AllHave (λ id. (key : List ℕ) → key_at key_of slots.items id ≡ Some key → place_of table key ≡ place) (ids place)
-  pub all : (id : ℕ) (key : List ℕ) → key_at key_of slots.items id ≡ Some key → Avoids id (ids (place_of table key)) → ⊥
+  pub placed : (place : ℕ) → place < length table.chains → AllHave (λ id. (key : List ℕ) → key_at key_of slots.items id ≡ Some key → bucket_of table key ≡ place) (ids place)
+  pub all : (id : ℕ) (key : List ℕ) → key_at key_of slots.items id ≡ Some key → Avoids id (ids (bucket_of table key)) → ⊥
   pub distinct : (id other : ℕ) (key : List ℕ) → key_at key_of slots.items id ≡ Some key → key_at key_of slots.items other ≡ Some key → id ≡ other

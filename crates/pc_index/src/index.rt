@@ -2,7 +2,7 @@
 ghost use Rattle.std.specs.Prelude.{◌≡◌, ◌<◌, true, length, ℕ, IfOk, IfErr, OnErr, Ok, Err, Some, None, if◌then◌else◌, slice_set};
 ghost use Rattle.std.specs.Int.{IsNextPowerOfTwo};
 ghost use Rattle.pc_chain.specs.Slots.{at, is_full, IsTaken, AllFree};
-ghost use Rattle.pc_index.specs.Indexes.{place_of, IsIndex};
+ghost use Rattle.pc_index.specs.Indexes.{bucket_of, IsIndex};
 ghost use Rattle.pc_index.specs.Keys.{IsSlotOf, IsAbsent, KeepsOtherSlots, IsRecordMade};
 
 use crate::hashing::hash_of;
@@ -56,7 +56,7 @@ impl Index {
 
     // The place of the key.
     fn place(&self, key: &Key) -> usize
-        ensures place { result ≡ place_of self.now key.now }
+        ensures place { result ≡ bucket_of self.now key.now }
         ensures within { result < length self.now.chains }
     {
         hash_of(&self.seed, key) as usize & self.chains.len() - 1

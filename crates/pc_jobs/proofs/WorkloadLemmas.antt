@@ -8,8 +8,8 @@ use Rattle.std.proofs.lemmas.List.Sums.{fold-append}
 use Rattle.pc_jobs.specs.declared.phrases.Phrase.{Phrase}
 use Rattle.pc_jobs.specs.declared.phrases.Phrase.TheVariants as phrase
 use Rattle.pc_jobs.specs.declared.workloads.Gathered.{Gathered}
-use Rattle.pc_jobs.specs.Workloads.{is_points, is_client, is_open_behind, closes, is_bad, first_bad}
-use Rattle.pc_jobs.specs.Seeing.{seen_in, seen_behind}
+use Rattle.pc_jobs.specs.Workloads.{is_points, is_client, is_open_behind, closes, is_bad_line, first_bad}
+use Rattle.pc_jobs.specs.Seeing.{seen_in_lines, seen_behind}
 use Rattle.pc_jobs.specs.Gathering.{gathered_of, closing}
 
 or_false : (b : Bool) → (b || false) ≡ b
@@ -20,7 +20,7 @@ pub any_more : (test : Phrase → Bool) (lines : List Phrase) (line : Phrase) �
 any_more test lines line = list_any-append test lines (line ∷ []) ∙ ap (λ (b : Bool). list_any test lines || b) (or_false (test line))
 
 -- what was seen, and one line more
-pub seen_more : (lines : List Phrase) (line : Phrase) → seen_in (lines ++ line ∷ []) ≡ seen_behind (seen_in lines) line
+pub seen_more : (lines : List Phrase) (line : Phrase) → seen_in_lines (lines ++ line ∷ []) ≡ seen_behind (seen_in_lines lines) line
 seen_more lines line =
     let p = any_more is_points lines line in
     let q = any_more is_client lines line in
@@ -29,7 +29,7 @@ seen_more lines line =
 
 -- the next line is reported as bad, or the search goes on
 pub next_bad : (lines : List Phrase) (i : ℕ) (line : Phrase) → i < length lines → line ≡ get_or lines i line
-    → first_bad (take i lines) (drop i lines) ≡ (if is_bad (take i lines) line (drop (i + 1) lines) then Some (i + 1) else first_bad (take (i + 1) lines) (drop (i + 1) lines))
+    → first_bad (take i lines) (drop i lines) ≡ (if is_bad_line (take i lines) line (drop (i + 1) lines) then Some (i + 1) else first_bad (take (i + 1) lines) (drop (i + 1) lines))
 next_bad lines i line lt is =
     let d : drop i lines ≡ line ∷ drop (i + 1) lines = drop_more lines i line lt ∙ ap (λ (z : Phrase). z ∷ drop (i + 1) lines) (sym is) in
     let t : take (i + 1) lines ≡ take i lines ++ line ∷ [] = take_more lines i line lt ∙ ap (λ (z : Phrase). take i lines ++ z ∷ []) (sym is) in

@@ -12,7 +12,7 @@ use Rattle.pc_jobs.specs.declared.phrases.Phrase.{Phrase}
 use Rattle.pc_jobs.specs.declared.phrases.Phrase.TheVariants as phrase
 use Rattle.pc_jobs.specs.declared.workloads.WorkloadReading.{WorkloadReading}
 use Rattle.pc_jobs.specs.declared.workloads.WorkloadReading.TheVariants as reading
-use Rattle.pc_jobs.specs.Phrases.{spelled}
+use Rattle.pc_jobs.specs.Phrases.{spelled_phrase}
 
 -- a line that gives the points
 abbrev pub is_points : Phrase → Bool
@@ -37,8 +37,8 @@ is_open_behind before phrase.Silent = before
 is_open_behind before line = false
 
 -- whether a transaction is open after these lines
-abbrev pub is_open : List Phrase → Bool
-is_open lines = fold is_open_behind false lines
+abbrev pub is_open_after_lines : List Phrase → Bool
+is_open_after_lines lines = fold is_open_behind false lines
 
 -- whether the lines after a `txn` end its transaction, or come to a line that is bad by itself
 abbrev pub closes : List Phrase → Bool
@@ -50,20 +50,20 @@ closes (phrase.Malformed ∷ lines) = true
 closes (line ∷ lines) = false
 
 -- whether a line is bad, by the lines before it and after it
-abbrev pub is_bad : List Phrase → Phrase → List Phrase → Bool
-is_bad before phrase.Silent behind = false
-is_bad before (phrase.Points points) behind = list_any is_points before || list_any is_client before
-is_bad before (phrase.Client session) behind = list_any (is_client_of session) before
-is_bad before phrase.Begin behind = not (list_any is_client before) || not (closes behind)
-is_bad before (phrase.Does op) behind = not (is_open before)
-is_bad before phrase.End behind = not (is_open before)
-is_bad before (phrase.Fill fill) behind = not (list_any is_client before)
-is_bad before phrase.Malformed behind = true
+abbrev pub is_bad_line : List Phrase → Phrase → List Phrase → Bool
+is_bad_line before phrase.Silent behind = false
+is_bad_line before (phrase.Points points) behind = list_any is_points before || list_any is_client before
+is_bad_line before (phrase.Client session) behind = list_any (is_client_of session) before
+is_bad_line before phrase.Begin behind = not (list_any is_client before) || not (closes behind)
+is_bad_line before (phrase.Does op) behind = not (is_open_after_lines before)
+is_bad_line before phrase.End behind = not (is_open_after_lines before)
+is_bad_line before (phrase.Fill fill) behind = not (list_any is_client before)
+is_bad_line before phrase.Malformed behind = true
 
 -- the number of the first bad line, from 1, of some lines with others before them
 abbrev pub first_bad : List Phrase → List Phrase → Option ℕ
 first_bad before [] = None
-first_bad before (line ∷ behind) = if is_bad before line behind then Some (length before + 1) else first_bad (before ++ line ∷ []) behind
+first_bad before (line ∷ behind) = if is_bad_line before line behind then Some (length before + 1) else first_bad (before ++ line ∷ []) behind
 
 -- the operations of the transaction that is open before these lines
 abbrev pub ops_in : List Phrase → List Op
@@ -81,33 +81,33 @@ works_in (phrase.Client session ∷ lines) = []
 works_in (line ∷ lines) = works_in lines
 
 -- the clients of these lines
-abbrev pub clients_in : List Phrase → List Client
-clients_in [] = []
-clients_in (phrase.Client session ∷ lines) = record { session = session; works = works_in lines } ∷ clients_in lines
-clients_in (line ∷ lines) = clients_in lines
+abbrev pub clients_of_lines : List Phrase → List Client
+clients_of_lines [] = []
+clients_of_lines (phrase.Client session ∷ lines) = record { session = session; works = works_in lines } ∷ clients_of_lines lines
+clients_of_lines (line ∷ lines) = clients_of_lines lines
 
 -- the number of points to take: none if no line says it
-abbrev pub points_in : List Phrase → ℕ
-points_in [] = 0
-points_in (phrase.Points points ∷ lines) = points
-points_in (line ∷ lines) = points_in lines
+abbrev pub points_to_take : List Phrase → ℕ
+points_to_take [] = 0
+points_to_take (phrase.Points points ∷ lines) = points
+points_to_take (line ∷ lines) = points_to_take lines
 
 -- what the lines give, if none is bad
 abbrev pub workload_of : List Phrase → Workload
-workload_of lines = record { points = points_in lines; clients = clients_in lines }
+workload_of lines = record { points = points_to_take lines; clients = clients_of_lines lines }
 
 -- a bad line, if there is one, and otherwise the workload
-abbrev pub outcome : Option ℕ → Workload → WorkloadReading
-outcome (Some line) workload = reading.BadLine line
-outcome None workload = reading.Runs workload
+abbrev pub reading_of_workload : Option ℕ → Workload → WorkloadReading
+reading_of_workload (Some line) workload = reading.BadLine line
+reading_of_workload None workload = reading.Runs workload
 
 -- the meaning of some lines
 abbrev pub worth : List Phrase → WorkloadReading
-worth lines = outcome (first_bad [] lines) (workload_of lines)
+worth lines = reading_of_workload (first_bad [] lines) (workload_of lines)
 
 -- what the lines of a text spell
 abbrev pub phrases_in : List ℕ → List Phrase
-phrases_in text = map spelled (lines_in text)
+phrases_in text = map spelled_phrase (lines_in text)
 
 -- the meaning of a text
 abbrev pub reading_of : List ℕ → WorkloadReading

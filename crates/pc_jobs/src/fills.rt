@@ -1,7 +1,7 @@
 //! The transactions of a fill, made one by one in one place.
 ghost use Rattle.std.specs.Prelude.{◌≡◌, ◌⊎◌, ◌<◌, ◌+◌, length, IfErr, OnErr, OnOk};
 ghost use Rattle.pc_types.specs.declared.limits.TheConstants.{SPACE_BYTES};
-ghost use Rattle.pc_jobs.specs.Jobs.{job_of, key_at};
+ghost use Rattle.pc_jobs.specs.Jobs.{job_of, fill_key};
 
 use crate::works::{Fill, Job, Op};
 use pc_types::{Items, Key, Refusal};
@@ -43,7 +43,7 @@ impl FillJob {
     pub fn set(&mut self, alloc: Global, fill: &Fill, number: u32) -> Result<(), Refusal>
         ensures job { OnOk result (self.new ≡ job_of fill.now number) }
         ensures same { OnErr result (self.new ≡ self.old) }
-        ensures refusals { IfErr result (λ e. (e ≡ Refusal.OutOfMemory) × ((SPACE_BYTES + 16 < length (key_at fill.now number)) ⊎ (16 < length fill.now.value))) }
+        ensures refusals { IfErr result (λ e. (e ≡ Refusal.OutOfMemory) × ((SPACE_BYTES + 16 < length (fill_key fill.now number)) ⊎ (16 < length fill.now.value))) }
     {
         let key = fill.prefix.key(alloc, number)?;
         let value = fill.value.copy(alloc)?;

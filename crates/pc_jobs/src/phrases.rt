@@ -1,7 +1,7 @@
 //! The meaning of a line of a workload by itself.
 ghost use Rattle.std.specs.Prelude.{◌≡◌, ◌≤◌, IfOk, IfErr, map};
 ghost use Rattle.pc_lines.specs.Words.{signed_number_of};
-ghost use Rattle.pc_jobs.specs.Phrases.{key_of, value_of, prefix_of, number_within, points_line, client_line, get_line, del_line, put_line, add_line, fill_line, one_word, two_words, three_words, four_words, spelled_by, spelled};
+ghost use Rattle.pc_jobs.specs.Phrases.{spelled_key, spelled_value, prefix_of, number_within, points_line, client_line, get_op_line, del_op_line, put_op_line, add_op_line, fill_line, one_word_phrase, two_word_phrase, three_word_phrase, four_word_phrase, phrase_of_words, spelled_phrase};
 
 use crate::prefixes::Prefix;
 use crate::works::{Fill, Op};
@@ -40,7 +40,7 @@ pub const MOST_FILL: u32 = 1_000_000;
 
 /// The meaning of the line, without its end. Refuses only with `OutOfMemory`.
 pub(crate) fn spelled(alloc: Global, text: &[u8]) -> Result<Phrase, Refusal>
-    ensures phrase { IfOk result (λ phrase. phrase ≡ spelled text.now) }
+    ensures phrase { IfOk result (λ phrase. phrase ≡ spelled_phrase text.now) }
     ensures refusals { IfErr result (λ e. e ≡ Refusal.OutOfMemory) }
 {
     if is_comment(text) {
@@ -51,7 +51,7 @@ pub(crate) fn spelled(alloc: Global, text: &[u8]) -> Result<Phrase, Refusal>
 
 // The meaning of the words of a line.
 fn spelled_by(alloc: Global, words: &[&[u8]]) -> Result<Phrase, Refusal>
-    ensures phrase { IfOk result (λ phrase. phrase ≡ spelled_by (map (λ w. w.now) words.now)) }
+    ensures phrase { IfOk result (λ phrase. phrase ≡ phrase_of_words (map (λ w. w.now) words.now)) }
     ensures refusals { IfErr result (λ e. e ≡ Refusal.OutOfMemory) }
 {
     match words {
@@ -65,7 +65,7 @@ fn spelled_by(alloc: Global, words: &[&[u8]]) -> Result<Phrase, Refusal>
 }
 
 fn one_word(verb: &[u8]) -> Phrase
-    ensures { result ≡ one_word verb.now }
+    ensures { result ≡ one_word_phrase verb.now }
 {
     if verb == b"txn".as_slice() {
         Phrase::Begin
@@ -77,7 +77,7 @@ fn one_word(verb: &[u8]) -> Phrase
 }
 
 fn two_words(alloc: Global, verb: &[u8], word: &[u8]) -> Result<Phrase, Refusal>
-    ensures phrase { IfOk result (λ phrase. phrase ≡ two_words verb.now word.now) }
+    ensures phrase { IfOk result (λ phrase. phrase ≡ two_word_phrase verb.now word.now) }
     ensures refusals { IfErr result (λ e. e ≡ Refusal.OutOfMemory) }
 {
     if verb == b"points".as_slice() {
@@ -94,7 +94,7 @@ fn two_words(alloc: Global, verb: &[u8], word: &[u8]) -> Result<Phrase, Refusal>
 }
 
 fn three_words(alloc: Global, verb: &[u8], key: &[u8], word: &[u8]) -> Result<Phrase, Refusal>
-    ensures phrase { IfOk result (λ phrase. phrase ≡ three_words verb.now key.now word.now) }
+    ensures phrase { IfOk result (λ phrase. phrase ≡ three_word_phrase verb.now key.now word.now) }
     ensures refusals { IfErr result (λ e. e ≡ Refusal.OutOfMemory) }
 {
     if verb == b"put".as_slice() {
@@ -113,7 +113,7 @@ fn four_words(
     count: &[u8],
     value: &[u8],
 ) -> Result<Phrase, Refusal>
-    ensures phrase { IfOk result (λ phrase. phrase ≡ four_words verb.now prefix.now count.now value.now) }
+    ensures phrase { IfOk result (λ phrase. phrase ≡ four_word_phrase verb.now prefix.now count.now value.now) }
     ensures refusals { IfErr result (λ e. e ≡ Refusal.OutOfMemory) }
 {
     if verb == b"fill".as_slice() {
@@ -142,7 +142,7 @@ fn client_line(word: &[u8]) -> Phrase
 }
 
 fn get_line(alloc: Global, word: &[u8]) -> Result<Phrase, Refusal>
-    ensures phrase { IfOk result (λ phrase. phrase ≡ get_line (key_of word.now)) }
+    ensures phrase { IfOk result (λ phrase. phrase ≡ get_op_line (spelled_key word.now)) }
     ensures refusals { IfErr result (λ e. e ≡ Refusal.OutOfMemory) }
 {
     match key_of(alloc, word)? {
@@ -152,7 +152,7 @@ fn get_line(alloc: Global, word: &[u8]) -> Result<Phrase, Refusal>
 }
 
 fn del_line(alloc: Global, word: &[u8]) -> Result<Phrase, Refusal>
-    ensures phrase { IfOk result (λ phrase. phrase ≡ del_line (key_of word.now)) }
+    ensures phrase { IfOk result (λ phrase. phrase ≡ del_op_line (spelled_key word.now)) }
     ensures refusals { IfErr result (λ e. e ≡ Refusal.OutOfMemory) }
 {
     match key_of(alloc, word)? {
@@ -162,7 +162,7 @@ fn del_line(alloc: Global, word: &[u8]) -> Result<Phrase, Refusal>
 }
 
 fn put_line(alloc: Global, key: &[u8], value: &[u8]) -> Result<Phrase, Refusal>
-    ensures phrase { IfOk result (λ phrase. phrase ≡ put_line (key_of key.now) (value_of value.now)) }
+    ensures phrase { IfOk result (λ phrase. phrase ≡ put_op_line (spelled_key key.now) (spelled_value value.now)) }
     ensures refusals { IfErr result (λ e. e ≡ Refusal.OutOfMemory) }
 {
     let key = key_of(alloc, key)?;
@@ -174,7 +174,7 @@ fn put_line(alloc: Global, key: &[u8], value: &[u8]) -> Result<Phrase, Refusal>
 }
 
 fn add_line(alloc: Global, key: &[u8], delta: &[u8]) -> Result<Phrase, Refusal>
-    ensures phrase { IfOk result (λ phrase. phrase ≡ add_line (key_of key.now) (signed_number_of delta.now)) }
+    ensures phrase { IfOk result (λ phrase. phrase ≡ add_op_line (spelled_key key.now) (signed_number_of delta.now)) }
     ensures refusals { IfErr result (λ e. e ≡ Refusal.OutOfMemory) }
 {
     let key = key_of(alloc, key)?;
@@ -185,7 +185,7 @@ fn add_line(alloc: Global, key: &[u8], delta: &[u8]) -> Result<Phrase, Refusal>
 }
 
 fn fill_line(alloc: Global, prefix: &[u8], count: &[u8], value: &[u8]) -> Result<Phrase, Refusal>
-    ensures phrase { IfOk result (λ phrase. phrase ≡ fill_line (prefix_of prefix.now) (number_within 1 MOST_FILL count.now) (value_of value.now)) }
+    ensures phrase { IfOk result (λ phrase. phrase ≡ fill_line (prefix_of prefix.now) (number_within 1 MOST_FILL count.now) (spelled_value value.now)) }
     ensures refusals { IfErr result (λ e. e ≡ Refusal.OutOfMemory) }
 {
     let prefix = prefix_of(alloc, prefix)?;
@@ -220,7 +220,7 @@ fn number_within(least: u32, most: u32, word: &[u8]) -> Option<u32>
 
 // The key that a word spells.
 fn key_of(alloc: Global, word: &[u8]) -> Result<Option<Key>, Refusal>
-    ensures key { IfOk result (λ key. key ≡ key_of word.now) }
+    ensures key { IfOk result (λ key. key ≡ spelled_key word.now) }
     ensures refusals { IfErr result (λ e. e ≡ Refusal.OutOfMemory) }
 {
     match key_text_of(alloc, word)? {
@@ -236,7 +236,7 @@ fn key_of(alloc: Global, word: &[u8]) -> Result<Option<Key>, Refusal>
 
 // The value that a word spells.
 fn value_of(alloc: Global, word: &[u8]) -> Result<Option<Value>, Refusal>
-    ensures value { IfOk result (λ value. value ≡ value_of word.now) }
+    ensures value { IfOk result (λ value. value ≡ spelled_value word.now) }
     ensures refusals { IfErr result (λ e. e ≡ Refusal.OutOfMemory) }
 {
     match text_of(alloc, word)? {

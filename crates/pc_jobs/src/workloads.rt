@@ -3,9 +3,9 @@ ghost use Rattle.std.specs.Prelude.{◌≡◌, [], ◌∷◌, List, Option, Some
 ghost use Rattle.std.specs.List.{list_any};
 ghost use Rattle.pc_jobs.specs.declared.phrases.Phrase.{Phrase};
 ghost use Rattle.pc_jobs.specs.declared.works.Workload.{Workload};
-ghost use Rattle.pc_jobs.specs.Workloads.{is_points, is_client, is_client_of, is_open_behind, closes, is_bad, first_bad, workload_of, phrases_in, reading_of};
+ghost use Rattle.pc_jobs.specs.Workloads.{is_points, is_client, is_client_of, is_open_behind, closes, is_bad_line, first_bad, workload_of, phrases_in, reading_of};
 ghost use Rattle.pc_jobs.specs.Written.{IsWorkloadWritten};
-ghost use Rattle.pc_jobs.specs.Seeing.{seen_in, seen_behind};
+ghost use Rattle.pc_jobs.specs.Seeing.{seen_in_lines, seen_behind};
 ghost use Rattle.pc_jobs.specs.Gathering.{gathered_of, closing};
 
 use crate::phrases::{Phrase, spelled};
@@ -108,8 +108,8 @@ fn first_bad(lines: &[Phrase]) -> Option<usize>
 
 // Whether a line is bad, by the lines before it and after it.
 fn is_bad(seen: Seen, before: &[Phrase], line: &Phrase, behind: &[Phrase]) -> bool
-    requires { seen ≡ seen_in before.now }
-    ensures { result ≡ is_bad before.now line.now behind.now }
+    requires { seen ≡ seen_in_lines before.now }
+    ensures { result ≡ is_bad_line before.now line.now behind.now }
 {
     match line {
         Phrase::Silent => false,

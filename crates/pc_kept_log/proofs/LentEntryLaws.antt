@@ -14,7 +14,7 @@ use Rattle.pc_log.specs.Texts.{entry_text, IsEntry}
 use Rattle.pc_log.specs.Reading.{phase_numbered}
 use Rattle.pc_log.proofs.TokenOrders.{numbered_is}
 use Rattle.pc_kept_log.specs.Chunks.{Piece}
-use Rattle.pc_kept_log.specs.Pieces.{HasPlace, IsPiece, entry_at}
+use Rattle.pc_kept_log.specs.Pieces.{PieceHasPlace, IsPiece, entry_at_place}
 use Rattle.pc_kept_log.specs.Logs.{token_of}
 use Rattle.pc_kept_log.proofs.ChunkLaws.{some_is_entry, first_of}
 use Rattle.pc_kept_log.proofs.PieceLaws.{got}
@@ -57,18 +57,18 @@ module _ (entries : List Entry) (place : ℕ) (text : List ℕ) (lawful : All Is
       let found = first_of entries place (length entries) inside (omega arith) in
       (found.0, found.1, flat_map entry_text (slice_range entries (suc place) (length entries)), is ∙ ap (flat_map entry_text) found.2)
 
-  here : entry_at entries place ≡ there.0
+  here : entry_at_place entries place ≡ there.0
   here = get_or_from_slice_get entries place there.0 _ there.1
 
   pub has_start : 8 ≤ length text
   has_start = rw there.3 (long_text there.0 there.2)
 
-  pub token_there : get_or text 4 0 ≡ 2 → IsTokenText (entry_at entries place) text
+  pub token_there : get_or text 4 0 ≡ 2 → IsTokenText (entry_at_place entries place) text
   token_there kind =
       subst (λ (entry : Entry). IsTokenText entry text) (sym here)
       (subst (IsTokenText there.0) (sym there.3) (token_text there.0 there.2 (some_is_entry entries place there.0 lawful there.1 inside) (subst (λ (t : List ℕ). get_or t 4 0 ≡ 2) there.3 kind)))
 
-  pub none_there : (get_or text 4 0 ≡ 2 → ⊥) → None ≡ token_of (entry_at entries place)
+  pub none_there : (get_or text 4 0 ≡ 2 → ⊥) → None ≡ token_of (entry_at_place entries place)
   none_there other = no_token there.0 there.2 (λ kind. other (subst (λ (t : List ℕ). get_or t 4 0 ≡ 2) (sym there.3) kind)) ∙ ap token_of (sym here)
 
 -- ---- one entry after the other
@@ -80,15 +80,15 @@ last_is_piece before piece first = (before, [], ap (λ (es : List Entry). before
 some_same : (x y : Entry) → Some x ≡ Some y → x ≡ y
 some_same x y e = cc
 
-module _ (entries : List Entry) (piece : Piece) (at to : ℕ) (has : HasPlace entries piece at) (some : at < to) (inside : to ≤ length entries) where
+module _ (entries : List Entry) (piece : Piece) (at to : ℕ) (has : PieceHasPlace entries piece at) (some : at < to) (inside : to ≤ length entries) where
   pub in_piece : at - piece.first < length piece.entries
   in_piece = omega (arith, has.begins, has.ends)
 
-  pub steps : slice_range entries at to ≡ entry_at piece.entries (at - piece.first) ∷ slice_range entries (at + 1) to
+  pub steps : slice_range entries at to ≡ entry_at_place piece.entries (at - piece.first) ∷ slice_range entries (at + 1) to
   steps =
       let found = first_of entries at to some inside in
       let own = first_of piece.entries (at - piece.first) (length piece.entries) in_piece (omega arith) in
       let same : own.0 ≡ found.0 = some_same own.0 found.0 (sym (got entries piece at has own.0 own.1) ∙ found.1) in
-      let here : entry_at piece.entries (at - piece.first) ≡ own.0 = get_or_from_slice_get piece.entries (at - piece.first) own.0 _ own.1 in
+      let here : entry_at_place piece.entries (at - piece.first) ≡ own.0 = get_or_from_slice_get piece.entries (at - piece.first) own.0 _ own.1 in
       let next : suc at ≡ at + 1 = omega arith in
-      found.2 ∙ ap (λ (e : Entry). e ∷ slice_range entries (suc at) to) (sym (here ∙ same)) ∙ ap (λ (n : ℕ). entry_at piece.entries (at - piece.first) ∷ slice_range entries n to) next
+      found.2 ∙ ap (λ (e : Entry). e ∷ slice_range entries (suc at) to) (sym (here ∙ same)) ∙ ap (λ (n : ℕ). entry_at_place piece.entries (at - piece.first) ∷ slice_range entries n to) next

@@ -7,13 +7,13 @@ use Rattle.std.proofs.lemmas.Bool.Decides.{nat_tests}
 use Rattle.std.proofs.lemmas.Grind.{flat_map-append}
 use Rattle.std.proofs.lemmas.List.{append-nil, take-append-drop, take-append-le, drop-append-le, drop-drop, length-drop}
 use Rattle.pc_types.specs.declared.Entry.{Entry}
-use Rattle.pc_kept_log.specs.Chunks.{Piece, AreCounted, entries_in_pieces}
-use Rattle.pc_kept_log.specs.Pieces.{HasPlace}
+use Rattle.pc_kept_log.specs.Chunks.{Piece, ArePiecesNumbered, entries_in_pieces}
+use Rattle.pc_kept_log.specs.Pieces.{PieceHasPlace}
 use Rattle.pc_kept_log.proofs.ChunkLaws.{take_parts, take_all}
 
 -- ---- the pieces
 
-module _ (pieces : List Piece) (counted : AreCounted pieces) where
+module _ (pieces : List Piece) (counted : ArePiecesNumbered pieces) where
   -- those before a later one have more entries
   pub firsts_rise : IsNonDecreasingBy (λ (p : Piece). p.first) pieces
   firsts_rise i j d order inside =
@@ -68,7 +68,7 @@ module _ (pieces : List Piece) (counted : AreCounted pieces) where
             let later = point.1 k d (omega arith) inside in
             grind (arith, nat_tests, later, counted k d inside)
 
-    pub piece_at : (d : Piece) → HasPlace (entries_in_pieces pieces ++ rest) (get_or pieces (k - 1) d) place
+    pub piece_at : (d : Piece) → PieceHasPlace (entries_in_pieces pieces ++ rest) (get_or pieces (k - 1) d) place
     piece_at d =
         let m = k - 1 in
         let inside : m < length pieces = omega (arith, bound, one_before d) in
@@ -90,7 +90,7 @@ module _ (pieces : List Piece) (counted : AreCounted pieces) where
         }
 
 -- the last piece
-pub last_piece : (before : List Entry) (piece : Piece) (place : ℕ) → piece.first ≡ length before → piece.first ≤ place → place < length (before ++ piece.entries) → HasPlace (before ++ piece.entries) piece place
+pub last_piece : (before : List Entry) (piece : Piece) (place : ℕ) → piece.first ≡ length before → piece.first ≤ place → place < length (before ++ piece.entries) → PieceHasPlace (before ++ piece.entries) piece place
 last_piece before piece place first begins inside = record {
   begins = begins;
   ends = omega (arith, first, inside, length-append before piece.entries);
@@ -110,7 +110,7 @@ get_behind (x ∷ xs) ys i =
     let next : suc (length xs) + i ≡ suc (length xs + i) = omega arith in
     ap (slice_get (x ∷ (xs ++ ys))) next ∙ get_behind xs ys i
 
-module _ (entries : List Entry) (piece : Piece) (place : ℕ) (has : HasPlace entries piece place) where
+module _ (entries : List Entry) (piece : Piece) (place : ℕ) (has : PieceHasPlace entries piece place) where
   pub got : (entry : Entry) → slice_get piece.entries (place - piece.first) ≡ Some entry → slice_get entries place ≡ Some entry
   got entry e =
       let front = has.parts.0 in

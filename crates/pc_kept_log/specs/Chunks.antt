@@ -37,5 +37,5 @@ abbrev pub entries_in_pieces : List Piece → List Entry
 entries_in_pieces pieces = flat_map (λ (piece : Piece). piece.entries) pieces
 
 -- each piece has the number of entries in those before it
-abbrev pub AreCounted : List Piece → Type 0
-AreCounted pieces = (i : ℕ) (d : Piece) → i < length pieces → (slice_index_or pieces i d).first ≡ length (entries_in_pieces (take i pieces))
+abbrev pub ArePiecesNumbered : List Piece → Type 0
+ArePiecesNumbered pieces = (i : ℕ) (d : Piece) → i < length pieces → (slice_index_or pieces i d).first ≡ length (entries_in_pieces (take i pieces))

@@ -20,6 +20,6 @@ and_more (Ok write) more = write.0 ∷ more write.1
 and_more (Err fault) more = []
 
 -- at most that many writes, as far as they can be read
-unfoldable pub writes_in : ℕ → List ℕ → List Write
-writes_in zero bytes = []
-writes_in (suc count) bytes = and_more (plain_write_at bytes) (writes_in count)
+unfoldable pub readable_writes : ℕ → List ℕ → List Write
+readable_writes zero bytes = []
+readable_writes (suc count) bytes = and_more (plain_write_at bytes) (readable_writes count)

@@ -10,11 +10,11 @@ abbrev pub IsPiece : List Entry → Piece → Type 0
 IsPiece entries piece = (front : List Entry) × (behind : List Entry) × (entries ≡ front ++ (piece.entries ++ behind)) × (length front ≡ piece.first)
 
 -- and the one at the place is among them
-pub record HasPlace (entries : List Entry) (piece : Piece) (place : ℕ) : Type 0 where
+pub record PieceHasPlace (entries : List Entry) (piece : Piece) (place : ℕ) : Type 0 where
   pub begins : piece.first ≤ place
   pub ends : place < piece.first + length piece.entries
   pub parts : IsPiece entries piece
 
 -- the entry at a place; if there is none, a token that no log has
-abbrev pub entry_at : List Entry → ℕ → Entry
-entry_at entries place = slice_index_or entries place (Token Rest 0)
+abbrev pub entry_at_place : List Entry → ℕ → Entry
+entry_at_place entries place = slice_index_or entries place (Token Rest 0)

@@ -3,7 +3,7 @@ ghost use Rattle.std.specs.Prelude.{◌≡◌, ◌<◌, ◌≤◌, ◌+◌, leng
 ghost use Rattle.std.specs.List.{flat_map};
 ghost use Rattle.pc_types.specs.declared.Entry.{Entry};
 ghost use Rattle.pc_kept_log.specs.Logs.{entries_of};
-ghost use Rattle.pc_kept_log.specs.Pieces.{HasPlace};
+ghost use Rattle.pc_kept_log.specs.Pieces.{PieceHasPlace};
 ghost use Rattle.pc_log.specs.Texts.{entry_text};
 
 use crate::chunk::Chunk;
@@ -96,7 +96,7 @@ impl Log {
     // The piece of the entry at the place.
     pub(crate) fn piece_of(&self, place: usize) -> &Chunk
         requires { place < length (entries_of self.now) }
-        ensures { HasPlace (entries_of self.now) result.now place }
+        ensures { PieceHasPlace (entries_of self.now) result.now place }
     {
         if self.open.first() <= place {
             return &self.open;

@@ -2,7 +2,7 @@
 ghost use Rattle.std.specs.Prelude.{◌≡◌, ◌<◌, ◌≤◌, length, Some, slice_range};
 ghost use Rattle.std.specs.Iterator.{YieldsFirst, item_count};
 ghost use Rattle.pc_kept_log.specs.Logs.{entries_of, writes_of_entry, token_of};
-ghost use Rattle.pc_kept_log.specs.Pieces.{HasPlace, IsPiece, entry_at};
+ghost use Rattle.pc_kept_log.specs.Pieces.{PieceHasPlace, IsPiece, entry_at_place};
 
 use crate::chunk::Chunk;
 use crate::lent_writes::LentWrites;
@@ -22,11 +22,11 @@ pub struct LentEntry<'a> {
 impl<'a> Model for LentEntry<'a> {
     ghost use Rattle.std.specs.Prelude.{◌<◌, length};
     ghost use Rattle.pc_types.specs.declared.Entry.{Entry};
-    ghost use Rattle.pc_kept_log.specs.Pieces.{entry_at};
+    ghost use Rattle.pc_kept_log.specs.Pieces.{entry_at_place};
 
     ghost Value = { Entry };
 
-    ghost view = { λ e. entry_at e.piece.now.entries e.place };
+    ghost view = { λ e. entry_at_place e.piece.now.entries e.place };
 
     ghost invariant = { λ e. e.place < length e.piece.now.entries };
 }
@@ -53,7 +53,7 @@ impl Chunk {
     // The phase and the point of the token at this place, which counts from 0; `None` if a commit is there.
     fn token(&self, place: usize) -> Option<(Phase, Point)>
         requires { place < length self.now.entries }
-        ensures { result ≡ token_of (entry_at self.now.entries place) }
+        ensures { result ≡ token_of (entry_at_place self.now.entries place) }
     {
         let text = self.text(place, self.len());
         if text[4] != TOKEN {
@@ -110,7 +110,7 @@ impl Log {
     fn piece_beside<'a>(&'a self, piece: &'a Chunk, place: usize) -> &'a Chunk
         requires inside { place < length (entries_of self.now) }
         requires piece { IsPiece (entries_of self.now) piece.now }
-        ensures { HasPlace (entries_of self.now) result.now place }
+        ensures { PieceHasPlace (entries_of self.now) result.now place }
     {
         if piece.first() <= place && place - piece.first() < piece.len() {
             return piece;

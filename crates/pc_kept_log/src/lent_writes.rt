@@ -88,14 +88,14 @@ pub struct LentWrites<'a> {
 impl<'a> Model for LentWrites<'a> {
     ghost use Rattle.std.specs.Prelude.{◌≡◌, List, length};
     ghost use Rattle.pc_types.specs.declared.Write.{Write};
-    ghost use Rattle.pc_kept_log.specs.LentWrites.{writes_in};
+    ghost use Rattle.pc_kept_log.specs.LentWrites.{readable_writes};
 
     ghost Value = { List Write };
 
-    ghost view = { λ w. writes_in w.count w.bytes.now };
+    ghost view = { λ w. readable_writes w.count w.bytes.now };
 
     // The number of writes that can be read.
-    ghost invariant = { λ w. length (writes_in w.count w.bytes.now) ≡ w.count };
+    ghost invariant = { λ w. length (readable_writes w.count w.bytes.now) ≡ w.count };
 }
 
 impl<'a> LentWrites<'a> {

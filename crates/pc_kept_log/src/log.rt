@@ -1,7 +1,7 @@
 //! A log in memory, which is kept as its own text.
 ghost use Rattle.std.specs.Prelude.{◌≡◌, ◌≤◌, ◌++◌, length};
 ghost use Rattle.pc_types.specs.declared.limits.TheConstants.{MOST_LOG_ENTRIES};
-ghost use Rattle.pc_kept_log.specs.Chunks.{AreCounted, entries_in_pieces};
+ghost use Rattle.pc_kept_log.specs.Chunks.{ArePiecesNumbered, entries_in_pieces};
 
 use crate::chunk::Chunk;
 use std::alloc::Global;
@@ -17,5 +17,5 @@ pub struct Log {
     pub(crate) open: Chunk,
     ghost limit: { length (entries_in_pieces full.items ++ open.entries) ≤ MOST_LOG_ENTRIES },
     ghost behind: { open.first ≡ length (entries_in_pieces full.items) },
-    ghost counted: { AreCounted full.items },
+    ghost counted: { ArePiecesNumbered full.items },
 }

@@ -8,7 +8,7 @@ use Rattle.std.specs.Char.{digit_value}
 use Rattle.std.proofs.lemmas.Bool.Decides.{nat_tests}
 use Rattle.std.proofs.Math.Nat.{pow-le-pow_right, pow-suc}
 use Rattle.std.proofs.lemmas.List.{take_rest, drop-drop}
-use Rattle.pc_lines.specs.Words.{is_digit, is_plain, hex_byte, hex_value, escaped, with_byte, with_plain, with_escape, unescaped, text_of}
+use Rattle.pc_lines.specs.Words.{is_digit, is_plain, byte_of_hex, hex_value, escaped, with_byte, with_plain, with_escape, unescaped, word_text}
 
 -- a digit of a numeral is one of 0 to 9
 pub digit_at : (ds : List ℕ) (i : ℕ) → list_all is_digit ds ≡ true → i < length ds → (47 < get_or ds i 0) × (get_or ds i 0 < 58)
@@ -57,7 +57,7 @@ plain_in_front b word h e = ap (λ x. if x then with_byte b (unescaped word) els
 no_escape : (b x high low : ℕ) → is_plain b ≡ true → escaped b x high low ≡ None
 no_escape b x high low h =
     let other : (b == 92) ≡ false = grind (arith, nat_tests) in
-    ap (λ y. if y && (x == 120) then hex_byte (hex_value high) (hex_value low) else None) other
+    ap (λ y. if y && (x == 120) then byte_of_hex (hex_value high) (hex_value low) else None) other
 
 -- a word of plain bytes represents them
 pub plain_word : (word : List ℕ) → list_all is_plain word ≡ true → unescaped word ≡ Some word
@@ -70,5 +70,5 @@ plain_word (b ∷ x ∷ high ∷ low ∷ word) h =
     ∙ plain_in_front b (x ∷ high ∷ low ∷ word) (both _ _ h).0 (plain_word (x ∷ high ∷ low ∷ word) (both _ _ h).1)
 
 -- and so does a key or value word that isn't a hyphen alone
-pub plain_text : (word : List ℕ) → bytes_eq word (45 ∷ []) ≡ false → list_all is_plain word ≡ true → Some word ≡ text_of word
+pub plain_text : (word : List ℕ) → bytes_eq word (45 ∷ []) ≡ false → list_all is_plain word ≡ true → Some word ≡ word_text word
 plain_text word other plain = sym (ap (λ x. if x then Some [] else unescaped word) other ∙ plain_word word plain)

@@ -9,7 +9,7 @@ use Rattle.pc_types.specs.declared.limits.TheConstants.{SPACE_BYTES, MOST_KEY_BY
 use Rattle.pc_lines.specs.declared.lines.Line.{Line}
 use Rattle.pc_lines.specs.declared.lines.Line.TheVariants as line
 use Rattle.pc_lines.specs.declared.lines.View.TheVariants as view
-use Rattle.pc_lines.specs.Words.{number_of, signed_number_of, text_of, key_text_of}
+use Rattle.pc_lines.specs.Words.{parsed_number, signed_number_of, word_text, key_text_of}
 
 -- the lines: each ends with a line feed, before which one carriage return is dropped; the last one may lack its line feed
 abbrev pub lines_in : List ℕ → List (List ℕ)
@@ -80,7 +80,7 @@ numbered verb None = line.Malformed
 
 -- what two words spell
 abbrev pub two_words : List ℕ → List ℕ → Line
-two_words verb number = numbered verb (number_of number)
+two_words verb number = numbered verb (parsed_number number)
 
 -- a join of two files
 abbrev pub join_line : Option ℕ → Option ℕ → Line
@@ -90,16 +90,16 @@ join_line first second = line.Malformed
 -- what three words spell
 abbrev pub three_words : List ℕ → List ℕ → List ℕ → Line
 three_words verb first second =
-    if bytes_eq verb (codes "get") then get_line (number_of first) (key_text_of second)
-    else (if bytes_eq verb (codes "del") then del_line (number_of first) (key_text_of second)
-    else (if bytes_eq verb (codes "base") then base_line (key_text_of first) (text_of second)
-    else (if bytes_eq verb (codes "join") then join_line (number_of first) (number_of second) else line.Malformed)))
+    if bytes_eq verb (codes "get") then get_line (parsed_number first) (key_text_of second)
+    else (if bytes_eq verb (codes "del") then del_line (parsed_number first) (key_text_of second)
+    else (if bytes_eq verb (codes "base") then base_line (key_text_of first) (word_text second)
+    else (if bytes_eq verb (codes "join") then join_line (parsed_number first) (parsed_number second) else line.Malformed)))
 
 -- what four words spell
 abbrev pub four_words : List ℕ → List ℕ → List ℕ → List ℕ → Line
 four_words verb first second third =
-    if bytes_eq verb (codes "put") then put_line (number_of first) (key_text_of second) (text_of third)
-    else (if bytes_eq verb (codes "add") then add_line (number_of first) (key_text_of second) (signed_number_of third) else line.Malformed)
+    if bytes_eq verb (codes "put") then put_line (parsed_number first) (key_text_of second) (word_text third)
+    else (if bytes_eq verb (codes "add") then add_line (parsed_number first) (key_text_of second) (signed_number_of third) else line.Malformed)
 
 -- what the words of a line spell
 abbrev pub spelled_by : List (List ℕ) → Line

@@ -2,7 +2,7 @@
 ghost use Rattle.std.specs.Prelude.{◌≡◌, ◌<◌, ◌==◌, length, IfSome, IfOk, IfErr, true};
 ghost use Rattle.std.specs.List.{position};
 ghost use Rattle.pc_lines.specs.Lines.{is_key};
-ghost use Rattle.pc_lines.specs.Words.{space_in, key_in, key_behind, key_at_colon, key_text_of, text_of};
+ghost use Rattle.pc_lines.specs.Words.{space_in, key_in_space, key_of_own_word, key_at_colon, key_text_of, word_text};
 
 use crate::words::{number, text_of};
 use pc_types::{Key, MOST_KEY_BYTES, Refusal};
@@ -84,7 +84,7 @@ fn key_behind(
     space: Option<u16>,
     word: &[u8],
 ) -> Result<Option<KeyText<'_>>, AllocError>
-    ensures { IfOk result (λ key. key ≡ key_behind space word.now) }
+    ensures { IfOk result (λ key. key ≡ key_of_own_word space word.now) }
 {
     match space {
         Some(space) => {
@@ -114,7 +114,7 @@ fn space_in(digits: &[u8]) -> Option<u16>
 
 // The key of a space and a word of own bytes.
 fn key_in(alloc: Global, space: u16, word: &[u8]) -> Result<Option<KeyText<'_>>, AllocError>
-    ensures { IfOk result (λ key. key ≡ key_in space (text_of word.now)) }
+    ensures { IfOk result (λ key. key ≡ key_in_space space (word_text word.now)) }
 {
     match text_of(alloc, word)? {
         Some(own) => Ok(Some(KeyText { space, own })),

@@ -1,7 +1,7 @@
 //! The lines of a script, and what each spells.
 ghost use Rattle.std.specs.Prelude.{◌≡◌, ◌==◌, ◌≤◌, not, ℕ, List, [], ◌∷◌, Some, map, take, length, IfOk, IfErr, MatchOption};
 ghost use Rattle.std.specs.List.{position_or_len};
-ghost use Rattle.pc_lines.specs.Words.{number_of, signed_number_of, text_of, key_text_of};
+ghost use Rattle.pc_lines.specs.Words.{parsed_number, signed_number_of, word_text, key_text_of};
 ghost use Rattle.pc_lines.specs.Lines.{words_of, is_value, base_line, get_line, del_line, put_line, add_line, one_word, numbered_line, two_words, three_words, four_words, spelled_by, is_comment, spelled};
 
 use crate::key_words::{KeyText, key_text_of};
@@ -236,7 +236,7 @@ fn four_words(
 }
 
 fn put_words(alloc: Global, first: &[u8], second: &[u8], third: &[u8]) -> Result<Line, Refusal>
-    ensures line { IfOk result (λ line. line ≡ put_line (number_of first.now) (key_text_of second.now) (text_of third.now)) }
+    ensures line { IfOk result (λ line. line ≡ put_line (parsed_number first.now) (key_text_of second.now) (word_text third.now)) }
     ensures refusals { IfErr result (λ e. e ≡ Refusal.OutOfMemory) }
 {
     let key = key_text_of(alloc, second)?;
@@ -248,7 +248,7 @@ fn put_words(alloc: Global, first: &[u8], second: &[u8], third: &[u8]) -> Result
 }
 
 fn add_words(alloc: Global, first: &[u8], second: &[u8], third: &[u8]) -> Result<Line, Refusal>
-    ensures line { IfOk result (λ line. line ≡ add_line (number_of first.now) (key_text_of second.now) (signed_number_of third.now)) }
+    ensures line { IfOk result (λ line. line ≡ add_line (parsed_number first.now) (key_text_of second.now) (signed_number_of third.now)) }
     ensures refusals { IfErr result (λ e. e ≡ Refusal.OutOfMemory) }
 {
     let key = key_text_of(alloc, second)?;

@@ -4,14 +4,14 @@ ghost use Rattle.std.specs.List.{list_all};
 ghost use Rattle.std.specs.Cow.{cow_slice_items};
 ghost use Rattle.std.specs.Option.{option_map};
 ghost use Rattle.std.specs.Str.Parse.{digits_value};
-ghost use Rattle.pc_lines.specs.Words.{is_digit, is_numeral, is_long_numeral, number_of, signed_by, number_by, signed_number_of, is_plain, hex_value, escaped, unescaped, with_byte, text_of};
+ghost use Rattle.pc_lines.specs.Words.{is_digit, is_numeral, is_long_numeral, parsed_number, signed_by, parsed_long_number, signed_number_of, is_plain, hex_value, escaped, unescaped, with_byte, word_text};
 
 use std::alloc::{AllocError, Global};
 use std::borrow::CowSlice;
 
 /// The number that 1 to 9 decimal digits write; `None` for any other word.
 pub fn number(word: &[u8]) -> Option<u32>
-    ensures { result ≡ number_of word.now }
+    ensures { result ≡ parsed_number word.now }
 {
     if is_numeral(word) {
         Some(value(word) as u32)
@@ -33,7 +33,7 @@ pub fn signed_number(word: &[u8]) -> Option<i64>
 
 // The number that digits write, below 0 if there is a minus before them.
 fn number_by(minus: bool, digits: &[u8]) -> Option<i64>
-    ensures { result ≡ number_by minus digits.now }
+    ensures { result ≡ parsed_long_number minus digits.now }
 {
     if is_long_numeral(digits) {
         signed_by(minus, value(digits))
@@ -171,7 +171,7 @@ fn are_plain(word: &[u8]) -> bool
 /// 0x21 to 0x7E or any other use of the backslash. The text of a word without escapes is the word itself, borrowed, and takes no
 /// memory; otherwise it fails only if an allocation fails.
 pub fn text_of(alloc: Global, word: &[u8]) -> Result<Option<CowSlice<'_, u8>>, AllocError>
-    ensures { IfOk result (λ text. option_map cow_slice_items text ≡ text_of word.now) }
+    ensures { IfOk result (λ text. option_map cow_slice_items text ≡ word_text word.now) }
 {
     if word == b"-".as_slice() {
         return Ok(Some(CowSlice::Borrowed(&word[1..])));

@@ -3,7 +3,7 @@ use Rattle.std.proofs.Common.{◌≡◌, ◌≢◌, ℕ, zero, suc, inl, inr, Li
 use Rattle.std.proofs.lemmas.Bool.{cases_eq}
 use Rattle.std.specs.Prelude.{option_map, unwrap_or}
 use Rattle.pc_locks.specs.declared.node.Node.{Node}
-use Rattle.pc_locks.specs.Lines.{HasLink, link_at, next_in}
+use Rattle.pc_locks.specs.Lines.{HasLink, link_at, next_id}
 use Rattle.pc_locks.specs.Tables.{Nodes, node_at, placed}
 
 module _ {X : Type 0} where
@@ -46,10 +46,10 @@ module _ (f : Node → Option ℕ) (nodes : Nodes) (id : ℕ) (old new : Node) (
   pub link_other : (other : ℕ) → other ≢ id → link_at (map (option_map f) (slice_set nodes id (Some new))) other ≡ link_at (map (option_map f) nodes) other
   link_other other n = column_at f (slice_set nodes id (Some new)) other ∙ (ap (option_map f) (set_other nodes id other (Some new) n) ∙ sym (column_at f nodes other))
 
-  pub next_here : next_in (map (option_map f) (slice_set nodes id (Some new))) id ≡ f new
+  pub next_here : next_id (map (option_map f) (slice_set nodes id (Some new))) id ≡ f new
   next_here = ap (λ o. unwrap_or o None) link_here
 
-  pub next_other : (other : ℕ) → other ≢ id → next_in (map (option_map f) (slice_set nodes id (Some new))) other ≡ next_in (map (option_map f) nodes) other
+  pub next_other : (other : ℕ) → other ≢ id → next_id (map (option_map f) (slice_set nodes id (Some new))) other ≡ next_id (map (option_map f) nodes) other
   next_other other n = ap (λ o. unwrap_or o None) (link_other other n)
 
   pub link_stays : (other : ℕ) → HasLink (map (option_map f) nodes) other → HasLink (map (option_map f) (slice_set nodes id (Some new))) other

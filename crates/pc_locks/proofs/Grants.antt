@@ -9,8 +9,8 @@ use Rattle.std.proofs.lemmas.List.Folds.{list_all-append}
 use Rattle.pc_types.specs.declared.Request.{Request}
 use Rattle.pc_model.specs.Locks.{Queue, are_compatible, granted_behind, is_exclusive}
 use Rattle.pc_model.specs.Queues.{stands_in, AreOnce}
-use Rattle.pc_locks.specs.States.{is_listed, first_of}
-use Rattle.pc_locks.specs.Tables.{Nodes, Placed, node_at, request_of, request_at, place_of, requests}
+use Rattle.pc_locks.specs.States.{is_listed, first_in_list}
+use Rattle.pc_locks.specs.Tables.{Nodes, Placed, node_at, node_request, request_at, queue_place_of, requests}
 use Rattle.pc_locks.proofs.TableLemmas.{transaction_same, requests_same}
 use Rattle.pc_locks.proofs.RemovalLemmas.{member_stands, once_behind, back_listed}
 
@@ -61,16 +61,16 @@ once_before nodes (y ∷ ys) behind x o =
     let f : false ≡ true = sym o.0 ∙ member_stands nodes (ys ++ x ∷ behind) x (request_at nodes y).transaction (back_listed ys (x ∷ behind) x here) (sym same) in cc) in
     rw differs (once_before nodes ys behind x o.1)
 
-stands_same : (nodes new_nodes : Nodes) → ((id : ℕ) → place_of (node_at new_nodes id) ≡ place_of (node_at nodes id)) → (xs : List ℕ) (t : ℕ) → stands_in (requests new_nodes xs) t ≡ stands_in (requests nodes xs) t
+stands_same : (nodes new_nodes : Nodes) → ((id : ℕ) → queue_place_of (node_at new_nodes id) ≡ queue_place_of (node_at nodes id)) → (xs : List ℕ) (t : ℕ) → stands_in (requests new_nodes xs) t ≡ stands_in (requests nodes xs) t
 stands_same nodes new_nodes p [] t = refl
 stands_same nodes new_nodes p (x ∷ xs) t = rw (transaction_same nodes new_nodes x (p x), stands_same nodes new_nodes p xs t)
 
 -- writing a request
-pub written_is : (node : Option Placed) (q : Request) → is_some (place_of node) ≡ true → request_of (option_map (λ (n : Placed). record n { request = q }) node) ≡ q
+pub written_is : (node : Option Placed) (q : Request) → is_some (queue_place_of node) ≡ true → node_request (option_map (λ (n : Placed). record n { request = q }) node) ≡ q
 written_is None q e = absurd cc
 written_is (Some n) q e = refl
 
-pub place_written : (node : Option Placed) (q : Request) → q.transaction ≡ (request_of node).transaction → place_of (option_map (λ (n : Placed). record n { request = q }) node) ≡ place_of node
+pub place_written : (node : Option Placed) (q : Request) → q.transaction ≡ (node_request node).transaction → queue_place_of (option_map (λ (n : Placed). record n { request = q }) node) ≡ queue_place_of node
 place_written None q e = refl
 place_written (Some n) q e = ap (λ t. Some (n.slot, t)) e
 
@@ -79,17 +79,17 @@ pub record Granting (was nodes : Nodes) (ids : List ℕ) (is_first are_shared : 
   pub before : List ℕ
   pub behind : List ℕ
   pub split : ids ≡ before ++ behind
-  pub at_is : at ≡ first_of behind
+  pub at_is : at ≡ first_in_list behind
   pub counted : length before ≡ count
   pub to_be : requests nodes before ++ granted_behind (requests nodes before) (requests nodes behind) ≡ granted_behind [] (requests was ids)
   pub first_is : is_first ≡ is_nil before
   pub shared_is : are_shared ≡ all_shared (requests nodes before)
   pub once : AreOnce (requests was ids)
-  pub held : (id : ℕ) → is_listed ids id ≡ true → is_some (place_of (node_at was id)) ≡ true
-  pub places : (id : ℕ) → place_of (node_at nodes id) ≡ place_of (node_at was id)
+  pub held : (id : ℕ) → is_listed ids id ≡ true → is_some (queue_place_of (node_at was id)) ≡ true
+  pub places : (id : ℕ) → queue_place_of (node_at nodes id) ≡ queue_place_of (node_at was id)
   pub others : (id : ℕ) → is_listed ids id ≡ false → node_at nodes id ≡ node_at was id
 
-pub grant_start : (nodes : Nodes) (ids : List ℕ) (at : Option ℕ) → at ≡ first_of ids → AreOnce (requests nodes ids) → ((id : ℕ) → is_listed ids id ≡ true → is_some (place_of (node_at nodes id)) ≡ true) → Granting nodes nodes ids true true at 0
+pub grant_start : (nodes : Nodes) (ids : List ℕ) (at : Option ℕ) → at ≡ first_in_list ids → AreOnce (requests nodes ids) → ((id : ℕ) → is_listed ids id ≡ true → is_some (queue_place_of (node_at nodes id)) ≡ true) → Granting nodes nodes ids true true at 0
 grant_start nodes ids at e o h = record {
   before = [];
   behind = ids;
@@ -110,7 +110,7 @@ pub record Here (ids : List ℕ) (before : List ℕ) (behind : List ℕ) (id : �
   pub behind_is : behind ≡ id ∷ rest
   pub split : ids ≡ before ++ id ∷ rest
 
-here : (ids before behind : List ℕ) (at : Option ℕ) (id : ℕ) → ids ≡ before ++ behind → at ≡ first_of behind → at ≡ Some id → Here ids before behind id
+here : (ids before behind : List ℕ) (at : Option ℕ) (id : ℕ) → ids ≡ before ++ behind → at ≡ first_in_list behind → at ≡ Some id → Here ids before behind id
 here ids before [] at id s e f = absurd (let g : None ≡ Some id = sym e ∙ f in cc)
 here ids before (x ∷ xs) at id s e f =
     let g : Some x ≡ Some id = sym e ∙ f in
@@ -149,14 +149,14 @@ grant_stop was nodes ids is_first are_shared at count id g e f s =
 pub grant_end : (was nodes : Nodes) (ids : List ℕ) (is_first are_shared : Bool) (at : Option ℕ) (count : ℕ) → Granting was nodes ids is_first are_shared at count → at ≡ None → requests nodes ids ≡ granted_behind [] (requests was ids)
 grant_end was nodes ids is_first are_shared at count g e = by g.behind g.split (sym g.at_is ∙ e) g.to_be
   where
-    by : (behind : List ℕ) → ids ≡ g.before ++ behind → first_of behind ≡ None → requests nodes g.before ++ granted_behind (requests nodes g.before) (requests nodes behind) ≡ granted_behind [] (requests was ids) → requests nodes ids ≡ granted_behind [] (requests was ids)
+    by : (behind : List ℕ) → ids ≡ g.before ++ behind → first_in_list behind ≡ None → requests nodes g.before ++ granted_behind (requests nodes g.before) (requests nodes behind) ≡ granted_behind [] (requests was ids) → requests nodes ids ≡ granted_behind [] (requests was ids)
     by [] s f t = ap (requests nodes) (s ∙ append-nil g.before) ∙ (sym (append-nil (requests nodes g.before)) ∙ t)
     by (x ∷ xs) s f t = absurd cc
 
 pub grant_all : (was nodes : Nodes) (ids : List ℕ) (is_first are_shared : Bool) (at : Option ℕ) (count : ℕ) → Granting was nodes ids is_first are_shared at count → length ids ≤ count → at ≡ None
 grant_all was nodes ids is_first are_shared at count g h = by g.behind (ap length g.split ∙ length-append g.before g.behind) g.at_is
   where
-    by : (behind : List ℕ) → length ids ≡ length g.before + length behind → at ≡ first_of behind → at ≡ None
+    by : (behind : List ℕ) → length ids ≡ length g.before + length behind → at ≡ first_in_list behind → at ≡ None
     by [] s f = f
     by (x ∷ xs) s f = absurd (omega (arith, s, h, g.counted))
 
@@ -164,7 +164,7 @@ module _ (was nodes new_nodes : Nodes) (ids : List ℕ) (is_first are_shared : B
     (fit : (is_first || (are_shared && not (is_exclusive (request_at nodes id).mode))) ≡ true)
     (written : node_at new_nodes id ≡ option_map (λ (n : Placed). record n { request = record (request_at nodes id) { granted = true } }) (node_at nodes id))
     (stay : (other : ℕ) → other ≢ id → node_at new_nodes other ≡ node_at nodes other)
-    (next : (before rest : List ℕ) → ids ≡ before ++ id ∷ rest → new_at ≡ first_of rest) where
+    (next : (before rest : List ℕ) → ids ≡ before ++ id ∷ rest → new_at ≡ first_in_list rest) where
   at_it : Here ids g.before g.behind id
   at_it = grant_here was nodes ids is_first are_shared at count id g e
 
@@ -181,7 +181,7 @@ module _ (was nodes new_nodes : Nodes) (ids : List ℕ) (is_first are_shared : B
   not_behind f = let z : false ≡ true = sym (once_behind was g.before at_it.rest id once_it) ∙ member_stands was at_it.rest id (request_at was id).transaction f refl in cc
 
   granted_it : request_at new_nodes id ≡ record (request_at nodes id) { granted = true }
-  granted_it = ap request_of written ∙ written_is (node_at nodes id) (record (request_at nodes id) { granted = true }) (ap is_some (g.places id) ∙ g.held id listed_it)
+  granted_it = ap node_request written ∙ written_is (node_at nodes id) (record (request_at nodes id) { granted = true }) (ap is_some (g.places id) ∙ g.held id listed_it)
 
   before_now : requests new_nodes (g.before ++ id ∷ []) ≡ requests nodes g.before ++ record (request_at nodes id) { granted = true } ∷ []
   before_now =
@@ -194,10 +194,10 @@ module _ (was nodes new_nodes : Nodes) (ids : List ℕ) (is_first are_shared : B
   fit_it : list_all (are_compatible (request_at nodes id)) (requests nodes g.before) ≡ true
   fit_it = fits_here was nodes ids is_first are_shared at count id g at_it ∙ fit
 
-  place_now : (x : ℕ) → place_of (node_at new_nodes x) ≡ place_of (node_at nodes x)
+  place_now : (x : ℕ) → queue_place_of (node_at new_nodes x) ≡ queue_place_of (node_at nodes x)
   place_now x = elim (cases_eq x id) [
-    | inl c ↦ ap (λ y. place_of (node_at new_nodes y)) c ∙ (ap place_of written ∙ (place_written (node_at nodes id) (record (request_at nodes id) { granted = true }) refl ∙ ap (λ y. place_of (node_at nodes y)) (sym c)))
-    | inr n ↦ ap place_of (stay x n)
+    | inl c ↦ ap (λ y. queue_place_of (node_at new_nodes y)) c ∙ (ap queue_place_of written ∙ (place_written (node_at nodes id) (record (request_at nodes id) { granted = true }) refl ∙ ap (λ y. queue_place_of (node_at nodes y)) (sym c)))
+    | inr n ↦ ap queue_place_of (stay x n)
   ]
 
   nil_end : (xs : List ℕ) (x : ℕ) → false ≡ is_nil (xs ++ x ∷ [])
@@ -229,7 +229,7 @@ module _ (was nodes new_nodes : Nodes) (ids : List ℕ) (is_first are_shared : B
 pub grant_step : (was nodes new_nodes : Nodes) (ids : List ℕ) (is_first are_shared shared : Bool) (at new_at : Option ℕ) (count id : ℕ) (r : Request) → Granting was nodes ids is_first are_shared at count → at ≡ Some id →
     r ≡ request_at nodes id → shared ≡ (are_shared && not (is_exclusive r.mode)) → (is_first || shared) ≡ true →
     node_at new_nodes id ≡ option_map (λ (n : Placed). record n { request = record r { granted = true } }) (node_at nodes id) →
-    ((other : ℕ) → other ≢ id → node_at new_nodes other ≡ node_at nodes other) → ((before rest : List ℕ) → ids ≡ before ++ id ∷ rest → new_at ≡ first_of rest) → Granting was new_nodes ids false shared new_at (count + 1)
+    ((other : ℕ) → other ≢ id → node_at new_nodes other ≡ node_at nodes other) → ((before rest : List ℕ) → ids ≡ before ++ id ∷ rest → new_at ≡ first_in_list rest) → Granting was new_nodes ids false shared new_at (count + 1)
 grant_step was nodes new_nodes ids is_first are_shared shared at new_at count id r g e same s f w o n =
     let all : shared ≡ (are_shared && not (is_exclusive (request_at nodes id).mode)) = s ∙ ap (λ (x : Request). are_shared && not (is_exclusive x.mode)) same in
     subst (λ b. Granting was new_nodes ids false b new_at (count + 1)) (sym all)

@@ -4,7 +4,7 @@ use Rattle.std.proofs.lemmas.Bool.{false_from_ne_true}
 use Rattle.pc_chain.specs.declared.chain.Chain.{Chain}
 use Rattle.pc_locks.specs.Lines.{Links, link_at, ids_by, AreLines, LineBecomes}
 use Rattle.pc_locks.specs.States.{slots_of, is_listed, AreFilled}
-use Rattle.pc_locks.specs.Changes.{IsAdded}
+use Rattle.pc_locks.specs.Changes.{IsRequestAdded}
 use Rattle.pc_locks.specs.Tables.{Nodes, Placed, node_at, links_in, IsTable}
 use Rattle.pc_locks.specs.Keepers.{KeptRequests, AreTied}
 use Rattle.pc_locks.proofs.LineLemmas.{LinesStay, lines_stay}
@@ -20,7 +20,7 @@ table_alike nodes ids new_ids entries e a = record {
 }
 
 -- a request was added, and then its id is linked to the end of its slot's queue
-module _ (old added : KeptRequests) (request : Placed) (id : ℕ) (a : IsAdded old added request id) (ends : ℕ → Chain ℕ) (t : AreTied ends old) where
+module _ (old added : KeptRequests) (request : Placed) (id : ℕ) (a : IsRequestAdded old added request id) (ends : ℕ → Chain ℕ) (t : AreTied ends old) where
   unqueued : (u : ℕ) → is_listed (ids_by (links_in old.nodes.slots) ends u) id ≡ false
   unqueued u = false_from_ne_true (is_listed (ids_by (links_in old.nodes.slots) ends u) id) (λ e. vacant_queue old.nodes.slots (ids_by (links_in old.nodes.slots) ends) old.entries id t.table a.was_free u e)
 

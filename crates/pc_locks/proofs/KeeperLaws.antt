@@ -5,8 +5,8 @@ use Rattle.pc_chain.specs.declared.chain.Chain.{Chain}
 use Rattle.pc_chain.specs.Chains.{IsEmpty}
 use Rattle.pc_model.specs.Locks.{request_in, is_ungranted}
 use Rattle.pc_model.specs.Queues.{stands_in, IsSettled}
-use Rattle.pc_locks.specs.Lines.{follow, ids_of, ids_by, IsLine, IsQueue, AreLines}
-use Rattle.pc_locks.specs.States.{State, queue_at, slots_of, is_listed, is_waiting, AreAlike}
+use Rattle.pc_locks.specs.Lines.{linked_ids, ids_of, ids_by, IsLine, IsQueue, AreLines}
+use Rattle.pc_locks.specs.States.{State, queue_at, slots_of, is_listed, is_waiting_in_state, AreAlike}
 use Rattle.pc_locks.specs.Tables.{Nodes, links_in, requests}
 use Rattle.pc_locks.specs.Keepers.{KeptRequests, queues_of, lists_of, state_of, AreEnds, AreLocksSound, DifferWhereNone}
 use Rattle.pc_locks.proofs.StateLaws.{linked_alike}
@@ -33,14 +33,14 @@ module _ (ends new_ends : ℕ → Chain ℕ) (kept : KeptRequests) (d : DifferWh
   ids_stay : (slot : ℕ) → ids_by (links_in kept.nodes.slots) new_ends slot ≡ ids_by (links_in kept.nodes.slots) ends slot
   ids_stay slot = elim (d slot) [
     | inl e ↦ ap (ids_of (links_in kept.nodes.slots)) e
-    | inr p ↦ ap (follow (links_in kept.nodes.slots) (length (links_in kept.nodes.slots))) p.1.0 ∙ sym (no_ids kept.nodes.slots (ids_by (links_in kept.nodes.slots) ends slot) p.0)
+    | inr p ↦ ap (linked_ids (links_in kept.nodes.slots) (length (links_in kept.nodes.slots))) p.1.0 ∙ sym (no_ids kept.nodes.slots (ids_by (links_in kept.nodes.slots) ends slot) p.0)
   ]
 
   lines_stay : AreLines (links_in kept.nodes.slots) ends → AreLines (links_in kept.nodes.slots) new_ends
   lines_stay a = record {
     line = λ k. elim (d k) [
       | inl e ↦ subst (IsQueue (links_in kept.nodes.slots)) (sym e) (a.line k)
-      | inr p ↦ subst (IsLine (links_in kept.nodes.slots) (new_ends k)) (sym (ap (follow (links_in kept.nodes.slots) (length (links_in kept.nodes.slots))) p.1.0)) (record { first = p.1.0; last = p.1.1; leads = tt; held = tt })
+      | inr p ↦ subst (IsLine (links_in kept.nodes.slots) (new_ends k)) (sym (ap (linked_ids (links_in kept.nodes.slots) (length (links_in kept.nodes.slots))) p.1.0)) (record { first = p.1.0; last = p.1.1; leads = tt; held = tt })
     ];
     apart = λ j k id e f. a.apart j k id (ap (λ xs. is_listed xs id) (sym (ids_stay j)) ∙ e) (ap (λ xs. is_listed xs id) (sym (ids_stay k)) ∙ f);
   }
@@ -71,7 +71,7 @@ any_same p q [] f = refl
 any_same p q (x ∷ xs) f = rw (f x, any_same p q xs f)
 
 -- the view determines who waits
-pub waits_alike : (a b : State) (t : ℕ) → AreAlike a b → is_waiting a t ≡ is_waiting b t
+pub waits_alike : (a b : State) (t : ℕ) → AreAlike a b → is_waiting_in_state a t ≡ is_waiting_in_state b t
 waits_alike a b t e =
     any_same (λ s. is_ungranted (request_in (queue_at a.queues s) t)) (λ s. is_ungranted (request_in (queue_at b.queues s) t)) (slots_of a.lists t) (λ s. ap (λ q. is_ungranted (request_in q t)) (e.queues s))
     ∙ ap (λ l. list_any (λ s. is_ungranted (request_in (queue_at b.queues s) t)) (slots_of l t)) e.lists

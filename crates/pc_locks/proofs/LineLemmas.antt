@@ -7,8 +7,8 @@ use Rattle.pc_chain.specs.declared.chain.Chain.{Chain}
 use Rattle.pc_chain.specs.Chains as chains
 use Rattle.pc_chain.specs.Chains.{IsChain, Leads, AllHave, Avoids, AreDisjoint}
 use Rattle.pc_chain.proofs.ChainLaws.{chain_fits}
-use Rattle.pc_locks.specs.Lines.{Links, HasLink, link_at, next_in, follow, ids_of, IsLine, AreLines, LineBecomes}
-use Rattle.pc_locks.specs.States.{is_listed, first_of, rest_of, last_of}
+use Rattle.pc_locks.specs.Lines.{Links, HasLink, link_at, next_id, linked_ids, ids_of, IsLine, AreLines, LineBecomes}
+use Rattle.pc_locks.specs.States.{is_listed, first_in_list, rest_of_list, last_in_list}
 
 -- an id that has a link
 within : (links : Links) (id : ℕ) → HasLink links id → id < length links
@@ -17,16 +17,16 @@ within (x ∷ xs) zero h = omega arith
 within (x ∷ xs) (suc id) h = let n = within xs id h in omega (arith, n)
 
 pub fits : (links : Links) (chain : Chain ℕ) (xs : List ℕ) → IsLine links chain xs → length xs ≤ length links
-fits links chain xs c = chain_fits (HasLink links) (next_in links) chain xs (length links) (λ id h. within links id h) c
+fits links chain xs c = chain_fits (HasLink links) (next_id links) chain xs (length links) (λ id h. within links id h) c
 
-follow_is : (links : Links) (n : ℕ) (xs : List ℕ) → Leads (next_in links) xs → length xs ≤ n → follow links n (chains.first_of xs) ≡ xs
+follow_is : (links : Links) (n : ℕ) (xs : List ℕ) → Leads (next_id links) xs → length xs ≤ n → linked_ids links n (chains.first_of xs) ≡ xs
 follow_is links n [] l h = refl
 follow_is links zero (x ∷ xs) l h = absurd (omega (arith, h))
-follow_is links (suc n) (x ∷ xs) l h = ap (λ ys. x ∷ ys) (ap (follow links n) l.0 ∙ follow_is links n xs l.2 (omega (arith, h)))
+follow_is links (suc n) (x ∷ xs) l h = ap (λ ys. x ∷ ys) (ap (linked_ids links n) l.0 ∙ follow_is links n xs l.2 (omega (arith, h)))
 
 -- over its links a chain is one list
 pub line_is : (links : Links) (chain : Chain ℕ) (xs : List ℕ) → IsLine links chain xs → ids_of links chain ≡ xs
-line_is links chain xs c = ap (follow links (length links)) c.first ∙ follow_is links (length links) xs c.leads (fits links chain xs c)
+line_is links chain xs c = ap (linked_ids links (length links)) c.first ∙ follow_is links (length links) xs c.leads (fits links chain xs c)
 
 -- what is in none of the list
 pub avoids_unlisted : (id : ℕ) (xs : List ℕ) → is_listed xs id ≡ false → Avoids id xs
@@ -111,20 +111,20 @@ become_fewer links new_links lines new_lines k new a f l o same =
     (o (ids_of links (lines j)) (lines j) (a.line j) (apart_lists (ids_of links (lines k)) (ids_of links (lines j)) (λ x e. others_lack links lines j k x a n e))))
     (λ x j n e. others_lack links lines k j x a (λ h. n (sym h)) (f x e))
 
-pub rest_listed : (xs : List ℕ) (id : ℕ) → is_listed (rest_of xs) id ≡ true → is_listed xs id ≡ true
+pub rest_listed : (xs : List ℕ) (id : ℕ) → is_listed (rest_of_list xs) id ≡ true → is_listed xs id ≡ true
 rest_listed [] id e = e
 rest_listed (x ∷ xs) id e = or_right (x == id) (is_listed xs id) e
 
 -- the words of the two crates are the same
-pub same_first : (xs : List ℕ) → chains.first_of xs ≡ first_of xs
+pub same_first : (xs : List ℕ) → chains.first_of xs ≡ first_in_list xs
 same_first [] = refl
 same_first (x ∷ xs) = refl
 
-pub same_rest : (xs : List ℕ) → chains.rest_of xs ≡ rest_of xs
+pub same_rest : (xs : List ℕ) → chains.rest_of xs ≡ rest_of_list xs
 same_rest [] = refl
 same_rest (x ∷ xs) = refl
 
-pub same_last : (xs : List ℕ) → chains.last_of xs ≡ last_of xs
+pub same_last : (xs : List ℕ) → chains.last_of xs ≡ last_in_list xs
 same_last [] = refl
 same_last (x ∷ []) = refl
 same_last (x ∷ y ∷ ys) = same_last (y ∷ ys)
@@ -150,7 +150,7 @@ line_on : (links new_links : Links) (chain : Chain ℕ) (xs : List ℕ) → ((id
 line_on links new_links chain xs f c = record {
   first = c.first;
   last = c.last;
-  leads = leads_on (next_in links) (next_in new_links) xs (λ id e. ap (λ o. unwrap_or o None) (f id e)) c.leads;
+  leads = leads_on (next_id links) (next_id new_links) xs (λ id e. ap (λ o. unwrap_or o None) (f id e)) c.leads;
   held = have_on (HasLink links) (HasLink new_links) xs (λ id e h. ap is_some (f id e) ∙ h) c.held;
 }
 
@@ -180,6 +180,6 @@ linkless links lines k id a e = false_from_ne_true (is_listed (ids_of links (lin
 -- if no id is in any
 pub lines_none : (links : Links) (lines : ℕ → Chain ℕ) → ((k : ℕ) → (lines k).first ≡ None) → ((k : ℕ) → (lines k).last ≡ None) → AreLines links lines
 lines_none links lines f l = record {
-  line = λ k. subst (IsLine links (lines k)) (sym (ap (follow links (length links)) (f k))) (record { first = f k; last = l k; leads = tt; held = tt });
-  apart = λ j k id e g. absurd (let h : false ≡ true = sym (ap (λ o. is_listed (follow links (length links) o) id) (f j)) ∙ e in cc);
+  line = λ k. subst (IsLine links (lines k)) (sym (ap (linked_ids links (length links)) (f k))) (record { first = f k; last = l k; leads = tt; held = tt });
+  apart = λ j k id e g. absurd (let h : false ≡ true = sym (ap (λ o. is_listed (linked_ids links (length links) o) id) (f j)) ∙ e in cc);
 }

@@ -9,7 +9,7 @@ use Rattle.pc_chain.specs.declared.chain.Chain.{Chain}
 use Rattle.pc_chain.specs.Chains as chains
 use Rattle.pc_chain.specs.Chains.{Avoids, AreDisjoint}
 use Rattle.pc_locks.specs.Lines.{Links, link_at, ids_of, IsLine, AreLines, AreIdLists, LineBecomes, ends_at, no_chain, entry_ids}
-use Rattle.pc_locks.specs.States.{slots_of, is_listed, first_of, rest_of, last_of}
+use Rattle.pc_locks.specs.States.{slots_of, is_listed, first_in_list, rest_of_list, last_in_list}
 use Rattle.pc_locks.specs.declared.node.Node.{Node}
 use Rattle.pc_locks.specs.Tables.{Nodes, own_links_in}
 use Rattle.pc_locks.proofs.Columns.{link_kept, link_of}
@@ -38,16 +38,16 @@ pub chain_line : (links : Links) (entries : List (ℕ × Chain ℕ)) (t : ℕ) (
 chain_line links entries t ends a e =
     subst (IsLine links ends) (sym (found_ids links entries t)) (subst (λ x. IsLine links x (ids_of links (ends_at entries t))) (sym e) (a.line t))
 
-pub lists_last : (links : Links) (entries : List (ℕ × Chain ℕ)) (t : ℕ) (ends : Chain ℕ) → AreIdLists links entries → ends ≡ ends_at entries t → ends.last ≡ last_of (slots_of (entry_ids links entries) t)
+pub lists_last : (links : Links) (entries : List (ℕ × Chain ℕ)) (t : ℕ) (ends : Chain ℕ) → AreIdLists links entries → ends ≡ ends_at entries t → ends.last ≡ last_in_list (slots_of (entry_ids links entries) t)
 lists_last links entries t ends a e = (chain_line links entries t ends a.lines e).last ∙ same_last (slots_of (entry_ids links entries) t)
 
 pub lists_first : (links : Links) (entries : List (ℕ × Chain ℕ)) (t : ℕ) (ends : Chain ℕ) (id : Option ℕ) → AreIdLists links entries → ends ≡ ends_at entries t → ((xs : List ℕ) → IsLine links ends xs → id ≡ chains.first_of xs) →
-    id ≡ first_of (slots_of (entry_ids links entries) t)
+    id ≡ first_in_list (slots_of (entry_ids links entries) t)
 lists_first links entries t ends id a e f = f (slots_of (entry_ids links entries) t) (chain_line links entries t ends a.lines e) ∙ same_first (slots_of (entry_ids links entries) t)
 
 -- the entries of all others have ids
 abbrev pub AreFilledBeside : Links → List (ℕ × Chain ℕ) → ℕ → Type 0
-AreFilledBeside links entries t = (u : ℕ) → u ≢ t → is_some (lookup (is_at (nat_cmp u)) entries) ≡ true → is_some (first_of (slots_of (entry_ids links entries) u)) ≡ true
+AreFilledBeside links entries t = (u : ℕ) → u ≢ t → is_some (lookup (is_at (nat_cmp u)) entries) ≡ true → is_some (first_in_list (slots_of (entry_ids links entries) u)) ≡ true
 
 filled_beside : (links : Links) (entries : List (ℕ × Chain ℕ)) (t : ℕ) → AreIdLists links entries → AreFilledBeside links entries t
 filled_beside links entries t a = λ u n k. a.filled u (found_known links entries u ∙ k)
@@ -59,7 +59,7 @@ pub record Changed (links new_links : Links) (entries new_entries : List (ℕ ×
   pub others : (u : ℕ) → u ≢ t → slots_of (entry_ids new_links new_entries) u ≡ slots_of (entry_ids links entries) u
 
 changed : (links new_links : Links) (entries new_entries : List (ℕ × Chain ℕ)) (t : ℕ) (new : List ℕ) → AreFilledBeside links entries t →
-    LineBecomes links new_links (ends_at entries) (ends_at new_entries) t new → (is_some (lookup (is_at (nat_cmp t)) new_entries) ≡ true → is_some (first_of new) ≡ true) →
+    LineBecomes links new_links (ends_at entries) (ends_at new_entries) t new → (is_some (lookup (is_at (nat_cmp t)) new_entries) ≡ true → is_some (first_in_list new) ≡ true) →
     ((u : ℕ) → u ≢ t → lookup (is_at (nat_cmp u)) new_entries ≡ lookup (is_at (nat_cmp u)) entries) → Changed links new_links entries new_entries t new
 changed links new_links entries new_entries t new g b f o =
     let this : slots_of (entry_ids new_links new_entries) t ≡ new = found_ids new_links new_entries t ∙ b.this in
@@ -70,16 +70,16 @@ changed links new_links entries new_entries t new g b f o =
         filled = λ u k.
             let known = sym (found_known new_links new_entries u) ∙ k in
             elim (cases_eq u t) [
-              | inl p ↦ subst (λ x. is_some (first_of (slots_of (entry_ids new_links new_entries) x)) ≡ true) (sym p)
-                  (ap (λ xs. is_some (first_of xs)) this ∙ f (subst (λ x. is_some (lookup (is_at (nat_cmp x)) new_entries) ≡ true) p known))
-              | inr n ↦ ap (λ xs. is_some (first_of xs)) (others u n) ∙ g u n (ap is_some (sym (o u n)) ∙ known)
+              | inl p ↦ subst (λ x. is_some (first_in_list (slots_of (entry_ids new_links new_entries) x)) ≡ true) (sym p)
+                  (ap (λ xs. is_some (first_in_list xs)) this ∙ f (subst (λ x. is_some (lookup (is_at (nat_cmp x)) new_entries) ≡ true) p known))
+              | inr n ↦ ap (λ xs. is_some (first_in_list xs)) (others u n) ∙ g u n (ap is_some (sym (o u n)) ∙ known)
             ];
       };
       this = this;
       others = others;
     }
 
-some_end : (xs : List ℕ) (id : ℕ) → is_some (first_of (xs ++ id ∷ [])) ≡ true
+some_end : (xs : List ℕ) (id : ℕ) → is_some (first_in_list (xs ++ id ∷ [])) ≡ true
 some_end [] id = refl
 some_end (x ∷ xs) id = refl
 
@@ -101,7 +101,7 @@ grown links new_links entries new_entries t f s o a =
         apart = λ j k id e g. stay.kept.apart j k id (sym (ap (λ x. is_listed (ids_of new_links x) id) (s j)) ∙ e) (sym (ap (λ x. is_listed (ids_of new_links x) id) (s k)) ∙ g);
       };
       slots = slots;
-      beside = λ u n k. ap (λ xs. is_some (first_of xs)) (slots u) ∙ filled_beside links entries t a u n (ap is_some (sym (o u n)) ∙ k);
+      beside = λ u n k. ap (λ xs. is_some (first_in_list xs)) (slots u) ∙ filled_beside links entries t a u n (ap is_some (sym (o u n)) ∙ k);
     }
 
 pub changed_push : (links grown_links new_links : Links) (entries grown_entries new_entries : List (ℕ × Chain ℕ)) (t id : ℕ) (ends new_ends : Chain ℕ) → Grown links grown_links entries grown_entries t → ends ≡ ends_at grown_entries t →
@@ -125,20 +125,20 @@ changed_push links grown_links new_links entries grown_entries new_entries t id 
       others = λ u n. c.others u n ∙ g.slots u;
     }
 
-none_left : (xs : List ℕ) → is_some (first_of xs) ≡ false → xs ≡ []
+none_left : (xs : List ℕ) → is_some (first_in_list xs) ≡ false → xs ≡ []
 none_left [] e = refl
 none_left (x ∷ xs) e = absurd cc
 
-changed_rest : (links : Links) (entries new_entries : List (ℕ × Chain ℕ)) (t : ℕ) (ends : Chain ℕ) → AreIdLists links entries → IsLine links ends (rest_of (ids_of links (ends_at entries t))) →
-    ends_at new_entries t ≡ ends → (is_some (lookup (is_at (nat_cmp t)) new_entries) ≡ true → is_some (first_of (rest_of (ids_of links (ends_at entries t)))) ≡ true) →
+changed_rest : (links : Links) (entries new_entries : List (ℕ × Chain ℕ)) (t : ℕ) (ends : Chain ℕ) → AreIdLists links entries → IsLine links ends (rest_of_list (ids_of links (ends_at entries t))) →
+    ends_at new_entries t ≡ ends → (is_some (lookup (is_at (nat_cmp t)) new_entries) ≡ true → is_some (first_in_list (rest_of_list (ids_of links (ends_at entries t)))) ≡ true) →
     ((u : ℕ) → u ≢ t → lookup (is_at (nat_cmp u)) new_entries ≡ lookup (is_at (nat_cmp u)) entries) →
-    Changed links links entries new_entries t (rest_of (slots_of (entry_ids links entries) t))
+    Changed links links entries new_entries t (rest_of_list (slots_of (entry_ids links entries) t))
 changed_rest links entries new_entries t ends a line this fill others =
     let xs = ids_of links (ends_at entries t) in
-    subst (λ ys. Changed links links entries new_entries t (rest_of ys)) (sym (found_ids links entries t))
-    (changed links links entries new_entries t (rest_of xs) (filled_beside links entries t a)
-    (become_fewer links links (ends_at entries) (ends_at new_entries) t (rest_of xs) a.lines (λ id e. rest_listed xs id e)
-    (subst (λ x. IsLine links x (rest_of xs)) (sym this) line) (λ ys other c p. c) (λ u n. ap (λ (x : Option (Chain ℕ)). unwrap_or x no_chain) (others u n)))
+    subst (λ ys. Changed links links entries new_entries t (rest_of_list ys)) (sym (found_ids links entries t))
+    (changed links links entries new_entries t (rest_of_list xs) (filled_beside links entries t a)
+    (become_fewer links links (ends_at entries) (ends_at new_entries) t (rest_of_list xs) a.lines (λ id e. rest_listed xs id e)
+    (subst (λ x. IsLine links x (rest_of_list xs)) (sym this) line) (λ ys other c p. c) (λ u n. ap (λ (x : Option (Chain ℕ)). unwrap_or x no_chain) (others u n)))
     fill others)
 
 -- the chain without its first
@@ -146,23 +146,23 @@ module _ (links : Links) (entries new_entries : List (ℕ × Chain ℕ)) (t : �
     (l : (xs : List ℕ) → IsLine links ends xs → IsLine links new_ends (chains.rest_of xs)) (f : (xs : List ℕ) → IsLine links new_ends xs → first ≡ chains.first_of xs)
     (others : (u : ℕ) → u ≢ t → lookup (is_at (nat_cmp u)) new_entries ≡ lookup (is_at (nat_cmp u)) entries) where
   rest : List ℕ
-  rest = rest_of (ids_of links (ends_at entries t))
+  rest = rest_of_list (ids_of links (ends_at entries t))
 
-  new_line : IsLine links new_ends (rest_of (ids_of links (ends_at entries t)))
+  new_line : IsLine links new_ends (rest_of_list (ids_of links (ends_at entries t)))
   new_line =
       subst (IsLine links new_ends) (same_rest (ids_of links (ends_at entries t))) (l (ids_of links (ends_at entries t)) (subst (λ x. IsLine links x (ids_of links (ends_at entries t))) (sym e) (a.lines.line t)))
 
-  first_left : is_some (first_of (rest_of (ids_of links (ends_at entries t)))) ≡ is_some first
-  first_left = ap is_some (sym (f (rest_of (ids_of links (ends_at entries t))) new_line ∙ same_first (rest_of (ids_of links (ends_at entries t)))))
+  first_left : is_some (first_in_list (rest_of_list (ids_of links (ends_at entries t)))) ≡ is_some first
+  first_left = ap is_some (sym (f (rest_of_list (ids_of links (ends_at entries t))) new_line ∙ same_first (rest_of_list (ids_of links (ends_at entries t)))))
 
   -- if some are left
-  pub changed_pop : is_some first ≡ true → ends_at new_entries t ≡ new_ends → Changed links links entries new_entries t (rest_of (slots_of (entry_ids links entries) t))
+  pub changed_pop : is_some first ≡ true → ends_at new_entries t ≡ new_ends → Changed links links entries new_entries t (rest_of_list (slots_of (entry_ids links entries) t))
   changed_pop s this = changed_rest links entries new_entries t new_ends a new_line this (λ k. first_left ∙ s) others
 
   -- and if none is
-  pub changed_away : is_some first ≡ false → lookup (is_at (nat_cmp t)) new_entries ≡ None → Changed links links entries new_entries t (rest_of (slots_of (entry_ids links entries) t))
+  pub changed_away : is_some first ≡ false → lookup (is_at (nat_cmp t)) new_entries ≡ None → Changed links links entries new_entries t (rest_of_list (slots_of (entry_ids links entries) t))
   changed_away s this =
-      let none : rest_of (ids_of links (ends_at entries t)) ≡ [] = none_left (rest_of (ids_of links (ends_at entries t))) (first_left ∙ s) in
+      let none : rest_of_list (ids_of links (ends_at entries t)) ≡ [] = none_left (rest_of_list (ids_of links (ends_at entries t))) (first_left ∙ s) in
       changed_rest links entries new_entries t no_chain a (subst (IsLine links no_chain) (sym none) (record { first = refl; last = refl; leads = tt; held = tt })) (ap (λ (x : Option (Chain ℕ)). unwrap_or x no_chain) this)
       (λ k. absurd (let z : false ≡ true = ap is_some (sym this) ∙ k in cc)) others
 
@@ -170,7 +170,7 @@ pub lists_new : (links : Links) (entries : List (ℕ × Chain ℕ)) → entries 
 lists_new links entries e = subst (AreIdLists links) (sym e) (record { lines = lines_none links (λ t. no_chain) (λ k. refl) (λ k. refl); filled = λ t k. absurd (let z : false ≡ true = k in cc) })
 
 -- what a first id tells of the rest
-pub given_none : (xs : List ℕ) → None ≡ first_of xs → xs ≡ rest_of xs
+pub given_none : (xs : List ℕ) → None ≡ first_in_list xs → xs ≡ rest_of_list xs
 given_none [] e = refl
 given_none (x ∷ xs) e = absurd cc
 
@@ -190,7 +190,7 @@ lists_stay links new_links entries f a =
     record {
       lists = record {
         lines = stay.kept;
-        filled = λ t k. ap (λ xs. is_some (first_of xs)) (slots t) ∙ a.filled t (found_known links entries t ∙ (sym (found_known new_links entries t) ∙ k));
+        filled = λ t k. ap (λ xs. is_some (first_in_list xs)) (slots t) ∙ a.filled t (found_known links entries t ∙ (sym (found_known new_links entries t) ∙ k));
       };
       slots = slots;
     }

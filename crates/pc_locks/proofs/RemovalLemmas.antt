@@ -8,13 +8,13 @@ use Rattle.std.proofs.lemmas.List.Folds.{list_any-append}
 use Rattle.pc_types.specs.declared.Request.{Request}
 use Rattle.pc_model.specs.Locks.{Queue}
 use Rattle.pc_model.specs.Queues.{stands_in, AreOnce}
-use Rattle.pc_locks.specs.States.{slots_of, queue_at, is_listed, first_of, rest_of, SetsAt, AreDifferent, AreFilled}
-use Rattle.pc_locks.specs.Tables.{Nodes, node_at, request_at, slot_at, place_of, requests, slots, queues_in, lists_in, IsTable, IsUnlinked}
+use Rattle.pc_locks.specs.States.{slots_of, queue_at, is_listed, first_in_list, rest_of_list, SetsAt, AreDifferent, AreFilled}
+use Rattle.pc_locks.specs.Tables.{Nodes, node_at, request_at, slot_at, queue_place_of, requests, slots, node_queues, lists_in, IsTable, IsUnlinked}
 use Rattle.pc_locks.proofs.LineLemmas.{rest_listed}
 use Rattle.pc_locks.proofs.SlotLaws.{sets_cases}
 use Rattle.pc_locks.proofs.TableLemmas.{pair_first, pair_second, found_slots, slot_placed, transaction_placed, requests_same, slots_agree}
 
-pub split_first : (xs : List ℕ) (x : ℕ) → Some x ≡ first_of xs → xs ≡ x ∷ rest_of xs
+pub split_first : (xs : List ℕ) (x : ℕ) → Some x ≡ first_in_list xs → xs ≡ x ∷ rest_of_list xs
 split_first [] x e = absurd cc
 split_first (y ∷ ys) x e = let f : x ≡ y = cc in ap (λ z. z ∷ ys) (sym f)
 
@@ -76,27 +76,27 @@ filter_one (x ∷ xs) behind r t e f g = by (x.transaction == t) e (λ h. filter
 
 -- the transaction's first request
 pub record First (nodes : Nodes) (ids : ℕ → List ℕ) (entries : List (ℕ × List ℕ)) (s t id : ℕ) : Type 0 where
-  pub place : place_of (node_at nodes id) ≡ Some (s, t)
+  pub place : queue_place_of (node_at nodes id) ≡ Some (s, t)
   pub listed : is_listed (slots_of entries t) id ≡ true
   pub stands : is_listed (ids s) id ≡ true
 
-the_first : (nodes : Nodes) (ids : ℕ → List ℕ) (entries : List (ℕ × List ℕ)) (t id : ℕ) → IsTable nodes ids entries → Some id ≡ first_of (slots_of entries t) → First nodes ids entries (slot_at nodes id) t id
+the_first : (nodes : Nodes) (ids : ℕ → List ℕ) (entries : List (ℕ × List ℕ)) (t id : ℕ) → IsTable nodes ids entries → Some id ≡ first_in_list (slots_of entries t) → First nodes ids entries (slot_at nodes id) t id
 the_first nodes ids entries t id a e =
-    let l : is_listed (slots_of entries t) id ≡ true = ap (λ xs. is_listed xs id) (split_first (slots_of entries t) id e) ∙ ap (λ b. b || is_listed (rest_of (slots_of entries t)) id) (eq-eqb id id refl) in
+    let l : is_listed (slots_of entries t) id ≡ true = ap (λ xs. is_listed xs id) (split_first (slots_of entries t) id e) ∙ ap (λ b. b || is_listed (rest_of_list (slots_of entries t)) id) (eq-eqb id id refl) in
     let p = a.in_list t id l in
     let s : slot_at nodes id ≡ p.0 = slot_placed nodes id p.0 t p.1 in
     record { place = p.1 ∙ ap (λ u. Some (u, t)) (sym s); listed = l; stands = ap (λ u. is_listed (ids u) id) s ∙ p.2 }
 
-first_at : (nodes : Nodes) (ids : ℕ → List ℕ) (entries : List (ℕ × List ℕ)) (s t id : ℕ) → IsTable nodes ids entries → Some id ≡ first_of (slots_of entries t) → s ≡ slot_at nodes id → First nodes ids entries s t id
+first_at : (nodes : Nodes) (ids : ℕ → List ℕ) (entries : List (ℕ × List ℕ)) (s t id : ℕ) → IsTable nodes ids entries → Some id ≡ first_in_list (slots_of entries t) → s ≡ slot_at nodes id → First nodes ids entries s t id
 first_at nodes ids entries s t id a e f = subst (λ u. First nodes ids entries u t id) (sym f) (the_first nodes ids entries t id a e)
 
 -- it is a request of the transaction
-pub first_owner : (nodes : Nodes) (ids : ℕ → List ℕ) (entries : List (ℕ × List ℕ)) (t id : ℕ) → IsTable nodes ids entries → Some id ≡ first_of (slots_of entries t) → ((request_at nodes id).transaction == t) ≡ true
+pub first_owner : (nodes : Nodes) (ids : ℕ → List ℕ) (entries : List (ℕ × List ℕ)) (t id : ℕ) → IsTable nodes ids entries → Some id ≡ first_in_list (slots_of entries t) → ((request_at nodes id).transaction == t) ≡ true
 first_owner nodes ids entries t id a e =
     eq-eqb (request_at nodes id).transaction t (transaction_placed nodes id (slot_at nodes id) t (the_first nodes ids entries t id a e).place)
 
 -- it is in its slot's queue
-pub first_stands : (nodes : Nodes) (ids : ℕ → List ℕ) (entries : List (ℕ × List ℕ)) (s t id : ℕ) → IsTable nodes ids entries → Some id ≡ first_of (slots_of entries t) → s ≡ slot_at nodes id → stands_in (requests nodes (ids s)) t ≡ true
+pub first_stands : (nodes : Nodes) (ids : ℕ → List ℕ) (entries : List (ℕ × List ℕ)) (s t id : ℕ) → IsTable nodes ids entries → Some id ≡ first_in_list (slots_of entries t) → s ≡ slot_at nodes id → stands_in (requests nodes (ids s)) t ≡ true
 first_stands nodes ids entries s t id a e f =
     let first = first_at nodes ids entries s t id a e f in
     member_stands nodes (ids s) id t first.stands (transaction_placed nodes id s t first.place)
@@ -105,28 +105,28 @@ first_stands nodes ids entries s t id a e f =
 pub record Popped (nodes : Nodes) (ids : ℕ → List ℕ) (entries new_entries : List (ℕ × List ℕ)) (s t id : ℕ) : Type 0 where
   pub was : IsTable nodes ids entries
   pub different : AreDifferent (slots nodes (slots_of entries t))
-  pub given : Some id ≡ first_of (slots_of entries t)
+  pub given : Some id ≡ first_in_list (slots_of entries t)
   pub slot : slot_at nodes id ≡ s
-  pub list : slots_of new_entries t ≡ rest_of (slots_of entries t)
+  pub list : slots_of new_entries t ≡ rest_of_list (slots_of entries t)
   pub lists_stay : (u : ℕ) → u ≢ t → slots_of new_entries u ≡ slots_of entries u
 
 module _ (nodes : Nodes) (ids : ℕ → List ℕ) (entries new_entries : List (ℕ × List ℕ)) (s t id : ℕ) (a : Popped nodes ids entries new_entries s t id) where
   first : First nodes ids entries s t id
   first = subst (λ u. First nodes ids entries u t id) a.slot (the_first nodes ids entries t id a.was a.given)
 
-  fresh_rest : is_listed (slots nodes (rest_of (slots_of entries t))) (slot_at nodes id) ≡ false
+  fresh_rest : is_listed (slots nodes (rest_of_list (slots_of entries t))) (slot_at nodes id) ≡ false
   fresh_rest = (subst (λ xs. AreDifferent (slots nodes xs)) (split_first (slots_of entries t) id a.given) a.different).0
 
   list_left : (u x : ℕ) → is_listed (slots_of new_entries u) x ≡ true → (x ≢ id) × (is_listed (slots_of entries u) x ≡ true)
   list_left u x e = elim (cases_eq u t) [
     | inl c ↦
-        let l : is_listed (rest_of (slots_of entries t)) x ≡ true = ap (λ xs. is_listed xs x) (sym a.list) ∙ (ap (λ v. is_listed (slots_of new_entries v) x) (sym c) ∙ e) in (
-          (λ g. let f : false ≡ true = sym fresh_rest ∙ slot_listed nodes (rest_of (slots_of entries t)) id (ap (is_listed (rest_of (slots_of entries t))) (sym g) ∙ l) in cc),
+        let l : is_listed (rest_of_list (slots_of entries t)) x ≡ true = ap (λ xs. is_listed xs x) (sym a.list) ∙ (ap (λ v. is_listed (slots_of new_entries v) x) (sym c) ∙ e) in (
+          (λ g. let f : false ≡ true = sym fresh_rest ∙ slot_listed nodes (rest_of_list (slots_of entries t)) id (ap (is_listed (rest_of_list (slots_of entries t))) (sym g) ∙ l) in cc),
           ap (λ v. is_listed (slots_of entries v) x) c ∙ rest_listed (slots_of entries t) x l,
         )
     | inr c ↦
         let l : is_listed (slots_of entries u) x ≡ true = ap (λ xs. is_listed xs x) (sym (a.lists_stay u c)) ∙ e in
-        ((λ g. let p = a.was.in_list u x l in c (pair_second p.0 u s t (sym p.1 ∙ (ap (λ y. place_of (node_at nodes y)) g ∙ first.place)))), l)
+        ((λ g. let p = a.was.in_list u x l in c (pair_second p.0 u s t (sym p.1 ∙ (ap (λ y. queue_place_of (node_at nodes y)) g ∙ first.place)))), l)
   ]
 
   -- it is in no list any more
@@ -186,7 +186,7 @@ module _ (nodes new_nodes : Nodes) (ids new_ids : ℕ → List ℕ) (entries new
         (l.0, ap (λ v. is_listed (ids v) x) c.0 ∙ l.1)
     | inr c ↦
         let l : is_listed (ids u) x ≡ true = ap (λ xs. is_listed xs x) (sym c.1) ∙ e in
-        ((λ g. let p = a.popped.was.in_queue u x l in c.0 (pair_first u p.0 s t (sym p.1 ∙ (ap (λ y. place_of (node_at nodes y)) g ∙ (first nodes ids entries new_entries s t id a.popped).place)))), l)
+        ((λ g. let p = a.popped.was.in_queue u x l in c.0 (pair_first u p.0 s t (sym p.1 ∙ (ap (λ y. queue_place_of (node_at nodes y)) g ∙ (first nodes ids entries new_entries s t id a.popped).place)))), l)
   ]
 
   queue_keeps : (u x : ℕ) → x ≢ id → is_listed (ids u) x ≡ true → is_listed (new_ids u) x ≡ true
@@ -204,8 +204,8 @@ module _ (nodes new_nodes : Nodes) (ids new_ids : ℕ → List ℕ) (entries new
   list_keeps : (u x : ℕ) → x ≢ id → is_listed (slots_of entries u) x ≡ true → is_listed (slots_of new_entries u) x ≡ true
   list_keeps u x n e = elim (cases_eq u t) [
     | inl c ↦
-        let l : is_listed (id ∷ rest_of (slots_of entries t)) x ≡ true = ap (λ xs. is_listed xs x) (sym (split_first (slots_of entries t) id a.popped.given)) ∙ (ap (λ v. is_listed (slots_of entries v) x) (sym c) ∙ e) in
-        ap (λ v. is_listed (slots_of new_entries v) x) c ∙ (ap (λ xs. is_listed xs x) a.popped.list ∙ elim (or_cases (id == x) (is_listed (rest_of (slots_of entries t)) x) l) [
+        let l : is_listed (id ∷ rest_of_list (slots_of entries t)) x ≡ true = ap (λ xs. is_listed xs x) (sym (split_first (slots_of entries t) id a.popped.given)) ∙ (ap (λ v. is_listed (slots_of entries v) x) (sym c) ∙ e) in
+        ap (λ v. is_listed (slots_of new_entries v) x) c ∙ (ap (λ xs. is_listed xs x) a.popped.list ∙ elim (or_cases (id == x) (is_listed (rest_of_list (slots_of entries t)) x) l) [
           | inl f ↦ absurd (n (sym (eqb-true id x f)))
           | inr f ↦ f
         ])
@@ -217,15 +217,15 @@ module _ (nodes new_nodes : Nodes) (ids new_ids : ℕ → List ℕ) (entries new
     in_queue = λ u x e.
         let l = queue_left u x e in
         let p = a.popped.was.in_queue u x l.1 in
-        (p.0, ap place_of (a.nodes_stay x l.0) ∙ p.1);
+        (p.0, ap queue_place_of (a.nodes_stay x l.0) ∙ p.1);
     in_list = λ u x e.
         let l = list_left nodes ids entries new_entries s t id a.popped u x e in
         let p = a.popped.was.in_list u x l.1 in
-        (p.0, ap place_of (a.nodes_stay x l.0) ∙ p.1, queue_keeps p.0 x l.0 p.2);
+        (p.0, ap queue_place_of (a.nodes_stay x l.0) ∙ p.1, queue_keeps p.0 x l.0 p.2);
     with_both = λ x u v p. elim (cases_eq x id) [
-      | inl c ↦ absurd (let f : ◌≡◌ {A = Option (ℕ × ℕ)} None (Some (u, v)) = ap place_of (sym a.gone) ∙ (ap (λ y. place_of (node_at new_nodes y)) (sym c) ∙ p) in cc)
+      | inl c ↦ absurd (let f : ◌≡◌ {A = Option (ℕ × ℕ)} None (Some (u, v)) = ap queue_place_of (sym a.gone) ∙ (ap (λ y. queue_place_of (node_at new_nodes y)) (sym c) ∙ p) in cc)
       | inr n ↦
-          let w = a.popped.was.with_both x u v (ap place_of (sym (a.nodes_stay x n)) ∙ p) in
+          let w = a.popped.was.with_both x u v (ap queue_place_of (sym (a.nodes_stay x n)) ∙ p) in
           (queue_keeps u x n w.0, list_keeps v x n w.1)
     ];
     filled = a.filled;
@@ -239,34 +239,34 @@ module _ (nodes new_nodes : Nodes) (ids new_ids : ℕ → List ℕ) (entries new
       ∙ (ap (filter (λ r. not (r.transaction == t))) (map-append (request_at nodes) a.unlinked.before (a.unlinked.id ∷ a.unlinked.behind))
       ∙ filter_one (requests nodes a.unlinked.before) (requests nodes a.unlinked.behind) (request_at nodes a.unlinked.id) t a.unlinked.none_before a.unlinked.passed none_behind)))
 
-  pub removed_queues : SetsAt (queues_in nodes ids) (queues_in new_nodes new_ids) s (filter (λ r. not (r.transaction == t)) (queue_at (queues_in nodes ids) s))
+  pub removed_queues : SetsAt (node_queues nodes ids) (node_queues new_nodes new_ids) s (filter (λ r. not (r.transaction == t)) (queue_at (node_queues nodes ids) s))
   removed_queues = record {
     this = ap (requests new_nodes) a.unlinked.new.this ∙ left_requests;
     others = λ u n. ap (requests new_nodes) (a.unlinked.new.others u n)
-        ∙ requests_same nodes new_nodes (ids u) (λ x e. a.nodes_stay x (λ g. let p = a.popped.was.in_queue u x e in n (pair_first u p.0 s t (sym p.1 ∙ (ap (λ y. place_of (node_at nodes y)) g ∙ (first nodes ids entries new_entries s t id a.popped).place)))));
+        ∙ requests_same nodes new_nodes (ids u) (λ x e. a.nodes_stay x (λ g. let p = a.popped.was.in_queue u x e in n (pair_first u p.0 s t (sym p.1 ∙ (ap (λ y. queue_place_of (node_at nodes y)) g ∙ (first nodes ids entries new_entries s t id a.popped).place)))));
   }
 
-  pub removed_list : slots_of (lists_in new_nodes new_entries) t ≡ rest_of (slots_of (lists_in nodes entries) t)
+  pub removed_list : slots_of (lists_in new_nodes new_entries) t ≡ rest_of_list (slots_of (lists_in nodes entries) t)
   removed_list =
       found_slots new_nodes new_entries t ∙ (ap (slots new_nodes) a.popped.list
-      ∙ (slots_agree nodes new_nodes (rest_of (slots_of entries t)) (λ x e. ap place_of (a.nodes_stay x (list_left nodes ids entries new_entries s t id a.popped t x (ap (λ xs. is_listed xs x) a.popped.list ∙ e)).0))
-      ∙ (rest_slots (slots_of entries t) ∙ ap rest_of (sym (found_slots nodes entries t)))))
+      ∙ (slots_agree nodes new_nodes (rest_of_list (slots_of entries t)) (λ x e. ap queue_place_of (a.nodes_stay x (list_left nodes ids entries new_entries s t id a.popped t x (ap (λ xs. is_listed xs x) a.popped.list ∙ e)).0))
+      ∙ (rest_slots (slots_of entries t) ∙ ap rest_of_list (sym (found_slots nodes entries t)))))
     where
-      rest_slots : (xs : List ℕ) → slots nodes (rest_of xs) ≡ rest_of (slots nodes xs)
+      rest_slots : (xs : List ℕ) → slots nodes (rest_of_list xs) ≡ rest_of_list (slots nodes xs)
       rest_slots [] = refl
       rest_slots (x ∷ xs) = refl
 
   pub removed_others : (u : ℕ) → u ≢ t → slots_of (lists_in new_nodes new_entries) u ≡ slots_of (lists_in nodes entries) u
   removed_others u n =
       found_slots new_nodes new_entries u ∙ (ap (slots new_nodes) (a.popped.lists_stay u n)
-      ∙ (slots_agree nodes new_nodes (slots_of entries u) (λ x e. ap place_of (a.nodes_stay x (list_left nodes ids entries new_entries s t id a.popped u x (ap (λ xs. is_listed xs x) (a.popped.lists_stay u n) ∙ e)).0)) ∙ sym (found_slots nodes entries u)))
+      ∙ (slots_agree nodes new_nodes (slots_of entries u) (λ x e. ap queue_place_of (a.nodes_stay x (list_left nodes ids entries new_entries s t id a.popped u x (ap (λ xs. is_listed xs x) (a.popped.lists_stay u n) ∙ e)).0)) ∙ sym (found_slots nodes entries u)))
 
-  pub removed_given : Some s ≡ first_of (slots_of (lists_in nodes entries) t)
-  removed_given = sym (ap first_of (found_slots nodes entries t) ∙ (ap (λ xs. first_of (slots nodes xs)) (split_first (slots_of entries t) id a.popped.given) ∙ ap Some a.popped.slot))
+  pub removed_given : Some s ≡ first_in_list (slots_of (lists_in nodes entries) t)
+  removed_given = sym (ap first_in_list (found_slots nodes entries t) ∙ (ap (λ xs. first_in_list (slots nodes xs)) (split_first (slots_of entries t) id a.popped.given) ∙ ap Some a.popped.slot))
 
-pub none_given : (nodes : Nodes) (entries : List (ℕ × List ℕ)) (t : ℕ) → None ≡ first_of (slots_of entries t) → None ≡ first_of (slots_of (lists_in nodes entries) t)
-none_given nodes entries t e = by (slots_of entries t) e ∙ sym (ap first_of (found_slots nodes entries t))
+pub none_given : (nodes : Nodes) (entries : List (ℕ × List ℕ)) (t : ℕ) → None ≡ first_in_list (slots_of entries t) → None ≡ first_in_list (slots_of (lists_in nodes entries) t)
+none_given nodes entries t e = by (slots_of entries t) e ∙ sym (ap first_in_list (found_slots nodes entries t))
   where
-    by : (xs : List ℕ) → None ≡ first_of xs → None ≡ first_of (slots nodes xs)
+    by : (xs : List ℕ) → None ≡ first_in_list xs → None ≡ first_in_list (slots nodes xs)
     by [] f = refl
     by (x ∷ xs) f = absurd cc

@@ -10,7 +10,7 @@ use Rattle.pc_types.specs.declared.Request.{Request}
 use Rattle.pc_model.specs.Locks.{Queue, are_compatible, request_in, granted_behind, with_request, queue_after, queue_without, outcome_beside, is_ungranted, is_exclusive, stronger}
 use Rattle.pc_types.specs.declared.Outcome.TheVariants.{Granted, Queued, Died}
 use Rattle.pc_model.specs.Queues.{stands_in, grant}
-use Rattle.pc_locks.specs.States.{SlotLists, Queues, slots_of, queue_at, first_of, rest_of, last_of, is_listed, is_waiting, slots_after, SetsAt, AreAlike, AreDifferent, AreLinked}
+use Rattle.pc_locks.specs.States.{SlotLists, Queues, slots_of, queue_at, first_in_list, rest_of_list, last_in_list, is_listed, is_waiting_in_state, slots_after, SetsAt, AreAlike, AreDifferent, AreLinked}
 use Rattle.pc_locks.proofs.SlotLaws.{sets_cases, sets_same}
 use Rattle.pc_model.proofs.QueueLaws.{stands_granted, stands_is, with_new}
 
@@ -54,7 +54,7 @@ pub linked_alike : (queues new_queues : Queues) (lists new_lists : SlotLists) �
 linked_alike queues new_queues lists new_lists e f k = record {
   listed = λ t slot. ap (λ xs. is_listed xs slot) (f t) ∙ (k.listed t slot ∙ ap (λ q. stands_in q t) (sym (e slot)));
   once = λ t. subst AreDifferent (sym (f t)) (k.once t);
-  waits = λ t slot g. ap last_of (f t) ∙ k.waits t slot (ap (λ q. is_ungranted (request_in q t)) (sym (e slot)) ∙ g);
+  waits = λ t slot g. ap last_in_list (f t) ∙ k.waits t slot (ap (λ q. is_ungranted (request_in q t)) (sym (e slot)) ∙ g);
 }
 
 -- an upgrade changes nobody's place
@@ -131,7 +131,7 @@ different_push (x ∷ xs) s d e =
     let f : s ≢ x = (λ g. let k = same_test x s (sym g) in let z = h.0 in cc) in
     (listed_push xs s x ∙ rw (d.0, other_test s x f), different_push xs s d.1 h.1)
 
-last_push : (xs : List ℕ) (s : ℕ) → last_of (xs ++ s ∷ []) ≡ Some s
+last_push : (xs : List ℕ) (s : ℕ) → last_in_list (xs ++ s ∷ []) ≡ Some s
 last_push [] s = refl
 last_push (x ∷ []) s = refl
 last_push (x ∷ y ∷ ys) s = last_push (y ∷ ys) s
@@ -159,10 +159,10 @@ linked_push queues new_queues lists new_lists s n h f w e o k = record {
   ];
   waits = λ t slot g. elim (same_or_other t n.transaction) [
     | inl a ↦ elim (sets_cases queues new_queues s (queue_at queues s ++ n ∷ []) h slot) [
-      | inl c ↦ ap (λ x. last_of (slots_of new_lists x)) a ∙ (ap last_of e ∙ (last_push (slots_of lists n.transaction) s ∙ ap Some (sym c.0)))
+      | inl c ↦ ap (λ x. last_in_list (slots_of new_lists x)) a ∙ (ap last_in_list e ∙ (last_push (slots_of lists n.transaction) s ∙ ap Some (sym c.0)))
       | inr c ↦ absurd (let z : false ≡ true = sym (w slot) ∙ (ap (λ x. is_ungranted (request_in (queue_at queues slot) x)) (sym a) ∙ (ap (λ q. is_ungranted (request_in q t)) (sym c.1) ∙ g)) in cc)
     ]
-    | inr a ↦ ap last_of (o t a) ∙ elim (sets_cases queues new_queues s (queue_at queues s ++ n ∷ []) h slot) [
+    | inr a ↦ ap last_in_list (o t a) ∙ elim (sets_cases queues new_queues s (queue_at queues s ++ n ∷ []) h slot) [
       | inl c ↦ k.waits t s (sym (ungranted_push (queue_at queues s) n t (λ z. a (sym z))) ∙ (ap (λ q. is_ungranted (request_in q t)) (sym c.1) ∙ g)) ∙ ap Some (sym c.0)
       | inr c ↦ k.waits t slot (ap (λ q. is_ungranted (request_in q t)) (sym c.1) ∙ g)
     ]
@@ -222,20 +222,20 @@ others_stand q t u n = stands_granted [] (filter (λ r. not (r.transaction == t)
 others_wait : (q : Queue) (t u : ℕ) → u ≢ t → is_ungranted (request_in (queue_without q t) u) ≡ true → is_ungranted (request_in q u) ≡ true
 others_wait q t u n e = sym (ap is_ungranted (keeps_others q t u n)) ∙ granted_waits [] (filter (λ r. not (r.transaction == t)) q) u e
 
-split_first : (xs : List ℕ) (s : ℕ) → Some s ≡ first_of xs → xs ≡ s ∷ rest_of xs
+split_first : (xs : List ℕ) (s : ℕ) → Some s ≡ first_in_list xs → xs ≡ s ∷ rest_of_list xs
 split_first [] s e = absurd cc
 split_first (x ∷ xs) s e = let f : s ≡ x = cc in ap (λ y. y ∷ xs) (sym f)
 
-last_rest : (s x : ℕ) (rest : List ℕ) → last_of (s ∷ rest) ≡ Some x → x ≢ s → last_of rest ≡ Some x
+last_rest : (s x : ℕ) (rest : List ℕ) → last_in_list (s ∷ rest) ≡ Some x → x ≢ s → last_in_list rest ≡ Some x
 last_rest s x [] e n = absurd (n (let f : x ≡ s = cc in f))
 last_rest s x (y ∷ ys) e n = e
 
 -- if a transaction's first request is removed
-pub linked_pop : (queues new_queues : Queues) (lists new_lists : SlotLists) (s t : ℕ) → SetsAt queues new_queues s (queue_without (queue_at queues s) t) → Some s ≡ first_of (slots_of lists t) →
-    slots_of new_lists t ≡ rest_of (slots_of lists t) → ((u : ℕ) → u ≢ t → slots_of new_lists u ≡ slots_of lists u) →
+pub linked_pop : (queues new_queues : Queues) (lists new_lists : SlotLists) (s t : ℕ) → SetsAt queues new_queues s (queue_without (queue_at queues s) t) → Some s ≡ first_in_list (slots_of lists t) →
+    slots_of new_lists t ≡ rest_of_list (slots_of lists t) → ((u : ℕ) → u ≢ t → slots_of new_lists u ≡ slots_of lists u) →
     AreLinked queues lists → AreLinked new_queues new_lists
 linked_pop queues new_queues lists new_lists s t h f e o k =
-    let rest = rest_of (slots_of lists t) in
+    let rest = rest_of_list (slots_of lists t) in
     let split : slots_of lists t ≡ s ∷ rest = split_first (slots_of lists t) s f in
     let d : (is_listed rest s ≡ false) × AreDifferent rest = subst AreDifferent split (k.once t) in
     let others = sets_cases queues new_queues s (queue_without (queue_at queues s) t) h in
@@ -258,9 +258,9 @@ linked_pop queues new_queues lists new_lists s t h f e o k =
       waits = λ u slot g. elim (same_or_other u t) [
         | inl a ↦ elim (others slot) [
           | inl c ↦ absurd (let z : false ≡ true = sym (gone_waits (queue_at queues s) t) ∙ (ap (λ x. is_ungranted (request_in (queue_without (queue_at queues s) t) x)) (sym a) ∙ (ap (λ q. is_ungranted (request_in q u)) (sym c.1) ∙ g)) in cc)
-          | inr c ↦ ap (λ x. last_of (slots_of new_lists x)) a ∙ (ap last_of e ∙ last_rest s slot rest (sym (ap last_of split) ∙ k.waits t slot (ap (λ x. is_ungranted (request_in (queue_at queues slot) x)) (sym a) ∙ (ap (λ q. is_ungranted (request_in q u)) (sym c.1) ∙ g))) c.0)
+          | inr c ↦ ap (λ x. last_in_list (slots_of new_lists x)) a ∙ (ap last_in_list e ∙ last_rest s slot rest (sym (ap last_in_list split) ∙ k.waits t slot (ap (λ x. is_ungranted (request_in (queue_at queues slot) x)) (sym a) ∙ (ap (λ q. is_ungranted (request_in q u)) (sym c.1) ∙ g))) c.0)
         ]
-        | inr a ↦ ap last_of (o u a) ∙ elim (others slot) [
+        | inr a ↦ ap last_in_list (o u a) ∙ elim (others slot) [
           | inl c ↦ k.waits u s (others_wait (queue_at queues s) t u a (ap (λ q. is_ungranted (request_in q u)) (sym c.1) ∙ g)) ∙ ap Some (sym c.0)
           | inr c ↦ k.waits u slot (ap (λ q. is_ungranted (request_in q u)) (sym c.1) ∙ g)
         ]
@@ -286,28 +286,28 @@ some_any p (x ∷ xs) s e f = by (x == s) refl e (λ h. some_any p xs s h f)
     by true g h ih = ap (λ b. b || list_any p xs) (ap p (test_same x s g) ∙ f)
     by false g h ih = rw (ih h) (or_true (p x))
 
-first_listed : (xs : List ℕ) (s : ℕ) → Some s ≡ first_of xs → is_listed xs s ≡ true
+first_listed : (xs : List ℕ) (s : ℕ) → Some s ≡ first_in_list xs → is_listed xs s ≡ true
 first_listed [] s e = absurd cc
 first_listed (x ∷ xs) s e = let f : s ≡ x = cc in rw (same_test x s (sym f))
 
-pub last_listed : (xs : List ℕ) (s : ℕ) → Some s ≡ last_of xs → is_listed xs s ≡ true
+pub last_listed : (xs : List ℕ) (s : ℕ) → Some s ≡ last_in_list xs → is_listed xs s ≡ true
 last_listed [] s e = absurd cc
 last_listed (x ∷ []) s e = let f : s ≡ x = cc in rw (same_test x s (sym f))
 last_listed (x ∷ y ∷ ys) s e = rw (last_listed (y ∷ ys) s e) (or_true (x == s))
 
 -- if a transaction waits anywhere, it waits at one of its slots
-pub waits_anywhere : (queues : Queues) (lists : SlotLists) (t s : ℕ) → AreLinked queues lists → waits_for t (queue_at queues s) ≡ true → is_waiting (record { queues = queues; lists = lists }) t ≡ true
+pub waits_anywhere : (queues : Queues) (lists : SlotLists) (t s : ℕ) → AreLinked queues lists → waits_for t (queue_at queues s) ≡ true → is_waiting_in_state (record { queues = queues; lists = lists }) t ≡ true
 waits_anywhere queues lists t s k e = some_any (λ x. waits_for t (queue_at queues x)) (slots_of lists t) s (last_listed (slots_of lists t) s (sym (k.waits t s e))) e
 
 -- if it waits at none of its slots, it waits nowhere
-pub ready_at : (queues : Queues) (lists : SlotLists) (t : ℕ) → AreLinked queues lists → is_waiting (record { queues = queues; lists = lists }) t ≡ false → (s : ℕ) → waits_for t (queue_at queues s) ≡ false
+pub ready_at : (queues : Queues) (lists : SlotLists) (t : ℕ) → AreLinked queues lists → is_waiting_in_state (record { queues = queues; lists = lists }) t ≡ false → (s : ℕ) → waits_for t (queue_at queues s) ≡ false
 ready_at queues lists t k e s = not_true (waits_for t (queue_at queues s)) (λ f. let g : false ≡ true = sym e ∙ waits_anywhere queues lists t s k f in cc)
 
 -- only the last of a transaction's slots may have it wait
-pub any_waits : (queues : Queues) (lists : SlotLists) (t s : ℕ) → AreLinked queues lists → Some s ≡ last_of (slots_of lists t) → waits_for t (queue_at queues s) ≡ is_waiting (record { queues = queues; lists = lists }) t
+pub any_waits : (queues : Queues) (lists : SlotLists) (t s : ℕ) → AreLinked queues lists → Some s ≡ last_in_list (slots_of lists t) → waits_for t (queue_at queues s) ≡ is_waiting_in_state (record { queues = queues; lists = lists }) t
 any_waits queues lists t s k e = by (waits_for t (queue_at queues s)) refl
   where
-    by : (b : Bool) → waits_for t (queue_at queues s) ≡ b → b ≡ is_waiting (record { queues = queues; lists = lists }) t
+    by : (b : Bool) → waits_for t (queue_at queues s) ≡ b → b ≡ is_waiting_in_state (record { queues = queues; lists = lists }) t
     by true f = sym (waits_anywhere queues lists t s k f)
     by false f = sym (none_any (λ x. waits_for t (queue_at queues x)) (slots_of lists t) (λ x. not_true (waits_for t (queue_at queues x)) (λ g.
         let h : Some s ≡ Some x = e ∙ k.waits t x g in
@@ -315,7 +315,7 @@ any_waits queues lists t s k e = by (waits_for t (queue_at queues s)) refl
         let j : waits_for t (queue_at queues s) ≡ true = ap (λ y. waits_for t (queue_at queues y)) i ∙ g in
         cc)))
 
-pub none_waiting : (queues : Queues) (lists : SlotLists) (t : ℕ) → AreLinked queues lists → None ≡ last_of (slots_of lists t) → false ≡ is_waiting (record { queues = queues; lists = lists }) t
+pub none_waiting : (queues : Queues) (lists : SlotLists) (t : ℕ) → AreLinked queues lists → None ≡ last_in_list (slots_of lists t) → false ≡ is_waiting_in_state (record { queues = queues; lists = lists }) t
 none_waiting queues lists t k e = sym (none_any (λ x. waits_for t (queue_at queues x)) (slots_of lists t) (λ x. not_true (waits_for t (queue_at queues x)) (λ g. let h : None ≡ Some x = e ∙ k.waits t x g in cc)))
 
 pub found_is : (q : Queue) (t : ℕ) (own : Request) → request_in q t ≡ Some own → own.transaction ≡ t

@@ -8,7 +8,7 @@ use Rattle.std.specs.Ordering.{nat_cmp}
 use Rattle.std.proofs.lemmas.List.{map-append}
 use Rattle.pc_types.specs.declared.Request.{Request}
 use Rattle.pc_locks.specs.States.{slots_of, queue_at, is_listed, SetsAt, AreFilled}
-use Rattle.pc_locks.specs.Tables.{Nodes, Placed, node_at, request_of, slot_of, request_at, slot_at, place_of, requests, slots, queues_in, lists_in, IsTable}
+use Rattle.pc_locks.specs.Tables.{Nodes, Placed, node_at, node_request, node_slot, request_at, slot_at, queue_place_of, requests, slots, node_queues, lists_in, IsTable}
 use Rattle.pc_locks.proofs.SlotLaws.{sets_cases}
 use Rattle.pc_locks.proofs.LineLemmas.{listed_end}
 
@@ -23,21 +23,21 @@ found_slots nodes (e ∷ es) t = by (is_at (nat_cmp t) e.0) (found_slots nodes e
     by false h = h
 
 -- a node's parts by its place
-slot_by : (node : Option Placed) → slot_of node ≡ unwrap_or (option_map (λ (p : ℕ × ℕ). p.0) (place_of node)) 0
+slot_by : (node : Option Placed) → node_slot node ≡ unwrap_or (option_map (λ (p : ℕ × ℕ). p.0) (queue_place_of node)) 0
 slot_by None = refl
 slot_by (Some n) = refl
 
-pub transaction_by : (node : Option Placed) → (request_of node).transaction ≡ unwrap_or (option_map (λ (p : ℕ × ℕ). p.1) (place_of node)) 0
+pub transaction_by : (node : Option Placed) → (node_request node).transaction ≡ unwrap_or (option_map (λ (p : ℕ × ℕ). p.1) (queue_place_of node)) 0
 transaction_by None = refl
 transaction_by (Some n) = refl
 
-pub slot_placed : (nodes : Nodes) (id s t : ℕ) → place_of (node_at nodes id) ≡ Some (s, t) → slot_at nodes id ≡ s
+pub slot_placed : (nodes : Nodes) (id s t : ℕ) → queue_place_of (node_at nodes id) ≡ Some (s, t) → slot_at nodes id ≡ s
 slot_placed nodes id s t e = slot_by (node_at nodes id) ∙ ap (λ o. unwrap_or (option_map (λ (p : ℕ × ℕ). p.0) o) 0) e
 
-pub transaction_placed : (nodes : Nodes) (id s t : ℕ) → place_of (node_at nodes id) ≡ Some (s, t) → (request_at nodes id).transaction ≡ t
+pub transaction_placed : (nodes : Nodes) (id s t : ℕ) → queue_place_of (node_at nodes id) ≡ Some (s, t) → (request_at nodes id).transaction ≡ t
 transaction_placed nodes id s t e = transaction_by (node_at nodes id) ∙ ap (λ o. unwrap_or (option_map (λ (p : ℕ × ℕ). p.1) o) 0) e
 
-pub transaction_same : (nodes new_nodes : Nodes) (id : ℕ) → place_of (node_at new_nodes id) ≡ place_of (node_at nodes id) → (request_at new_nodes id).transaction ≡ (request_at nodes id).transaction
+pub transaction_same : (nodes new_nodes : Nodes) (id : ℕ) → queue_place_of (node_at new_nodes id) ≡ queue_place_of (node_at nodes id) → (request_at new_nodes id).transaction ≡ (request_at nodes id).transaction
 transaction_same nodes new_nodes id e = transaction_by (node_at new_nodes id) ∙ (ap (λ o. unwrap_or (option_map (λ (p : ℕ × ℕ). p.1) o) 0) e ∙ sym (transaction_by (node_at nodes id)))
 
 -- the parts of a place
@@ -53,7 +53,7 @@ requests_same nodes new_nodes [] f = refl
 requests_same nodes new_nodes (x ∷ xs) f =
     rw (f x (ap (λ b. b || is_listed xs x) (eq-eqb x x refl)), requests_same nodes new_nodes xs (λ id e. f id (or_right (x == id) (is_listed xs id) e)))
 
-pub slots_agree : (nodes new_nodes : Nodes) (xs : List ℕ) → ((id : ℕ) → is_listed xs id ≡ true → place_of (node_at new_nodes id) ≡ place_of (node_at nodes id)) → slots new_nodes xs ≡ slots nodes xs
+pub slots_agree : (nodes new_nodes : Nodes) (xs : List ℕ) → ((id : ℕ) → is_listed xs id ≡ true → queue_place_of (node_at new_nodes id) ≡ queue_place_of (node_at nodes id)) → slots new_nodes xs ≡ slots nodes xs
 slots_agree nodes new_nodes [] f = refl
 slots_agree nodes new_nodes (x ∷ xs) f =
     let e = slot_by (node_at new_nodes x) ∙ (ap (λ o. unwrap_or (option_map (λ (p : ℕ × ℕ). p.0) o) 0) (f x (ap (λ b. b || is_listed xs x) (eq-eqb x x refl))) ∙ sym (slot_by (node_at nodes x))) in
@@ -80,12 +80,12 @@ still_listed xs id x e = listed_end xs id x ∙ ap (λ b. b || ((id == x) || fal
 pub vacant_queue : (nodes : Nodes) (ids : ℕ → List ℕ) (entries : List (ℕ × List ℕ)) (id : ℕ) → IsTable nodes ids entries → node_at nodes id ≡ None → (s : ℕ) → is_listed (ids s) id ≡ true → ⊥
 vacant_queue nodes ids entries id a e s f =
     let p = a.in_queue s id f in
-    let g : ◌≡◌ {A = Option (ℕ × ℕ)} None (Some (s, p.0)) = ap place_of (sym e) ∙ p.1 in cc
+    let g : ◌≡◌ {A = Option (ℕ × ℕ)} None (Some (s, p.0)) = ap queue_place_of (sym e) ∙ p.1 in cc
 
 pub vacant_list : (nodes : Nodes) (ids : ℕ → List ℕ) (entries : List (ℕ × List ℕ)) (id : ℕ) → IsTable nodes ids entries → node_at nodes id ≡ None → (t : ℕ) → is_listed (slots_of entries t) id ≡ true → ⊥
 vacant_list nodes ids entries id a e t f =
     let p = a.in_list t id f in
-    let g : ◌≡◌ {A = Option (ℕ × ℕ)} None (Some (p.0, t)) = ap place_of (sym e) ∙ p.1 in cc
+    let g : ◌≡◌ {A = Option (ℕ × ℕ)} None (Some (p.0, t)) = ap queue_place_of (sym e) ∙ p.1 in cc
 
 -- a request was added under a fresh id
 pub record Added (nodes new_nodes : Nodes) (ids new_ids : ℕ → List ℕ) (entries new_entries : List (ℕ × List ℕ)) (s id : ℕ) (request : Request) : Type 0 where
@@ -99,8 +99,8 @@ pub record Added (nodes new_nodes : Nodes) (ids new_ids : ℕ → List ℕ) (ent
   pub filled : AreFilled new_entries
 
 module _ (nodes new_nodes : Nodes) (ids new_ids : ℕ → List ℕ) (entries new_entries : List (ℕ × List ℕ)) (s id : ℕ) (request : Request) (a : Added nodes new_nodes ids new_ids entries new_entries s id request) where
-  placed_here : place_of (node_at new_nodes id) ≡ Some (s, request.transaction)
-  placed_here = ap place_of a.here
+  placed_here : queue_place_of (node_at new_nodes id) ≡ Some (s, request.transaction)
+  placed_here = ap queue_place_of a.here
 
   queue_stands : (u x : ℕ) → x ≢ id → is_listed (new_ids u) x ≡ true → is_listed (ids u) x ≡ true
   queue_stands u x n e = elim (sets_cases ids new_ids s (ids s ++ id ∷ []) a.queue u) [
@@ -155,27 +155,27 @@ module _ (nodes new_nodes : Nodes) (ids new_ids : ℕ → List ℕ) (entries new
     in_queue = λ u x e. elim (cases_eq x id) [
       | inl c ↦
           let f : u ≡ s = queue_of_it u (ap (is_listed (new_ids u)) (sym c) ∙ e) in
-          (request.transaction, ap (λ y. place_of (node_at new_nodes y)) c ∙ (placed_here ∙ ap (λ v. Some (v, request.transaction)) (sym f)))
+          (request.transaction, ap (λ y. queue_place_of (node_at new_nodes y)) c ∙ (placed_here ∙ ap (λ v. Some (v, request.transaction)) (sym f)))
       | inr n ↦
           let p = a.was.in_queue u x (queue_stands u x n e) in
-          (p.0, ap place_of (a.nodes_stay x n) ∙ p.1)
+          (p.0, ap queue_place_of (a.nodes_stay x n) ∙ p.1)
     ];
     in_list = λ u x e. elim (cases_eq x id) [
       | inl c ↦
           let f : u ≡ request.transaction = list_of_it u (ap (is_listed (slots_of new_entries u)) (sym c) ∙ e) in
-          (s, ap (λ y. place_of (node_at new_nodes y)) c ∙ (placed_here ∙ ap (λ v. Some (s, v)) (sym f)), ap (is_listed (new_ids s)) c ∙ queue_has_it)
+          (s, ap (λ y. queue_place_of (node_at new_nodes y)) c ∙ (placed_here ∙ ap (λ v. Some (s, v)) (sym f)), ap (is_listed (new_ids s)) c ∙ queue_has_it)
       | inr n ↦
           let p = a.was.in_list u x (list_stands u x n e) in
-          (p.0, ap place_of (a.nodes_stay x n) ∙ p.1, queue_keeps p.0 x p.2)
+          (p.0, ap queue_place_of (a.nodes_stay x n) ∙ p.1, queue_keeps p.0 x p.2)
     ];
     with_both = λ x u t p. elim (cases_eq x id) [
       | inl c ↦
-          let f = sym p ∙ (ap (λ y. place_of (node_at new_nodes y)) c ∙ placed_here) in
+          let f = sym p ∙ (ap (λ y. queue_place_of (node_at new_nodes y)) c ∙ placed_here) in
           let g = pair_first u t s request.transaction f in
           let h = pair_second u t s request.transaction f in
           (ap (λ v. is_listed (new_ids v) x) g ∙ (ap (is_listed (new_ids s)) c ∙ queue_has_it), ap (λ v. is_listed (slots_of new_entries v) x) h ∙ (ap (is_listed (slots_of new_entries request.transaction)) c ∙ list_has_it))
       | inr n ↦
-          let w = a.was.with_both x u t (ap place_of (sym (a.nodes_stay x n)) ∙ p) in
+          let w = a.was.with_both x u t (ap queue_place_of (sym (a.nodes_stay x n)) ∙ p) in
           (queue_keeps u x w.0, list_keeps t x w.1)
     ];
     filled = a.filled;
@@ -187,17 +187,17 @@ module _ (nodes new_nodes : Nodes) (ids new_ids : ℕ → List ℕ) (entries new
     | inr n ↦ a.nodes_stay x n
   ]
 
-  old_places : (t x : ℕ) → is_listed (slots_of entries t) x ≡ true → place_of (node_at new_nodes x) ≡ place_of (node_at nodes x)
+  old_places : (t x : ℕ) → is_listed (slots_of entries t) x ≡ true → queue_place_of (node_at new_nodes x) ≡ queue_place_of (node_at nodes x)
   old_places t x e = elim (cases_eq x id) [
     | inl c ↦ absurd (vacant_list nodes ids entries id a.was a.vacant t (ap (is_listed (slots_of entries t)) (sym c) ∙ e))
-    | inr n ↦ ap place_of (a.nodes_stay x n)
+    | inr n ↦ ap queue_place_of (a.nodes_stay x n)
   ]
 
-  pub added_queues : SetsAt (queues_in nodes ids) (queues_in new_nodes new_ids) s (queue_at (queues_in nodes ids) s ++ request ∷ [])
+  pub added_queues : SetsAt (node_queues nodes ids) (node_queues new_nodes new_ids) s (queue_at (node_queues nodes ids) s ++ request ∷ [])
   added_queues = record {
     this = ap (requests new_nodes) a.queue.this
         ∙ (map-append (request_at new_nodes) (ids s) (id ∷ [])
-        ∙ (ap (λ q. q ++ request_at new_nodes id ∷ []) (requests_same nodes new_nodes (ids s) (old_stays s)) ∙ ap (λ o. requests nodes (ids s) ++ request_of o ∷ []) a.here));
+        ∙ (ap (λ q. q ++ request_at new_nodes id ∷ []) (requests_same nodes new_nodes (ids s) (old_stays s)) ∙ ap (λ o. requests nodes (ids s) ++ node_request o ∷ []) a.here));
     others = λ u n. ap (requests new_nodes) (a.queue.others u n) ∙ requests_same nodes new_nodes (ids u) (old_stays u);
   }
 
@@ -205,7 +205,7 @@ module _ (nodes new_nodes : Nodes) (ids new_ids : ℕ → List ℕ) (entries new
   added_list =
       found_slots new_nodes new_entries request.transaction ∙ (ap (slots new_nodes) a.list ∙ (map-append (slot_at new_nodes) (slots_of entries request.transaction) (id ∷ [])
       ∙ (ap (λ xs. xs ++ slot_at new_nodes id ∷ []) (slots_agree nodes new_nodes (slots_of entries request.transaction) (old_places request.transaction) ∙ sym (found_slots nodes entries request.transaction))
-      ∙ ap (λ o. slots_of (lists_in nodes entries) request.transaction ++ slot_of o ∷ []) a.here)))
+      ∙ ap (λ o. slots_of (lists_in nodes entries) request.transaction ++ node_slot o ∷ []) a.here)))
 
   pub added_others : (u : ℕ) → u ≢ request.transaction → slots_of (lists_in new_nodes new_entries) u ≡ slots_of (lists_in nodes entries) u
   added_others u n =

@@ -9,7 +9,7 @@ use Rattle.pc_types.specs.declared.Request.{Request}
 use Rattle.pc_model.specs.Locks.{Queue, request_in, with_request, stronger, is_exclusive}
 use Rattle.pc_model.specs.Queues.{stands_in, AreOnce}
 use Rattle.pc_locks.specs.States.{is_listed}
-use Rattle.pc_locks.specs.Tables.{Nodes, Placed, node_at, request_of, request_at, place_of, requests, IsTable, IsOwn, AreHeld}
+use Rattle.pc_locks.specs.Tables.{Nodes, Placed, node_at, node_request, request_at, queue_place_of, requests, IsTable, IsOwn, HaveRequests}
 use Rattle.pc_locks.proofs.TableLemmas.{requests_same}
 use Rattle.pc_locks.proofs.RemovalLemmas.{member_stands, once_behind, back_listed}
 use Rattle.pc_locks.proofs.Grants.{written_is}
@@ -49,7 +49,7 @@ is_upgrade Shared Exclusive e = refl
 is_upgrade Exclusive mode e = absurd cc
 
 module _ (nodes new_nodes : Nodes) (ids : List ℕ) (t : ℕ) (previous : Option ℕ) (id : ℕ) (own : Request) (mode : Mode) (o : IsOwn nodes ids t previous id)
-    (held : is_listed ids id ≡ true → is_some (place_of (node_at nodes id)) ≡ true) (once : AreOnce (requests nodes ids)) (same : own ≡ request_at nodes id) (up : mode ≡ Exclusive)
+    (held : is_listed ids id ≡ true → is_some (queue_place_of (node_at nodes id)) ≡ true) (once : AreOnce (requests nodes ids)) (same : own ≡ request_at nodes id) (up : mode ≡ Exclusive)
     (written : node_at new_nodes id ≡ option_map (λ (n : Placed). record n { request = record own { mode = Exclusive } }) (node_at nodes id))
     (stay : (other : ℕ) → other ≢ id → node_at new_nodes other ≡ node_at nodes other) where
   listed : is_listed ids id ≡ true
@@ -66,7 +66,7 @@ module _ (nodes new_nodes : Nodes) (ids : List ℕ) (t : ℕ) (previous : Option
 
   upgraded_it : request_at new_nodes id ≡ record (request_at nodes id) { mode = stronger (request_at nodes id).mode mode }
   upgraded_it =
-      ap request_of written ∙ (written_is (node_at nodes id) (record own { mode = Exclusive }) (held listed)
+      ap node_request written ∙ (written_is (node_at nodes id) (record own { mode = Exclusive }) (held listed)
       ∙ (ap (λ (r : Request). record r { mode = Exclusive }) same ∙ ap (λ m. record (request_at nodes id) { mode = m }) (sym (ap (stronger (request_at nodes id).mode) up ∙ strongest (request_at nodes id).mode))))
 
   pub upgraded_queue : requests new_nodes ids ≡ with_request (requests nodes ids) (record { transaction = t; mode = mode; granted = true })
@@ -79,5 +79,5 @@ module _ (nodes new_nodes : Nodes) (ids : List ℕ) (t : ℕ) (previous : Option
       ∙ ap (λ q. with_request q (record { transaction = t; mode = mode; granted = true })) (sym (ap (requests nodes) o.split ∙ map-append (request_at nodes) o.before (id ∷ o.behind))))))))
 
 -- the ids of a slot have requests
-pub table_held : (nodes : Nodes) (ids : ℕ → List ℕ) (entries : List (ℕ × List ℕ)) (slot : ℕ) → IsTable nodes ids entries → AreHeld nodes (ids slot)
+pub table_held : (nodes : Nodes) (ids : ℕ → List ℕ) (entries : List (ℕ × List ℕ)) (slot : ℕ) → IsTable nodes ids entries → HaveRequests nodes (ids slot)
 table_held nodes ids entries slot a = λ id e. ap is_some (a.in_queue slot id e).1

@@ -15,7 +15,7 @@ pub record HasRoomForRequest (kept : KeptRequests) (t : ℕ) : Type 0 where
   pub known : is_some (lookup (is_at (nat_cmp t)) kept.entries) ≡ true
 
 -- a request came under an id that was free, without a link, and at the end of its transaction's ids
-pub record IsAdded (old new : KeptRequests) (request : Placed) (id : ℕ) : Type 0 where
+pub record IsRequestAdded (old new : KeptRequests) (request : Placed) (id : ℕ) : Type 0 where
   pub was_free : node_at old.nodes.slots id ≡ None
   pub here : node_at new.nodes.slots id ≡ Some request
   pub nodes : (other : ℕ) → other ≢ id → node_at new.nodes.slots other ≡ node_at old.nodes.slots other

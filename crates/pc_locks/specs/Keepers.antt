@@ -7,7 +7,7 @@ use Rattle.pc_model.specs.Locks.{Queue}
 use Rattle.pc_locks.specs.declared.node.Node.{Node}
 use Rattle.pc_locks.specs.Lines.{Links, ids_of, ids_by, AreLines}
 use Rattle.pc_locks.specs.States.{SlotLists, Queues, State, queue_at, AreAmong, AreSettled}
-use Rattle.pc_locks.specs.Tables.{links_in, requests, queues_in, lists_in, IsTable}
+use Rattle.pc_locks.specs.Tables.{links_in, requests, node_queues, lists_in, IsTable}
 
 -- the requests in their slab, and the ids of each transaction
 pub record KeptRequests : Type 0 where
@@ -27,7 +27,7 @@ queue_along kept chain = requests kept.nodes.slots (ids_along kept chain)
 
 -- the queue of each slot: the requests that the links lead to from its ends
 abbrev pub queues_of : (ℕ → Chain ℕ) → KeptRequests → Queues
-queues_of ends kept = queues_in kept.nodes.slots (ids_by (links_of kept) ends)
+queues_of ends kept = node_queues kept.nodes.slots (ids_by (links_of kept) ends)
 
 -- the slots of each transaction
 abbrev pub lists_of : KeptRequests → SlotLists

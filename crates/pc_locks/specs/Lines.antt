@@ -22,22 +22,22 @@ abbrev pub HasLink : Links → ℕ → Type 0
 HasLink links id = is_some (link_at links id) ≡ true
 
 -- what an id's link leads to
-abbrev pub next_in : Links → ℕ → Option ℕ
-next_in links id = unwrap_or (link_at links id) None
+abbrev pub next_id : Links → ℕ → Option ℕ
+next_id links id = unwrap_or (link_at links id) None
 
 -- at most that many ids, from this one on
-abbrev pub follow : Links → ℕ → Option ℕ → List ℕ
-follow links n None = []
-follow links zero (Some id) = []
-follow links (suc n) (Some id) = id ∷ follow links n (next_in links id)
+abbrev pub linked_ids : Links → ℕ → Option ℕ → List ℕ
+linked_ids links n None = []
+linked_ids links zero (Some id) = []
+linked_ids links (suc n) (Some id) = id ∷ linked_ids links n (next_id links id)
 
 -- the ids of a chain
 abbrev pub ids_of : Links → Chain ℕ → List ℕ
-ids_of links chain = follow links (length links) chain.first
+ids_of links chain = linked_ids links (length links) chain.first
 
 -- over these links the chain is this list
 abbrev pub IsLine : Links → Chain ℕ → List ℕ → Type 0
-IsLine links chain ids = IsChain (HasLink links) (next_in links) chain ids
+IsLine links chain ids = IsChain (HasLink links) (next_id links) chain ids
 
 -- over these links the chain is a list
 abbrev pub IsQueue : Links → Chain ℕ → Type 0

@@ -47,20 +47,20 @@ abbrev pub AreAmong : (ℕ → Type 0) → Queues → Type 0
 AreAmong has queues = (slot t : ℕ) → stands_in (queue_at queues slot) t ≡ true → has slot
 
 -- the first of the list
-abbrev pub first_of : List ℕ → Option ℕ
-first_of [] = None
-first_of (x ∷ xs) = Some x
+abbrev pub first_in_list : List ℕ → Option ℕ
+first_in_list [] = None
+first_in_list (x ∷ xs) = Some x
 
 -- the list without its first
-abbrev pub rest_of : List ℕ → List ℕ
-rest_of [] = []
-rest_of (x ∷ xs) = xs
+abbrev pub rest_of_list : List ℕ → List ℕ
+rest_of_list [] = []
+rest_of_list (x ∷ xs) = xs
 
 -- the last of the list
-abbrev pub last_of : List ℕ → Option ℕ
-last_of [] = None
-last_of (x ∷ []) = Some x
-last_of (x ∷ y ∷ ys) = last_of (y ∷ ys)
+abbrev pub last_in_list : List ℕ → Option ℕ
+last_in_list [] = None
+last_in_list (x ∷ []) = Some x
+last_in_list (x ∷ y ∷ ys) = last_in_list (y ∷ ys)
 
 -- the slot is in the list
 abbrev pub is_listed : List ℕ → ℕ → Bool
@@ -89,11 +89,11 @@ IsEntered old new slot request = TurnsInto old new slot request.transaction (que
 
 -- the transaction's request of the slot, the first of its slots, is gone from both
 abbrev pub IsTakenOut : State → State → ℕ → ℕ → Type 0
-IsTakenOut old new t slot = TurnsInto old new slot t (filter (λ r. not (r.transaction == t)) (queue_at old.queues slot)) (rest_of (slots_of old.lists t))
+IsTakenOut old new t slot = TurnsInto old new slot t (filter (λ r. not (r.transaction == t)) (queue_at old.queues slot)) (rest_of_list (slots_of old.lists t))
 
 -- the same, and what waited for it is granted
 abbrev pub IsReleased : State → State → ℕ → ℕ → Type 0
-IsReleased old new t slot = TurnsInto old new slot t (queue_without (queue_at old.queues slot) t) (rest_of (slots_of old.lists t))
+IsReleased old new t slot = TurnsInto old new slot t (queue_without (queue_at old.queues slot) t) (rest_of_list (slots_of old.lists t))
 
 -- the transaction's request of the slot was so answered, and is kept if it didn't die
 pub record IsRequestAnswered (old new : State) (t slot : ℕ) (mode : Mode) (answer : Outcome) : Type 0 where
@@ -101,19 +101,19 @@ pub record IsRequestAnswered (old new : State) (t slot : ℕ) (mode : Mode) (ans
   pub turned : TurnsInto old new slot t (queue_after (queue_at old.queues slot) t mode answer) (slots_after (slots_of old.lists t) slot (stands_in (queue_at old.queues slot) t) answer)
 
 -- at one of the transaction's slots its request waits
-abbrev pub is_waiting : State → ℕ → Bool
-is_waiting state t = list_any (λ slot. is_ungranted (request_in (queue_at state.queues slot) t)) (slots_of state.lists t)
+abbrev pub is_waiting_in_state : State → ℕ → Bool
+is_waiting_in_state state t = list_any (λ slot. is_ungranted (request_in (queue_at state.queues slot) t)) (slots_of state.lists t)
 
 -- a slot is in the transaction's list if and only if the transaction has a request in its queue, and none occurs twice;
 -- only the last may wait
 pub record AreLinked (queues : Queues) (lists : SlotLists) : Type 0 where
   pub listed : (t slot : ℕ) → is_listed (slots_of lists t) slot ≡ stands_in (queue_at queues slot) t
   pub once : (t : ℕ) → AreDifferent (slots_of lists t)
-  pub waits : (t slot : ℕ) → is_ungranted (request_in (queue_at queues slot) t) ≡ true → last_of (slots_of lists t) ≡ Some slot
+  pub waits : (t slot : ℕ) → is_ungranted (request_in (queue_at queues slot) t) ≡ true → last_in_list (slots_of lists t) ≡ Some slot
 
 -- no transaction without a slot has a list
 abbrev pub AreFilled : SlotLists → Type 0
-AreFilled lists = (t : ℕ) → is_some (lookup (is_at (nat_cmp t)) lists) ≡ true → is_some (first_of (slots_of lists t)) ≡ true
+AreFilled lists = (t : ℕ) → is_some (lookup (is_at (nat_cmp t)) lists) ≡ true → is_some (first_in_list (slots_of lists t)) ≡ true
 
 -- the invariant of locks: in each queue the granted requests are in front and compatible, and only waiting ones come
 -- after them; the lists and the queues say the same; and no transaction without a request has a list

@@ -9,7 +9,7 @@ use Rattle.pc_model.specs.Queues.{stands_in}
 use Rattle.pc_locks.specs.declared.node.Node.{Node}
 use Rattle.pc_locks.specs.declared.node.Test.{Test}
 use Rattle.pc_locks.specs.declared.node.Test.TheVariants as test
-use Rattle.pc_locks.specs.States.{SlotLists, Queues, SetsAt, AreFilled, slots_of, is_listed, last_of}
+use Rattle.pc_locks.specs.States.{SlotLists, Queues, SetsAt, AreFilled, slots_of, is_listed, last_in_list}
 
 -- what a test asks of a request
 abbrev pub passes : Test → Request → Bool
@@ -54,24 +54,24 @@ pub record KeepQueueLinks (old new : Nodes) : Type 0 where
   pub queue : links_in new ≡ links_in old
 
 -- the request of a node
-abbrev pub request_of : Option Placed → Request
-request_of node = unwrap_or (option_map (λ (n : Placed). n.request) node) (record { transaction = 0; mode = Shared; granted = false })
+abbrev pub node_request : Option Placed → Request
+node_request node = unwrap_or (option_map (λ (n : Placed). n.request) node) (record { transaction = 0; mode = Shared; granted = false })
 
 -- the slot of a node
-abbrev pub slot_of : Option Placed → ℕ
-slot_of node = unwrap_or (option_map (λ (n : Placed). n.slot) node) 0
+abbrev pub node_slot : Option Placed → ℕ
+node_slot node = unwrap_or (option_map (λ (n : Placed). n.slot) node) 0
 
 -- the request of an id
 abbrev pub request_at : Nodes → ℕ → Request
-request_at nodes id = request_of (node_at nodes id)
+request_at nodes id = node_request (node_at nodes id)
 
 -- the slot of an id
 abbrev pub slot_at : Nodes → ℕ → ℕ
-slot_at nodes id = slot_of (node_at nodes id)
+slot_at nodes id = node_slot (node_at nodes id)
 
 -- the slot and the transaction of a node
-abbrev pub place_of : Option Placed → Option (ℕ × ℕ)
-place_of node = option_map (λ (n : Placed). (n.slot, n.request.transaction)) node
+abbrev pub queue_place_of : Option Placed → Option (ℕ × ℕ)
+queue_place_of node = option_map (λ (n : Placed). (n.slot, n.request.transaction)) node
 
 -- the requests of these ids
 abbrev pub requests : Nodes → List ℕ → Queue
@@ -82,8 +82,8 @@ abbrev pub slots : Nodes → List ℕ → List ℕ
 slots nodes ids = map (slot_at nodes) ids
 
 -- the requests of each slot
-abbrev pub queues_in : Nodes → (ℕ → List ℕ) → Queues
-queues_in nodes ids slot = requests nodes (ids slot)
+abbrev pub node_queues : Nodes → (ℕ → List ℕ) → Queues
+node_queues nodes ids slot = requests nodes (ids slot)
 
 -- the slots of each transaction
 abbrev pub lists_in : Nodes → List (ℕ × List ℕ) → SlotLists
@@ -92,9 +92,9 @@ lists_in nodes entries = map (λ e. (e.0, slots nodes e.1)) entries
 -- each id of a slot has a request of it, each id of a transaction has a request of it, which is with its slot, and each
 -- request is with both; no transaction without an id has an entry
 pub record IsTable (nodes : Nodes) (ids : ℕ → List ℕ) (entries : List (ℕ × List ℕ)) : Type 0 where
-  pub in_queue : (slot id : ℕ) → is_listed (ids slot) id ≡ true → (t : ℕ) × (place_of (node_at nodes id) ≡ Some (slot, t))
-  pub in_list : (t id : ℕ) → is_listed (slots_of entries t) id ≡ true → (slot : ℕ) × (place_of (node_at nodes id) ≡ Some (slot, t)) × (is_listed (ids slot) id ≡ true)
-  pub with_both : (id slot t : ℕ) → place_of (node_at nodes id) ≡ Some (slot, t) → (is_listed (ids slot) id ≡ true) × (is_listed (slots_of entries t) id ≡ true)
+  pub in_queue : (slot id : ℕ) → is_listed (ids slot) id ≡ true → (t : ℕ) × (queue_place_of (node_at nodes id) ≡ Some (slot, t))
+  pub in_list : (t id : ℕ) → is_listed (slots_of entries t) id ≡ true → (slot : ℕ) × (queue_place_of (node_at nodes id) ≡ Some (slot, t)) × (is_listed (ids slot) id ≡ true)
+  pub with_both : (id slot t : ℕ) → queue_place_of (node_at nodes id) ≡ Some (slot, t) → (is_listed (ids slot) id ≡ true) × (is_listed (slots_of entries t) id ≡ true)
   pub filled : AreFilled entries
 
 -- the first id of the list whose request passes the test, and the one before it
@@ -102,7 +102,7 @@ pub record IsIdFound (nodes : Nodes) (ids : List ℕ) (asked : Test) (previous :
   pub before : List ℕ
   pub behind : List ℕ
   pub split : ids ≡ before ++ id ∷ behind
-  pub previous_is : previous ≡ last_of before
+  pub previous_is : previous ≡ last_in_list before
   pub none_before : list_any (passes asked) (requests nodes before) ≡ false
   pub passed : passes asked (request_at nodes id) ≡ true
 
@@ -122,12 +122,12 @@ pub record IsUnlinked (nodes : Nodes) (ids new_ids : ℕ → List ℕ) (slot t :
 
 -- each id has its slot and its transaction still
 abbrev pub KeepPlaces : Nodes → Nodes → Type 0
-KeepPlaces nodes new_nodes = (id : ℕ) → place_of (node_at new_nodes id) ≡ place_of (node_at nodes id)
+KeepPlaces nodes new_nodes = (id : ℕ) → queue_place_of (node_at new_nodes id) ≡ queue_place_of (node_at nodes id)
 
 -- each id outside of the list has its request still
 abbrev pub KeepOutside : List ℕ → Nodes → Nodes → Type 0
 KeepOutside ids nodes new_nodes = (id : ℕ) → is_listed ids id ≡ false → node_at new_nodes id ≡ node_at nodes id
 
 -- each of the ids has a request
-abbrev pub AreHeld : Nodes → List ℕ → Type 0
-AreHeld nodes ids = (id : ℕ) → is_listed ids id ≡ true → is_some (place_of (node_at nodes id)) ≡ true
+abbrev pub HaveRequests : Nodes → List ℕ → Type 0
+HaveRequests nodes ids = (id : ℕ) → is_listed ids id ≡ true → is_some (queue_place_of (node_at nodes id)) ≡ true

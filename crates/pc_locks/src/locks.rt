@@ -3,7 +3,7 @@ ghost use Rattle.std.specs.Prelude.{◌≡◌, ◌==◌, [], not, true, false, �
 ghost use Rattle.pc_chain.specs.declared.chain.Chain.{Chain};
 ghost use Rattle.pc_chain.specs.Chains.{IsEmpty};
 ghost use Rattle.pc_model.specs.Locks.{outcome};
-ghost use Rattle.pc_locks.specs.States.{queue_at, slots_of, first_of, is_waiting, IsRequestAnswered, IsReleased, AreAlike};
+ghost use Rattle.pc_locks.specs.States.{queue_at, slots_of, first_in_list, is_waiting_in_state, IsRequestAnswered, IsReleased, AreAlike};
 ghost use Rattle.pc_locks.specs.Keepers.{queues_of, lists_of, state_of, AreEnds, AreLocksSound};
 
 use crate::keeper::QueueEnds;
@@ -56,7 +56,7 @@ impl Locks {
     ) -> Result<Outcome, AllocError>
         requires sound { AreLocksSound (E.has keeper.old) (E.ends_of keeper.old) self.old }
         requires has { E.has keeper.old slot }
-        requires ready { is_waiting (state_of (E.ends_of keeper.old) self.old) transaction ≡ false }
+        requires ready { is_waiting_in_state (state_of (E.ends_of keeper.old) self.old) transaction ≡ false }
         ensures sound { AreLocksSound (E.has keeper.new) (E.ends_of keeper.new) self.new }
         ensures answered { IfOk result (IsRequestAnswered (state_of (E.ends_of keeper.old) self.old) (state_of (E.ends_of keeper.new) self.new) transaction slot mode) }
         ensures err { OnErr result (AreAlike (state_of (E.ends_of keeper.new) self.new) (state_of (E.ends_of keeper.old) self.old)) }
@@ -100,7 +100,7 @@ impl Locks {
     ) -> Option<SlotId>
         requires sound { AreLocksSound (E.has keeper.old) (E.ends_of keeper.old) self.old }
         ensures sound { AreLocksSound (E.has keeper.new) (E.ends_of keeper.new) self.new }
-        ensures given { result ≡ first_of (slots_of (lists_of self.old) transaction) }
+        ensures given { result ≡ first_in_list (slots_of (lists_of self.old) transaction) }
         ensures released { IfSome result (IsReleased (state_of (E.ends_of keeper.old) self.old) (state_of (E.ends_of keeper.new) self.new) transaction) }
         ensures none { IfNone result ((self.new ≡ self.old) × (keeper.new ≡ keeper.old)) }
         ensures beside { E.beside keeper.old keeper.new }
@@ -112,7 +112,7 @@ impl Locks {
 
     /// Whether a request of the transaction waits, whoever keeps the ends.
     pub fn is_waiting(&self, transaction: TxnNo) -> bool
-        ensures { (ends : ℕ → Chain ℕ) → AreEnds ends self.now → result ≡ is_waiting (state_of ends self.now) transaction }
+        ensures { (ends : ℕ → Chain ℕ) → AreEnds ends self.now → result ≡ is_waiting_in_state (state_of ends self.now) transaction }
     {
         match self.table.last(transaction) {
             Some(last) => !self.table.request(last).granted,

@@ -1,7 +1,7 @@
 //! The form of requests in the slab.
 ghost use Rattle.std.specs.Prelude.{◌≡◌, ◌≢◌, ◌||◌, not, ℕ, option_map};
 ghost use Rattle.pc_model.specs.Locks.{is_exclusive, are_compatible};
-ghost use Rattle.pc_locks.specs.Lines.{HasLink, next_in};
+ghost use Rattle.pc_locks.specs.Lines.{HasLink, next_id};
 ghost use Rattle.pc_locks.specs.Tables.{Placed, node_at, links_in, own_links_in, passes, KeepOwnLinks, KeepQueueLinks};
 
 use pc_chain::Links;
@@ -26,14 +26,14 @@ pub(crate) struct ByOwner;
 impl Links<ByQueue> for Slab<Node> {
     ghost use Rattle.std.specs.Prelude.{◌≡◌, refl};
     ghost use Rattle.std.proofs.Common.{◌∙◌};
-    ghost use Rattle.pc_locks.specs.Lines.{HasLink, next_in};
+    ghost use Rattle.pc_locks.specs.Lines.{HasLink, next_id};
     ghost use Rattle.pc_locks.specs.Tables.{links_in, KeepOwnLinks};
 
     type Id = usize;
 
     ghost has = { λ slab id. HasLink (links_in slab.slots) id };
 
-    ghost next_of = { λ slab id. next_in (links_in slab.slots) id };
+    ghost next_of = { λ slab id. next_id (links_in slab.slots) id };
 
     ghost beside = { λ a b. KeepOwnLinks a.slots b.slots };
 
@@ -46,8 +46,8 @@ impl Links<ByQueue> for Slab<Node> {
 
     fn set_next(&mut self, id: usize, next: Option<usize>)
         requires { HasLink (links_in self.old.slots) id }
-        ensures set { next_in (links_in self.new.slots) id ≡ next }
-        ensures others { (other : ℕ) → other ≢ id → next_in (links_in self.new.slots) other ≡ next_in (links_in self.old.slots) other }
+        ensures set { next_id (links_in self.new.slots) id ≡ next }
+        ensures others { (other : ℕ) → other ≢ id → next_id (links_in self.new.slots) other ≡ next_id (links_in self.old.slots) other }
         ensures has { (other : ℕ) → HasLink (links_in self.old.slots) other → HasLink (links_in self.new.slots) other }
         ensures beside { KeepOwnLinks self.old.slots self.new.slots }
     {
@@ -64,14 +64,14 @@ impl Links<ByQueue> for Slab<Node> {
 impl Links<ByOwner> for Slab<Node> {
     ghost use Rattle.std.specs.Prelude.{◌≡◌, refl};
     ghost use Rattle.std.proofs.Common.{◌∙◌};
-    ghost use Rattle.pc_locks.specs.Lines.{HasLink, next_in};
+    ghost use Rattle.pc_locks.specs.Lines.{HasLink, next_id};
     ghost use Rattle.pc_locks.specs.Tables.{own_links_in, KeepQueueLinks};
 
     type Id = usize;
 
     ghost has = { λ slab id. HasLink (own_links_in slab.slots) id };
 
-    ghost next_of = { λ slab id. next_in (own_links_in slab.slots) id };
+    ghost next_of = { λ slab id. next_id (own_links_in slab.slots) id };
 
     ghost beside = { λ a b. KeepQueueLinks a.slots b.slots };
 
@@ -84,8 +84,8 @@ impl Links<ByOwner> for Slab<Node> {
 
     fn set_next(&mut self, id: usize, next: Option<usize>)
         requires { HasLink (own_links_in self.old.slots) id }
-        ensures set { next_in (own_links_in self.new.slots) id ≡ next }
-        ensures others { (other : ℕ) → other ≢ id → next_in (own_links_in self.new.slots) other ≡ next_in (own_links_in self.old.slots) other }
+        ensures set { next_id (own_links_in self.new.slots) id ≡ next }
+        ensures others { (other : ℕ) → other ≢ id → next_id (own_links_in self.new.slots) other ≡ next_id (own_links_in self.old.slots) other }
         ensures has { (other : ℕ) → HasLink (own_links_in self.old.slots) other → HasLink (own_links_in self.new.slots) other }
         ensures beside { KeepQueueLinks self.old.slots self.new.slots }
     {

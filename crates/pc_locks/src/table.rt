@@ -3,10 +3,10 @@ ghost use Rattle.std.specs.Prelude.{◌&&◌, ◌||◌, ◌==◌, not, ◌≡◌
 ghost use Rattle.std.specs.List.{list_any};
 ghost use Rattle.pc_model.specs.Locks.{is_exclusive, outcome_of_new, outcome_of_upgrade, outcome_beside, queue_after, granted_behind};
 ghost use Rattle.pc_model.specs.Queues.{stands_in, AreOnce};
-ghost use Rattle.pc_locks.specs.Changes.{HasRoomForRequest, IsAdded, IsFreed};
-ghost use Rattle.pc_locks.specs.Lines.{ids_by, next_in, HasLink, IsQueue, AreLines, LineBecomes};
-ghost use Rattle.pc_locks.specs.States.{slots_of, first_of, rest_of, last_of, is_listed, queue_at, IsEntered, IsTakenOut, IsRequestAnswered, AreAlike, AreAmong, AreDifferent, AreFilled};
-ghost use Rattle.pc_locks.specs.Tables.{Placed, passes, node_at, request_at, slot_at, requests, IsIdFound, IsOwn, IsUnlinked, KeepPlaces, KeepOutside, AreHeld};
+ghost use Rattle.pc_locks.specs.Changes.{HasRoomForRequest, IsRequestAdded, IsFreed};
+ghost use Rattle.pc_locks.specs.Lines.{ids_by, next_id, HasLink, IsQueue, AreLines, LineBecomes};
+ghost use Rattle.pc_locks.specs.States.{slots_of, first_in_list, rest_of_list, last_in_list, is_listed, queue_at, IsEntered, IsTakenOut, IsRequestAnswered, AreAlike, AreAmong, AreDifferent, AreFilled};
+ghost use Rattle.pc_locks.specs.Tables.{Placed, passes, node_at, request_at, slot_at, requests, IsIdFound, IsOwn, IsUnlinked, KeepPlaces, KeepOutside, HaveRequests};
 ghost use Rattle.pc_locks.specs.Keepers.{links_of, ids_along, queue_along, queues_of, lists_of, state_of, AreTied};
 
 use crate::ends_row::EndsRow;
@@ -77,7 +77,7 @@ impl RequestTable {
     // The first id of the queue.
     fn first_id(&self, queue: Chain<usize>) -> Option<usize>
         requires { IsQueue (links_of self.now) queue }
-        ensures { result ≡ first_of (ids_along self.now queue) }
+        ensures { result ≡ first_in_list (ids_along self.now queue) }
     {
         queue.first::<ByQueue, Slab<Node>>(&self.nodes)
     }
@@ -91,7 +91,7 @@ impl RequestTable {
 
     // The next id in its slot's queue.
     fn next(&self, id: usize) -> Option<usize>
-        ensures { result ≡ next_in (links_of self.now) id }
+        ensures { result ≡ next_id (links_of self.now) id }
     {
         match self.nodes.get(id) {
             Some(node) => node.next,
@@ -197,7 +197,7 @@ impl RequestTable {
     // Adds a request, which is in no queue, at the end of its transaction's chain, and returns its id. It asks for memory only
     // if the slab has no room or the transaction no entry, and before the first change: if an allocation failed nothing changed.
     fn add(&mut self, request: Request, slot: u32) -> Result<usize, AllocError>
-        ensures added { IfOk result (IsAdded self.old self.new (record { request = request; slot = slot })) }
+        ensures added { IfOk result (IsRequestAdded self.old self.new (record { request = request; slot = slot })) }
         ensures room { HasRoomForRequest self.old request.transaction → IsOk result }
         ensures nodes { OnErr result (self.new.nodes.slots ≡ self.old.nodes.slots) }
         ensures entries { OnErr result (self.new.entries ≡ self.old.entries) }
@@ -318,7 +318,7 @@ impl RequestTable {
         mode: Mode,
     ) -> Outcome
         requires line { IsQueue (links_of self.old) queue }
-        requires held { AreHeld self.old.nodes.slots (ids_along self.old queue) }
+        requires held { HaveRequests self.old.nodes.slots (ids_along self.old queue) }
         requires once { AreOnce (queue_along self.old queue) }
         requires own { IsOwn self.old.nodes.slots (ids_along self.old queue) transaction found.previous found.id }
         ensures told { result ≡ outcome_beside (queue_along self.old queue) transaction mode (Some (request_at self.old.nodes.slots found.id)) }
@@ -347,7 +347,7 @@ impl RequestTable {
 
     /// The last id of the transaction.
     pub(crate) fn last(&self, transaction: TxnNo) -> Option<usize>
-        ensures { result ≡ last_of (slots_of self.now.entries transaction) }
+        ensures { result ≡ last_in_list (slots_of self.now.entries transaction) }
     {
         let (_, last) = self.ends.ends_of(transaction.0).ends();
         last
@@ -374,7 +374,7 @@ impl RequestTable {
     /// Grants requests from the front of the queue, up to the first that conflicts with one before it.
     pub(crate) fn grant(&mut self, queue: Chain<usize>)
         requires line { IsQueue (links_of self.old) queue }
-        requires held { AreHeld self.old.nodes.slots (ids_along self.old queue) }
+        requires held { HaveRequests self.old.nodes.slots (ids_along self.old queue) }
         requires once { AreOnce (queue_along self.old queue) }
         ensures granted { requests self.new.nodes.slots (ids_along self.old queue) ≡ granted_behind [] (queue_along self.old queue) }
         ensures places { KeepPlaces self.old.nodes.slots self.new.nodes.slots }
@@ -406,8 +406,8 @@ impl RequestTable {
 
     // Takes the first id out of the transaction's chain; `None` if it has none. No request changes.
     fn pop(&mut self, transaction: u64) -> Option<usize>
-        ensures given { result ≡ first_of (slots_of self.old.entries transaction) }
-        ensures rest { slots_of self.new.entries transaction ≡ rest_of (slots_of self.old.entries transaction) }
+        ensures given { result ≡ first_in_list (slots_of self.old.entries transaction) }
+        ensures rest { slots_of self.new.entries transaction ≡ rest_of_list (slots_of self.old.entries transaction) }
         ensures others { (other : ℕ) → other ≢ transaction → slots_of self.new.entries other ≡ slots_of self.old.entries other }
         ensures filled { AreFilled self.new.entries }
         ensures nodes { self.new.nodes ≡ self.old.nodes }
@@ -429,7 +429,7 @@ impl RequestTable {
         requires has { E.has keeper.old slot }
         requires queue { queue ≡ E.ends_of keeper.old slot }
         requires lines { AreLines (links_of self.now) (E.ends_of keeper.old) }
-        ensures unlinked { LineBecomes (links_of self.now) (links_of self.now) (E.ends_of keeper.old) (E.ends_of keeper.new) slot (rest_of (ids_by (links_of self.now) (E.ends_of keeper.old) slot)) }
+        ensures unlinked { LineBecomes (links_of self.now) (links_of self.now) (E.ends_of keeper.old) (E.ends_of keeper.new) slot (rest_of_list (ids_by (links_of self.now) (E.ends_of keeper.old) slot)) }
         ensures beside { E.beside keeper.old keeper.new }
     {
         let mut ends = queue;
@@ -448,8 +448,8 @@ impl RequestTable {
         requires has { E.has keeper.old slot }
         requires queue { queue ≡ E.ends_of keeper.old slot }
         requires lines { AreLines (links_of self.old) (E.ends_of keeper.old) }
-        requires stands { (before rest : List ℕ) × (ids_by (links_of self.old) (E.ends_of keeper.old) slot ≡ before ++ rest) × (previous ≡ last_of before) }
-        ensures unlinked { (before rest : List ℕ) → ids_by (links_of self.old) (E.ends_of keeper.old) slot ≡ before ++ rest → previous ≡ last_of before → LineBecomes (links_of self.old) (links_of self.new) (E.ends_of keeper.old) (E.ends_of keeper.new) slot (before ++ rest_of rest) }
+        requires stands { (before rest : List ℕ) × (ids_by (links_of self.old) (E.ends_of keeper.old) slot ≡ before ++ rest) × (previous ≡ last_in_list before) }
+        ensures unlinked { (before rest : List ℕ) → ids_by (links_of self.old) (E.ends_of keeper.old) slot ≡ before ++ rest → previous ≡ last_in_list before → LineBecomes (links_of self.old) (links_of self.new) (E.ends_of keeper.old) (E.ends_of keeper.new) slot (before ++ rest_of_list rest) }
         ensures nodes { (other : ℕ) → node_at self.new.nodes.slots other ≡ node_at self.old.nodes.slots other }
         ensures entries { self.new.entries ≡ self.old.entries }
         ensures beside { E.beside keeper.old keeper.new }
@@ -505,7 +505,7 @@ impl RequestTable {
         requires once { (slot : ℕ) → AreOnce (queue_at (queues_of (E.ends_of keeper.old) self.old) slot) }
         requires different { AreDifferent (slots_of (lists_of self.old) transaction) }
         ensures tied { AreTied (E.ends_of keeper.new) self.new }
-        ensures given { result ≡ first_of (slots_of (lists_of self.old) transaction) }
+        ensures given { result ≡ first_in_list (slots_of (lists_of self.old) transaction) }
         ensures taken { IfSome result (IsTakenOut (state_of (E.ends_of keeper.old) self.old) (state_of (E.ends_of keeper.new) self.new) transaction) }
         ensures has { IfSome result (λ slot. E.has keeper.new slot) }
         ensures none { IfNone result ((self.new ≡ self.old) × (keeper.new ≡ keeper.old)) }

@@ -7,7 +7,7 @@ use Rattle.pc_types.specs.declared.refusal.Refusal.{Refusal}
 use Rattle.pc_types.specs.declared.refusal.Refusal.TheVariants.{BadLength}
 use Rattle.pc_types.specs.declared.Change.{Change}
 use Rattle.pc_types.specs.declared.Change.TheVariants.{Set, Remove, Add}
-use Rattle.pc_types.specs.Changes.{fits, number_text}
+use Rattle.pc_types.specs.Changes.{fits_i64, number_text}
 use Rattle.pc_io.specs.Fields.{◌>>=◌, number_at, value_at, value_text}
 use Rattle.pc_types.specs.Bytes.{IsBytes}
 use Rattle.pc_io.specs.FieldForms.{TakesText}
@@ -51,7 +51,7 @@ change_takes (suc (suc (suc kind)) ∷ bytes) change rest fits e = absurd cc
 abbrev added_and : List ℕ → ℤ → Result (Change × List ℕ) Refusal
 added_and rest d = Ok (Add d, rest)
 
-number_back : (d : ℤ) (rest : List ℕ) → fits d ≡ true → (number_at BadLength w64 (number_text d ++ rest) >>= λ number. added_and number.1 (cast_signed w64 number.0)) ≡ added_and rest d
+number_back : (d : ℤ) (rest : List ℕ) → fits_i64 d ≡ true → (number_at BadLength w64 (number_text d ++ rest) >>= λ number. added_and number.1 (cast_signed w64 number.0)) ≡ added_and rest d
 unfolding number_text
 number_back d rest fit =
     let inside = fits_is d fit in

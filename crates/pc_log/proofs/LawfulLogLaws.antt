@@ -8,7 +8,7 @@ use Rattle.std.proofs.lemmas.List.Elements.{All-from_recursion}
 use Rattle.pc_types.specs.declared.Change.{Change}
 use Rattle.pc_types.specs.declared.Change.TheVariants.{Add}
 use Rattle.pc_types.specs.declared.Write.{Write}
-use Rattle.pc_types.specs.Changes.{fits, CanMerge}
+use Rattle.pc_types.specs.Changes.{fits_i64, CanMerge}
 use Rattle.pc_types.specs.declared.Entry.{Entry}
 use Rattle.pc_types.specs.declared.Entry.TheVariants.{Commit, Token}
 use Rattle.pc_types.specs.declared.Event.{Event}
@@ -23,7 +23,7 @@ use Rattle.pc_types.specs.Phases.{next_phase, next_point}
 use Rattle.pc_model.specs.History.{History, Effect, effect, effect_of, log_of, entries_by, phase_of, phase_by, point_of, point_by, writes_of, writes_by, is_open, has_died}
 use Rattle.pc_model.specs.History.Effect.{Begins, Reads, Writes, Adds, Waits, Dies, Commits, Aborts, Moves, Takes, Shelves, Joins, Nothing}
 use Rattle.pc_model.specs.Database.{change_to, write_of, written, with_write}
-use Rattle.pc_model.specs.Replies.{Setting, certain, Answers, IsLegal, first_refusal, no_session, is_in, log_is_full, too_many, is_full, write_causes, add_causes, transaction_causes, wrong_phase}
+use Rattle.pc_model.specs.Replies.{Setting, certain, Answers, IsLegal, first_refusal, no_session, is_in_phase, log_is_full, too_many, is_full, write_causes, add_causes, transaction_causes, wrong_phase}
 use Rattle.pc_model.specs.Standing.{HasLegalEffects}
 use Rattle.pc_model.specs.Limits.{IsInLimits, AreInLimits}
 use Rattle.pc_model.proofs.EffectCases.{begin_case, get_case, write_case, add_case, commit_case, abort_case, take_case, done_case, join_case}
@@ -45,7 +45,7 @@ IsLawfulMove h other = ⊤
 -- a write or an add is within its limits and not one too many, a commit is of a session from 1 to 64, and a cycle begins before the last point
 abbrev pub IsLawful : History → Effect → Type 0
 IsLawful h (Writes s key content) = ((eqb (length (writes_of s h)) 256 && not (is_some (written (writes_of s h) key))) ≡ false) × IsKey key × IfSome content IsValue
-IsLawful h (Adds s key delta sum) = ((eqb (length (writes_of s h)) 256 && not (is_some (written (writes_of s h) key))) ≡ false) × IsKey key × (fits delta ≡ true)
+IsLawful h (Adds s key delta sum) = ((eqb (length (writes_of s h)) 256 && not (is_some (written (writes_of s h) key))) ≡ false) × IsKey key × (fits_i64 delta ≡ true)
 IsLawful h (Commits s) = (1 ≤ s) × (s ≤ 64)
 IsLawful h (Moves phase n) = IsLawfulMove h phase
 IsLawful h other = ⊤
@@ -93,7 +93,7 @@ module _ (st : Setting) (h : History) (few : st.sessions ≤ 64) where
   legal_lawful (asked.Abort s) reply legal limits = abort_case (IsLawful h) tt s reply (λ counts. tt)
   legal_lawful asked.StartPoint reply legal limits =
       elim (settled (certain st h asked.StartPoint) (Answers st h asked.StartPoint reply) reply
-      (or_else_idle (wrong_phase Rest h) _ (causes_idle ((not (is_in Rest h), why.WrongPhase) ∷ [])) (causes_idle ((eqb (point_of h) 65535, why.PointsFull) ∷ (log_is_full h, why.LogFull) ∷ []))) legal) [
+      (or_else_idle (wrong_phase Rest h) _ (causes_idle ((not (is_in_phase Rest h), why.WrongPhase) ∷ [])) (causes_idle ((eqb (point_of h) 65535, why.PointsFull) ∷ (log_is_full h, why.LogFull) ∷ []))) legal) [
         | inl answered ↦
             let P : Reply → Type 0 = (λ r. IsLawful h (effect_of asked.StartPoint r)) in
             subst P (sym answered.1) (no_first (eqb (point_of h) 65535, why.PointsFull) ((log_is_full h, why.LogFull) ∷ []) (or_else_none (wrong_phase Rest h) _ answered.0).1)

@@ -18,7 +18,7 @@ use Rattle.pc_io.specs.FieldForms.{TakesText}
 use Rattle.pc_log.specs.declared.order.LastToken.{LastToken}
 use Rattle.pc_log.specs.Texts.{log_magic, header_text_in, entry_text_in, log_text_in, IsEntry, HasEntry, HasLog, IsLogText}
 use Rattle.pc_log.specs.Orders.{token_after, no_token, FollowFrom, InOrder}
-use Rattle.pc_log.specs.Reading.{entry_at, entries_at, header_at, log_at, LogReading, none_more, with_entry, of_run, text_of, LogRead, all_at}
+use Rattle.pc_log.specs.Reading.{entry_at, entries_at, header_at, log_at, LogReading, none_more, with_entry, of_run, log_read, LogRead, all_at}
 use Rattle.pc_log.specs.declared.reading.LogText.{LogText}
 use Rattle.pc_log.specs.Laws.{IsLog, AreWholeEntries}
 use Rattle.pc_log.proofs.TokenOrders.{HasBegun, begun_after, follow_more}
@@ -144,8 +144,8 @@ whole_entries bytes read fits e =
         front_of others (all_at format (last_after no_token others) left) read.entries (ap (λ (x : LogRead). x.entries) same ∙ ap (λ (f : LogReading). f.entries) texts)
 
 -- what a call has read are the whole entries
-pub is_whole : (bytes : List ℕ) (result : Result LogText Refusal) → IsBytes bytes → Gives text_of result (log_at bytes) → IfOk result (λ text. AreWholeEntries bytes text.run text.entries.items text.rest)
-is_whole bytes (Ok text) fits given = whole_entries bytes (text_of text) fits given
+pub is_whole : (bytes : List ℕ) (result : Result LogText Refusal) → IsBytes bytes → Gives log_read result (log_at bytes) → IfOk result (λ text. AreWholeEntries bytes text.run text.entries.items text.rest)
+is_whole bytes (Ok text) fits given = whole_entries bytes (log_read text) fits given
 is_whole bytes (Err e) fits given = tt
 
 -- ---- texts that were written

@@ -14,7 +14,7 @@ use Rattle.pc_io.proofs.FieldLaws.{bind_ok, guard_ok}
 use Rattle.pc_log.proofs.StepLaws.{where_then, made_ok}
 use Rattle.pc_log.specs.declared.order.LastToken.{LastToken}
 use Rattle.pc_log.specs.Orders.{token_after}
-use Rattle.pc_log.specs.Reading.{body_at, most_body_bytes, entry_at, entries_at, LogReading, none_more, with_entry, found_by, of_run, text_of, LogRead, all_at}
+use Rattle.pc_log.specs.Reading.{body_at, most_body_bytes, entry_at, entries_at, LogReading, none_more, with_entry, reading_from_entry, of_run, log_read, LogRead, all_at}
 use Rattle.pc_log.specs.declared.reading.LogText.{LogText}
 
 -- ---- the parts of an entry that was read
@@ -63,9 +63,9 @@ entry_shorter format last bytes entry after e =
 
 -- a turn that reads this
 pub turn_is : (format : Format) (turns : ℕ) (last : LastToken) (bytes : List ℕ) (read : Result (Entry × List ℕ) Refusal) → entry_at format last bytes ≡ read
-    → entries_at format (suc turns) last bytes ≡ found_by bytes read (λ entry. entries_at format turns (token_after last entry.0) entry.1)
+    → entries_at format (suc turns) last bytes ≡ reading_from_entry bytes read (λ entry. entries_at format turns (token_after last entry.0) entry.1)
 unfolding entries_at
-turn_is format turns last bytes read e = ap (λ (r : Result (Entry × List ℕ) Refusal). found_by bytes r (λ entry. entries_at format turns (token_after last entry.0) entry.1)) e
+turn_is format turns last bytes read e = ap (λ (r : Result (Entry × List ℕ) Refusal). reading_from_entry bytes r (λ entry. entries_at format turns (token_after last entry.0) entry.1)) e
 
 same_turn : (format : Format) (n m : ℕ) (last : LastToken) (bytes : List ℕ) (read : Result (Entry × List ℕ) Refusal) → entry_at format last bytes ≡ read
     → ((entry : Entry) (after : List ℕ) → length after < length bytes → entries_at format n (token_after last entry) after ≡ entries_at format m (token_after last entry) after) → entries_at format (suc n) last bytes ≡ entries_at format (suc m) last bytes
@@ -131,8 +131,8 @@ read_as run found = Ok (of_run run found)
 
 -- what a stopped loop gives: what was read, unless an allocation failed
 pub stopped_gives : (run : ℕ) (result : Result LogText Refusal) (fault : Refusal) (total : LogReading) (entries : List Entry) (rest : ℕ)
-    → Gives text_of result (Ok (record { run = run; entries = entries; rest = rest; fault = Some fault })) → (fault ≡ OutOfMemory → result ≡ Err OutOfMemory)
-    → (fault ≢ OutOfMemory → total ≡ record { entries = entries; rest = rest; fault = Some fault }) → Gives text_of result (Ok (of_run run total))
+    → Gives log_read result (Ok (record { run = run; entries = entries; rest = rest; fault = Some fault })) → (fault ≡ OutOfMemory → result ≡ Err OutOfMemory)
+    → (fault ≢ OutOfMemory → total ≡ record { entries = entries; rest = rest; fault = Some fault }) → Gives log_read result (Ok (of_run run total))
 stopped_gives run (Ok text) fault total entries rest given memory read =
     let other : fault ≢ OutOfMemory = λ e. let f = memory e in absurd cc in
     ap (read_as run) (read other) ∙ given

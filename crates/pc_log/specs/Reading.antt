@@ -119,27 +119,27 @@ pub record LogReading : Type 0 where
   pub fault : Option Refusal
 
 -- this is the fault of the bytes, if there are any
-abbrev pub fault_of : List ℕ → Refusal → Option Refusal
-fault_of [] fault = None
-fault_of (byte ∷ bytes) fault = Some fault
+abbrev pub fault_of_rest : List ℕ → Refusal → Option Refusal
+fault_of_rest [] fault = None
+fault_of_rest (byte ∷ bytes) fault = Some fault
 
 -- no entry can be read: the bytes are left
 abbrev pub none_more : List ℕ → Refusal → LogReading
-none_more bytes fault = record { entries = []; rest = length bytes; fault = fault_of bytes fault }
+none_more bytes fault = record { entries = []; rest = length bytes; fault = fault_of_rest bytes fault }
 
 -- one entry more, in front
 abbrev pub with_entry : Entry → LogReading → LogReading
 with_entry entry found = record found { entries = entry ∷ found.entries }
 
 -- the entry that was read and what is found after it, or none more
-abbrev pub found_by : List ℕ → Result (Entry × List ℕ) Refusal → (Entry × List ℕ → LogReading) → LogReading
-found_by bytes (Ok entry) behind = with_entry entry.0 (behind entry)
-found_by bytes (Err fault) behind = none_more bytes fault
+abbrev pub reading_from_entry : List ℕ → Result (Entry × List ℕ) Refusal → (Entry × List ℕ → LogReading) → LogReading
+reading_from_entry bytes (Ok entry) behind = with_entry entry.0 (behind entry)
+reading_from_entry bytes (Err fault) behind = none_more bytes fault
 
 -- As many entries as can be read. Each takes some of the bytes, so that as many turns as there are bytes are enough.
 unfoldable pub entries_at : Format → ℕ → LastToken → List ℕ → LogReading
 entries_at format zero last bytes = none_more bytes Short
-entries_at format (suc turns) last bytes = found_by bytes (entry_at format last bytes) (λ entry. entries_at format turns (token_after last entry.0) entry.1)
+entries_at format (suc turns) last bytes = reading_from_entry bytes (entry_at format last bytes) (λ entry. entries_at format turns (token_after last entry.0) entry.1)
 
 -- what is read of a log's text
 pub record LogRead : Type 0 where
@@ -167,8 +167,8 @@ log_at bytes = do
   Ok (of_run header.1 (entries_at header.0 (length header.2) no_token header.2))
 
 -- what a call has read, without where it lies in memory
-abbrev pub text_of : LogText → LogRead
-text_of text = record { run = text.run; entries = text.entries.items; rest = text.rest; fault = text.fault }
+abbrev pub log_read : LogText → LogRead
+log_read text = record { run = text.run; entries = text.entries.items; rest = text.rest; fault = text.fault }
 
 -- all that can be read
 abbrev pub all_at : Format → LastToken → List ℕ → LogReading

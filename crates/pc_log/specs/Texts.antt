@@ -12,7 +12,7 @@ use Rattle.pc_types.specs.declared.Phase.TheVariants.{Rest, Prepare, Resolve, Ca
 use Rattle.pc_types.specs.declared.Change.{Change}
 use Rattle.pc_types.specs.declared.Change.TheVariants.{Set, Remove, Add}
 use Rattle.pc_types.specs.declared.Write.{Write}
-use Rattle.pc_types.specs.Changes.{fits, number_text}
+use Rattle.pc_types.specs.Changes.{fits_i64, number_text}
 use Rattle.pc_io.specs.declared.Format.{Format}
 use Rattle.pc_io.specs.declared.Format.TheVariants.{First, Second}
 use Rattle.pc_io.specs.Fields.{key_text_in, content_text, HasKey}
@@ -100,7 +100,7 @@ keys_of writes = map (λ (write : Write). write.key) writes
 abbrev pub IsChange : Change → Type 0
 IsChange Remove = ⊤
 IsChange (Set value) = IsValue value
-IsChange (Add d) = fits d ≡ true
+IsChange (Add d) = fits_i64 d ≡ true
 
 -- a write within the limits of keys, values and numbers
 abbrev pub IsWrite : Write → Type 0

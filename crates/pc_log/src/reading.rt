@@ -1,7 +1,7 @@
 //! A log is read from its text, which may have been truncated.
 ghost use Rattle.std.specs.Prelude.{◌≡◌, ◌<◌, [], length, IfOk, Ok, Err, Some};
 ghost use Rattle.pc_io.specs.Fields.{Gives, Reads};
-ghost use Rattle.pc_log.specs.Reading.{byte_at, change_at, write_at, writes_at, commit_at, token_at, kind_at, body_at, most_body_bytes, entry_at, entries_at, header_at, log_at, text_of, of_run, is_written};
+ghost use Rattle.pc_log.specs.Reading.{byte_at, change_at, write_at, writes_at, commit_at, token_at, kind_at, body_at, most_body_bytes, entry_at, entries_at, header_at, log_at, log_read, of_run, is_written};
 ghost use Rattle.pc_log.specs.Orders.{no_token};
 ghost use Rattle.pc_log.specs.Laws.{AreWholeEntries};
 
@@ -45,7 +45,7 @@ pub struct LogText {
 /// `BadRanges` if the header of 20 bytes has that fault, and with `OutOfMemory` only if a growth was refused. It allocates memory
 /// for the entries alone.
 pub fn read_log(alloc: Global, bytes: &[u8]) -> Result<LogText, Refusal>
-    ensures exact { Gives text_of result (log_at bytes.now) }
+    ensures exact { Gives log_read result (log_at bytes.now) }
     ensures whole { IfOk result (λ text. AreWholeEntries bytes.now text.run text.entries.items text.rest) }
 {
     read_text(alloc, bytes)
@@ -54,7 +54,7 @@ pub fn read_log(alloc: Global, bytes: &[u8]) -> Result<LogText, Refusal>
 // The header, and then the entries.
 #[tactic(auto, unfolding(crate::specs::Reading::log_at))]
 fn read_text(alloc: Global, bytes: &[u8]) -> Result<LogText, Refusal>
-    ensures { Gives text_of result (log_at bytes.now) }
+    ensures { Gives log_read result (log_at bytes.now) }
 {
     let (format, run, rest) = read_header(bytes)?;
     read_entries(alloc, format, run, rest)
@@ -78,7 +78,7 @@ pub fn read_header(bytes: &[u8]) -> Result<(Format, u64, &[u8]), Refusal>
 
 // As many entries as can be read in order.
 fn read_entries(alloc: Global, format: Format, run: u64, bytes: &[u8]) -> Result<LogText, Refusal>
-    ensures { Gives text_of result (Ok (of_run run (entries_at format (length bytes.now) no_token bytes.now))) }
+    ensures { Gives log_read result (Ok (of_run run (entries_at format (length bytes.now) no_token bytes.now))) }
 {
     let mut entries = Vec::new(alloc);
     let mut last = LastToken::none();
@@ -103,7 +103,7 @@ fn read_entries(alloc: Global, format: Format, run: u64, bytes: &[u8]) -> Result
 
 // The result if the rest has this fault, or an allocation failed.
 fn stopped(run: u64, entries: Vec<Entry>, rest: &[u8], fault: Refusal) -> Result<LogText, Refusal>
-    ensures read { Gives text_of result (Ok (record { run = run; entries = entries.items; rest = length rest.now; fault = Some fault })) }
+    ensures read { Gives log_read result (Ok (record { run = run; entries = entries.items; rest = length rest.now; fault = Some fault })) }
     ensures memory { fault ≡ Refusal.OutOfMemory → result ≡ Err Refusal.OutOfMemory }
 {
     if fault == Refusal::OutOfMemory {

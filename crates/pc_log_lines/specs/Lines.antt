@@ -3,7 +3,7 @@
 use Rattle.std.specs.Prelude.{ℕ, ◌+◌, ◌-◌, ◌&&◌, nat_le, if◌then◌else◌, List, [], ◌∷◌, ◌++◌, length, Option, Some, None, Result, Ok, Err, codes, decimal}
 use Rattle.std.specs.List.{flat_map}
 use Rattle.std.specs.Fmt.{signed_decimal}
-use Rattle.pc_types.specs.Names.{name_of}
+use Rattle.pc_types.specs.Names.{refusal_name}
 use Rattle.pc_types.specs.declared.Entry.{Entry}
 use Rattle.pc_types.specs.declared.Entry.TheVariants.{Commit, Token}
 use Rattle.pc_types.specs.declared.Change.{Change}
@@ -61,18 +61,18 @@ abbrev pub rest_found : LogReading → Rest
 rest_found found = record { bytes = found.rest; fault = found.fault }
 
 -- what is left of a log of this many bytes, of which this is read
-abbrev pub rest_of : ℕ → Result LogRead Refusal → Rest
-rest_of size (Ok log) = record { bytes = log.rest; fault = log.fault }
-rest_of size (Err why) = record { bytes = size; fault = Some why }
+abbrev pub rest_of_log : ℕ → Result LogRead Refusal → Rest
+rest_of_log size (Ok log) = record { bytes = log.rest; fault = log.fault }
+rest_of_log size (Err why) = record { bytes = size; fault = Some why }
 
 -- the line of a fault, and the byte with which what has it begins, counted from 1
 abbrev pub fault_line : Refusal → ℕ → List ℕ
-fault_line why byte = codes "log " ++ (name_of why ++ (codes " byte " ++ (decimal byte ++ codes "\n")))
+fault_line why byte = codes "log " ++ (refusal_name why ++ (codes " byte " ++ (decimal byte ++ codes "\n")))
 
 -- the line of the rest of a log of this many bytes: it is the fault's, if there is one
-abbrev pub line_of : ℕ → ℕ → Option Refusal → List ℕ
-line_of size left None = []
-line_of size left (Some why) = fault_line why (size - (left - 1))
+abbrev pub rest_line : ℕ → ℕ → Option Refusal → List ℕ
+rest_line size left None = []
+rest_line size left (Some why) = fault_line why (size - (left - 1))
 
 -- ---- a log
 
@@ -83,17 +83,17 @@ entry_lines range (Err why) = []
 
 -- all lines of a log of this many bytes, of which this is read and this is left
 abbrev pub lines_with : EntryRange → ℕ → Result LogRead Refusal → Rest → List ℕ
-lines_with range size read rest = entry_lines range read ++ line_of size rest.bytes rest.fault
+lines_with range size read rest = entry_lines range read ++ rest_line size rest.bytes rest.fault
 
 -- all lines of a log of these bytes
 abbrev pub log_lines : EntryRange → List ℕ → List ℕ
-log_lines range bytes = lines_with range (length bytes) (log_at bytes) (rest_of (length bytes) (log_at bytes))
+log_lines range bytes = lines_with range (length bytes) (log_at bytes) (rest_of_log (length bytes) (log_at bytes))
 
 -- the status: 4 if there is a fault
-abbrev pub status_of : Option Refusal → ℕ
-status_of None = 0
-status_of (Some why) = 4
+abbrev pub rest_status : Option Refusal → ℕ
+rest_status None = 0
+rest_status (Some why) = 4
 
 -- that of a log of these bytes
 abbrev pub log_status : List ℕ → ℕ
-log_status bytes = status_of (rest_of (length bytes) (log_at bytes)).fault
+log_status bytes = rest_status (rest_of_log (length bytes) (log_at bytes)).fault

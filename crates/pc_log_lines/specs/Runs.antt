@@ -18,8 +18,8 @@ abbrev pub PutsAll : {T : Type 0} → (T → Option (List ℕ)) → Tally T → 
 PutsAll contents old new text = Appends (contents (inner_of old)) (contents (inner_of new)) text × (failures_of new ≡ failures_of old)
 
 -- a prefix of a text went out: an allocation failed, and no call failed, or the device failed
-abbrev pub IsCutOff : {T : Type 0} → (T → Option (List ℕ)) → Tally T → Tally T → Refusal → List ℕ → Type 0
-IsCutOff contents old new why text =
+abbrev pub IsTextCutOff : {T : Type 0} → (T → Option (List ℕ)) → Tally T → Tally T → Refusal → List ℕ → Type 0
+IsTextCutOff contents old new why text =
     AppendsBeginning (contents (inner_of old)) (contents (inner_of new)) text
     × (((why ≡ OutOfMemory) × (failures_of new ≡ failures_of old)) ⊎ ((why ≡ Device) × HasRisen (failures_of old) (failures_of new)))
 
@@ -35,10 +35,10 @@ BeginsLines remaining contents opened range old new = (bytes : List ℕ) → Hol
 
 -- Why not all lines went out, and what went out then: the log can't be read, and nothing did; or a prefix, since an allocation
 -- failed or the output failed, which was counted.
-abbrev pub IsLogLost : {R T : Type 0} → (R → Option (List ℕ)) → (T → Option (List ℕ)) → Result R Refusal → EntryRange → Tally T → Tally T → LostLog R → Type 0
-IsLogLost remaining contents opened range old new (lost.Unread why) = IsUnread opened why × (new ≡ old)
-IsLogLost remaining contents opened range old new lost.NoMemory = IsOk opened × BeginsLines remaining contents opened range old new
-IsLogLost remaining contents opened range old new lost.Output = IsOk opened × HasRisen (failures_of old) (failures_of new) × BeginsLines remaining contents opened range old new
+abbrev pub IsLogUnprinted : {R T : Type 0} → (R → Option (List ℕ)) → (T → Option (List ℕ)) → Result R Refusal → EntryRange → Tally T → Tally T → LostLog R → Type 0
+IsLogUnprinted remaining contents opened range old new (lost.Unread why) = IsUnread opened why × (new ≡ old)
+IsLogUnprinted remaining contents opened range old new lost.NoMemory = IsOk opened × BeginsLines remaining contents opened range old new
+IsLogUnprinted remaining contents opened range old new lost.Output = IsOk opened × HasRisen (failures_of old) (failures_of new) × BeginsLines remaining contents opened range old new
 
 -- the line of it on the error writer, if the log has this name; none for an output that failed
 abbrev pub IsLostTold : {R T : Type 0} → (T → Option (List ℕ)) → Tally T → Tally T → List ℕ → LostLog R → Type 0

@@ -2,7 +2,7 @@
 ghost use Rattle.std.specs.Prelude.{◌≡◌, ◌++◌, codes, decimal};
 ghost use Rattle.std.specs.List.{flat_map};
 ghost use Rattle.std.specs.Fmt.{signed_decimal};
-ghost use Rattle.pc_types.specs.Names.{name_of};
+ghost use Rattle.pc_types.specs.Names.{refusal_name};
 ghost use Rattle.pc_io.specs.Tallies.{Puts};
 ghost use Rattle.pc_texts.specs.Texts.{printed, printed_key};
 ghost use Rattle.pc_log_lines.specs.Lines.{change_words, entry_line, entry_words, fault_line, later_words, write_words, writes_words};

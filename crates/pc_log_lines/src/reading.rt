@@ -3,8 +3,8 @@ ghost use Rattle.std.specs.Prelude.{◌≡◌, ◌⊎◌, length, ◌-◌, Some,
 ghost use Rattle.pc_io.specs.Tallies.{Puts};
 ghost use Rattle.pc_log.specs.Orders.{no_token};
 ghost use Rattle.pc_log.specs.Reading.{all_at, log_at};
-ghost use Rattle.pc_log_lines.specs.Lines.{entry_lines, line_of, line_within, lines_behind, log_lines, log_status, rest_found, rest_of, status_of};
-ghost use Rattle.pc_log_lines.specs.Runs.{IsCutOff, PutsAll};
+ghost use Rattle.pc_log_lines.specs.Lines.{entry_lines, rest_line, line_within, lines_behind, log_lines, log_status, rest_found, rest_of_log, rest_status};
+ghost use Rattle.pc_log_lines.specs.Runs.{IsTextCutOff, PutsAll};
 
 use crate::lines::{put_entry_line, put_fault_line};
 use pc_io::{Format, Tally};
@@ -44,7 +44,7 @@ pub(crate) fn put_log<W: Write>(
     ensures status { IfOk result (λ status. status ≡ log_status bytes.now) }
     ensures statuses { IfOk result (λ status. (status ≡ WHOLE) ⊎ (status ≡ FAULTY)) }
     ensures all { OnOk result (PutsAll W.contents out.old out.new (log_lines range bytes.now)) }
-    ensures part { IfErr result (λ why. IsCutOff W.contents out.old out.new why (log_lines range bytes.now)) }
+    ensures part { IfErr result (λ why. IsTextCutOff W.contents out.old out.new why (log_lines range bytes.now)) }
 {
     let rest = put_entries(alloc, range, bytes, out)?;
     put_rest(out, bytes.len(), rest)
@@ -58,9 +58,9 @@ fn put_entries<W: Write>(
     bytes: &[u8],
     out: &mut Tally<W>,
 ) -> Result<Rest, Refusal>
-    ensures rest { IfOk result (λ rest. rest ≡ rest_of (length bytes.now) (log_at bytes.now)) }
+    ensures rest { IfOk result (λ rest. rest ≡ rest_of_log (length bytes.now) (log_at bytes.now)) }
     ensures all { OnOk result (PutsAll W.contents out.old out.new (entry_lines range (log_at bytes.now))) }
-    ensures part { IfErr result (λ why. IsCutOff W.contents out.old out.new why (entry_lines range (log_at bytes.now))) }
+    ensures part { IfErr result (λ why. IsTextCutOff W.contents out.old out.new why (entry_lines range (log_at bytes.now))) }
 {
     match read_header(bytes) {
         Ok((format, _, behind)) => put_behind(alloc, format, range, behind, out),
@@ -81,7 +81,7 @@ fn put_behind<W: Write>(
 ) -> Result<Rest, Refusal>
     ensures rest { IfOk result (λ rest. rest ≡ rest_found (all_at format no_token bytes.now)) }
     ensures all { OnOk result (PutsAll W.contents out.old out.new (lines_behind range 0 (all_at format no_token bytes.now).entries)) }
-    ensures part { IfErr result (λ why. IsCutOff W.contents out.old out.new why (lines_behind range 0 (all_at format no_token bytes.now).entries)) }
+    ensures part { IfErr result (λ why. IsTextCutOff W.contents out.old out.new why (lines_behind range 0 (all_at format no_token bytes.now).entries)) }
 {
     let mut last = LastToken::none();
     let mut rest = bytes;
@@ -135,10 +135,10 @@ fn stopped(bytes: usize, fault: Refusal) -> Result<Rest, Refusal>
 
 // The line of the fault of what is left of a log of this many bytes, if there is one; the status.
 fn put_rest<W: Write>(out: &mut Tally<W>, size: usize, rest: Rest) -> Result<u8, Refusal>
-    ensures status { IfOk result (λ status. status ≡ status_of rest.fault) }
+    ensures status { IfOk result (λ status. status ≡ rest_status rest.fault) }
     ensures statuses { IfOk result (λ status. (status ≡ WHOLE) ⊎ (status ≡ FAULTY)) }
-    ensures all { OnOk result (Puts W.contents out.old out.new (Ok tt) (line_of size rest.bytes rest.fault)) }
-    ensures part { IfErr result (λ why. Puts W.contents out.old out.new (Err why) (line_of size rest.bytes rest.fault)) }
+    ensures all { OnOk result (Puts W.contents out.old out.new (Ok tt) (rest_line size rest.bytes rest.fault)) }
+    ensures part { IfErr result (λ why. Puts W.contents out.old out.new (Err why) (rest_line size rest.bytes rest.fault)) }
 {
     let Rest { bytes: left, fault } = rest;
     match fault {

@@ -5,7 +5,7 @@ ghost use Rattle.pc_io.specs.Tallies.{failures_of};
 ghost use Rattle.pc_texts.specs.Files.{HoldsBytes, IsUnread};
 ghost use Rattle.pc_texts.specs.declared.files.Unread.{Unread};
 ghost use Rattle.pc_log_lines.specs.declared.run.LostLog.{LostLog};
-ghost use Rattle.pc_log_lines.specs.Runs.{IsLogLost, IsLostTold, PrintsLines};
+ghost use Rattle.pc_log_lines.specs.Runs.{IsLogUnprinted, IsLostTold, PrintsLines};
 
 use crate::reading::{EntryRange, put_log};
 use pc_io::Tally;
@@ -54,7 +54,7 @@ pub fn run_log<R: Read + Drop, W: Write, E: Write>(
     ensures lines { ¬ (result.status ≡ 1) → PrintsLines R.remaining W.contents opened range out.old out.new result.status }
     ensures sound { ¬ (result.status ≡ 1) → failures_of out.new ≡ failures_of out.old }
     ensures quiet { ¬ (result.status ≡ 1) → errors.new ≡ errors.old }
-    ensures cause { result.status ≡ 1 → MatchOption result.lost ⊥ (λ lost. IsLogLost R.remaining W.contents opened range out.old out.new lost × IsLostTold E.contents errors.old errors.new name.now lost) }
+    ensures cause { result.status ≡ 1 → MatchOption result.lost ⊥ (λ lost. IsLogUnprinted R.remaining W.contents opened range out.old out.new lost × IsLostTold E.contents errors.old errors.new name.now lost) }
 {
     match print_log(alloc, opened, range, out) {
         Ok(status) => EndedLog { status, lost: None },
@@ -78,7 +78,7 @@ fn print_log<R: Read + Drop, W: Write>(
     ensures statuses { IfOk result (λ status. (status ≡ 0) ⊎ (status ≡ 4)) }
     ensures lines { IfOk result (λ status. PrintsLines R.remaining W.contents opened range out.old out.new status) }
     ensures sound { OnOk result (failures_of out.new ≡ failures_of out.old) }
-    ensures cause { IfErr result (λ lost. IsLogLost R.remaining W.contents opened range out.old out.new lost) }
+    ensures cause { IfErr result (λ lost. IsLogUnprinted R.remaining W.contents opened range out.old out.new lost) }
 {
     let bytes = read_bytes(alloc, opened)?;
     let put = put_log(alloc, range, &bytes, out);

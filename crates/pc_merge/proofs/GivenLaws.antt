@@ -11,14 +11,14 @@ use Rattle.pc_types.specs.declared.Triple.{Triple}
 use Rattle.pc_model.specs.Maps as map_of
 use Rattle.pc_model.specs.Database.{key_cmp, key_order, same_bytes, KeysRise}
 use Rattle.pc_model.specs.Points.{AtPoint, Triples, later}
-use Rattle.pc_model.specs.TripleLists.{entry_of, entries_of, triples_of}
+use Rattle.pc_model.specs.TripleLists.{entry_of, map_entries, triples_of}
 use Rattle.pc_model.proofs.JoinLaws.{get-joined, one_key}
 use Rattle.pc_model.proofs.MapLaws.{get-empty, get-from_list, same_map}
 use Rattle.pc_model.proofs.RisingLaws.{and_of, both, lesser_below, none_below}
 use Rattle.pc_merge.specs.Coming.{Coming, ended}
 use Rattle.pc_merge.specs.Drawing.{AreRests, IsRest, input_at}
 use Rattle.pc_merge.specs.Given.{HasGiven, joined_all, IsUnderAt, IsUnder, EndsAreMerges, GivenGrows, CausesStand}
-use Rattle.pc_merge.specs.Merging.{AreEnded, GivesFirst, IsBelow, IsBest, IsCause, IsNewest, all_behind, behind, entries_behind, first_of, firsts_of}
+use Rattle.pc_merge.specs.Merging.{AreEnded, GivesFirst, IsBelow, IsBest, IsCause, IsNewest, all_behind, input_after_key, entries_behind, first_to_come, firsts_of}
 use Rattle.pc_merge.proofs.PassingLaws.{cause_before, rest_behind}
 
 -- ---- one entry more
@@ -29,28 +29,28 @@ given_grows start (one ∷ given) left entry has first = (has.0, given_grows (al
 
 -- ---- places
 
-behind_at : (key : List ℕ) (inputs : List Coming) (place : ℕ) → input_at (all_behind key inputs) place ≡ behind key (input_at inputs place)
+behind_at : (key : List ℕ) (inputs : List Coming) (place : ℕ) → input_at (all_behind key inputs) place ≡ input_after_key key (input_at inputs place)
 behind_at key [] place = refl
 behind_at key (input ∷ inputs) zero = refl
 behind_at key (input ∷ inputs) (suc place) = behind_at key inputs place
 
-first_at_place : (inputs : List Coming) (place : ℕ) → get_or (firsts_of inputs) place None ≡ first_of (input_at inputs place)
+first_at_place : (inputs : List Coming) (place : ℕ) → get_or (firsts_of inputs) place None ≡ first_to_come (input_at inputs place)
 first_at_place [] place = refl
 first_at_place (input ∷ inputs) zero = refl
 first_at_place (input ∷ inputs) (suc place) = first_at_place inputs place
 
 -- what holds of all first entries holds at each place
-of_first : (P : Option Triple → Type 0) (inputs : List Coming) → P None → All P (firsts_of inputs) → (place : ℕ) → P (first_of (input_at inputs place))
+of_first : (P : Option Triple → Type 0) (inputs : List Coming) → P None → All P (firsts_of inputs) → (place : ℕ) → P (first_to_come (input_at inputs place))
 of_first P inputs none all place = subst P (first_at_place inputs place) (⊎_elim
     (λ (less : place < length (firsts_of inputs)). all place None less)
     (λ more. subst P (sym (get_or_past (firsts_of inputs) place None more)) none)
     (cases_lt place (length (firsts_of inputs))))
 
-rises_at : (inputs : List Coming) (entry : Triple) → GivesFirst inputs entry → (place : ℕ) → IsBelow entry.key (first_of (behind entry.key (input_at inputs place)))
-rises_at inputs entry first place = subst (λ (c : Coming). IsBelow entry.key (first_of c)) (behind_at entry.key inputs place) (of_first (IsBelow entry.key) (all_behind entry.key inputs) tt first.rises place)
+rises_at : (inputs : List Coming) (entry : Triple) → GivesFirst inputs entry → (place : ℕ) → IsBelow entry.key (first_to_come (input_after_key entry.key (input_at inputs place)))
+rises_at inputs entry first place = subst (λ (c : Coming). IsBelow entry.key (first_to_come c)) (behind_at entry.key inputs place) (of_first (IsBelow entry.key) (all_behind entry.key inputs) tt first.rises place)
 
 -- the place of the entry that is given
-place_of : (inputs : List Coming) (entry : Triple) → Contains (firsts_of inputs) (Some entry) → (place : ℕ) × (first_of (input_at inputs place) ≡ Some entry)
+place_of : (inputs : List Coming) (entry : Triple) → Contains (firsts_of inputs) (Some entry) → (place : ℕ) × (first_to_come (input_at inputs place) ≡ Some entry)
 place_of inputs entry there = (there.0, sym (first_at_place inputs there.0) ∙ get_or_default (firsts_of inputs) there.0 None (Some entry) there.1 ∙ there.2)
 
 -- each input that has ended
@@ -65,7 +65,7 @@ all_from_each P inputs each place other within = subst P (get_or_default inputs 
 
 rests_behind : (key : List ℕ) (inputs : List Coming) → AreRests inputs (all_behind key inputs)
 rests_behind key inputs = record {
-  many = length-map inputs (behind key);
+  many = length-map inputs (input_after_key key);
   each = λ place. subst (IsRest (input_at inputs place)) (sym (behind_at key inputs place)) (rest_behind key (input_at inputs place));
 }
 
@@ -75,27 +75,27 @@ causes_stand start (entry ∷ given) left why has cause = cause_before start (al
 
 -- ---- keys that ascend
 
-below_first : (key : List ℕ) (entries : List Triple) → KeysRise (entries_of entries) → IsBelow key (slice_get entries 0) → below_all key_cmp key (entries_of entries) ≡ true
+below_first : (key : List ℕ) (entries : List Triple) → KeysRise (map_entries entries) → IsBelow key (slice_get entries 0) → below_all key_cmp key (map_entries entries) ≡ true
 below_first key [] rise below = refl
 below_first key (entry ∷ entries) rise below =
-    let parts = both (below_all key_cmp entry.key (entries_of entries)) (is_sorted key_cmp (entries_of entries)) rise in
-    and_of (is_lt (key_cmp key entry.key)) (below_all key_cmp key (entries_of entries)) (ap is_lt below) (lesser_below key entry.key (entries_of entries) below parts.0)
+    let parts = both (below_all key_cmp entry.key (map_entries entries)) (is_sorted key_cmp (map_entries entries)) rise in
+    and_of (is_lt (key_cmp key entry.key)) (below_all key_cmp key (map_entries entries)) (ap is_lt below) (lesser_below key entry.key (map_entries entries) below parts.0)
 
-rise_whole : (key : List ℕ) (entries : List Triple) → KeysRise (entries_of (entries_behind key entries)) → IsBelow key (slice_get (entries_behind key entries) 0) → KeysRise (entries_of entries)
+rise_whole : (key : List ℕ) (entries : List Triple) → KeysRise (map_entries (entries_behind key entries)) → IsBelow key (slice_get (entries_behind key entries) 0) → KeysRise (map_entries entries)
 rise_whole key [] rise below = rise
 rise_whole key (entry ∷ entries) rise below = by (same_bytes entry.key key) refl rise below
   where
-    by : (b : Bool) → same_bytes entry.key key ≡ b → KeysRise (entries_of (cond b entries (entry ∷ entries))) → IsBelow key (slice_get (cond b entries (entry ∷ entries)) 0) → KeysRise (entries_of (entry ∷ entries))
-    by true same rise below = and_of (below_all key_cmp entry.key (entries_of entries)) (is_sorted key_cmp (entries_of entries))
-        (subst (λ k. below_all key_cmp k (entries_of entries) ≡ true) (sym (one_key entry.key key same)) (below_first key entries rise below)) rise
+    by : (b : Bool) → same_bytes entry.key key ≡ b → KeysRise (map_entries (cond b entries (entry ∷ entries))) → IsBelow key (slice_get (cond b entries (entry ∷ entries)) 0) → KeysRise (map_entries (entry ∷ entries))
+    by true same rise below = and_of (below_all key_cmp entry.key (map_entries entries)) (is_sorted key_cmp (map_entries entries))
+        (subst (λ k. below_all key_cmp k (map_entries entries) ≡ true) (sym (one_key entry.key key same)) (below_first key entries rise below)) rise
     by false other rise below = rise
 
 module _ (left : List Coming) (all : AreEnded left) where
-  inputs_rise : (start : List Coming) (given : List Triple) → HasGiven start given left → (place : ℕ) → KeysRise (entries_of (input_at start place).entries)
-  inputs_rise start [] has place = subst (λ (c : Coming). KeysRise (entries_of c.entries)) (sym (ap (λ cs. input_at cs place) has ∙ ended_at left all place)) refl
+  inputs_rise : (start : List Coming) (given : List Triple) → HasGiven start given left → (place : ℕ) → KeysRise (map_entries (input_at start place).entries)
+  inputs_rise start [] has place = subst (λ (c : Coming). KeysRise (map_entries c.entries)) (sym (ap (λ cs. input_at cs place) has ∙ ended_at left all place)) refl
   inputs_rise start (entry ∷ given) has place =
       rise_whole entry.key (input_at start place).entries
-      (subst (λ (c : Coming). KeysRise (entries_of c.entries)) (behind_at entry.key start place) (inputs_rise (all_behind entry.key start) given has.1 place))
+      (subst (λ (c : Coming). KeysRise (map_entries c.entries)) (behind_at entry.key start place) (inputs_rise (all_behind entry.key start) given has.1 place))
       (rises_at start entry has.0 place)
 
   no_faults : (start : List Coming) (given : List Triple) → HasGiven start given left → (place : ℕ) → (input_at start place).fault ≡ None
@@ -103,22 +103,22 @@ module _ (left : List Coming) (all : AreEnded left) where
   no_faults start (entry ∷ given) has place = sym (ap (λ (c : Coming). c.fault) (behind_at entry.key start place)) ∙ no_faults (all_behind entry.key start) given has.1 place
 
   -- the next entry is above the last one
-  next_above : (key : List ℕ) (start : List Coming) (given : List Triple) → ((place : ℕ) → IsBelow key (first_of (input_at start place))) → HasGiven start given left → IsBelow key (slice_get given 0)
+  next_above : (key : List ℕ) (start : List Coming) (given : List Triple) → ((place : ℕ) → IsBelow key (first_to_come (input_at start place))) → HasGiven start given left → IsBelow key (slice_get given 0)
   next_above key start [] above has = tt
   next_above key start (entry ∷ given) above has = let there = place_of start entry has.0.of in subst (IsBelow key) there.1 (above there.0)
 
-  given_rise : (start : List Coming) (given : List Triple) → HasGiven start given left → KeysRise (entries_of given)
+  given_rise : (start : List Coming) (given : List Triple) → HasGiven start given left → KeysRise (map_entries given)
   given_rise start [] has = refl
   given_rise start (entry ∷ given) has =
       let rest = given_rise (all_behind entry.key start) given has.1 in
-      and_of (below_all key_cmp entry.key (entries_of given)) (is_sorted key_cmp (entries_of given))
-      (below_first entry.key given rest (next_above entry.key (all_behind entry.key start) given (λ place. subst (λ (c : Coming). IsBelow entry.key (first_of c)) (sym (behind_at entry.key start place)) (rises_at start entry has.0 place)) has.1))
+      and_of (below_all key_cmp entry.key (map_entries given)) (is_sorted key_cmp (map_entries given))
+      (below_first entry.key given rest (next_above entry.key (all_behind entry.key start) given (λ place. subst (λ (c : Coming). IsBelow entry.key (first_to_come c)) (sym (behind_at entry.key start place)) (rises_at start entry has.0 place)) has.1))
       rest
 
 -- ---- what each key has
 
 abbrev found : List ℕ → List Triple → Option AtPoint
-found key entries = find key_cmp key (entries_of entries)
+found key entries = find key_cmp key (map_entries entries)
 
 abbrev at_point : Triple → AtPoint
 at_point entry = (entry_of entry).1
@@ -132,9 +132,9 @@ found_first : (key : List ℕ) (entry : Triple) (entries : List Triple) → key 
 found_first key entry entries same = ap (λ (b : Bool). cond b (Some (at_point entry)) (found key entries)) (ap (same_bytes key) (sym same) ∙ ap is_eq (tied_itself key_order.total key))
 
 -- an input that begins with an entry that is no better
-under_best : (entry : Triple) (entries : List Triple) → KeysRise (entries_of entries) → IsBest entry (slice_get entries 0) → IsUnderAt (found entry.key entries) (Some (at_point entry))
+under_best : (entry : Triple) (entries : List Triple) → KeysRise (map_entries entries) → IsBest entry (slice_get entries 0) → IsUnderAt (found entry.key entries) (Some (at_point entry))
 under_best entry [] rise best = tt
-under_best entry (first ∷ entries) rise (inl less) = subst (λ x. IsUnderAt x (Some (at_point entry))) (sym (none_below entry.key (entries_of (first ∷ entries)) (below_first entry.key (first ∷ entries) rise less))) tt
+under_best entry (first ∷ entries) rise (inl less) = subst (λ x. IsUnderAt x (Some (at_point entry))) (sym (none_below entry.key (map_entries (first ∷ entries)) (below_first entry.key (first ∷ entries) rise less))) tt
 under_best entry (first ∷ entries) rise (inr (same, newest)) = subst (λ x. IsUnderAt x (Some (at_point entry))) (sym (found_first entry.key first entries same)) (older newest)
   where
     older : IsNewest entry first → (first.point < entry.point) ⊎ (at_point first ≡ at_point entry)
@@ -211,7 +211,7 @@ module _ (key : List ℕ) where
 
   joined_more : (input : Coming) (inputs : List Coming) → joined_at (input ∷ inputs) ≡ later (found key input.entries) (joined_at inputs)
   joined_more input inputs = get-joined (triples_of input.entries) (joined_all (each_triples inputs)) key
-      ∙ ap (λ x. later x (joined_at inputs)) (get-from_list key_order (entries_of input.entries) key)
+      ∙ ap (λ x. later x (joined_at inputs)) (get-from_list key_order (map_entries input.entries) key)
 
   joined_under : (inputs : List Coming) (top : Option AtPoint) → ((place : ℕ) → IsUnderAt (found key (input_at inputs place).entries) top) → IsUnderAt (joined_at inputs) top
   joined_under [] top under = subst (λ x. IsUnderAt x top) (sym (get-empty key_order key)) tt
@@ -233,10 +233,10 @@ module _ (key : List ℕ) where
 pub ends_are_merges : EndsAreMerges
 ends_are_merges start given left has all = record {
   rise = given_rise left all start given has;
-  joined = same_map (triples_of given) (joined_all (each_triples start)) (λ key. get-from_list key_order (entries_of given) key ∙ sym (joined_is key start (found key given) (tops left all key start given has)));
+  joined = same_map (triples_of given) (joined_all (each_triples start)) (λ key. get-from_list key_order (map_entries given) key ∙ sym (joined_is key start (found key given) (tops left all key start given has)));
   over = all_from_each (λ (input : Coming). IsUnder (triples_of input.entries) (triples_of given)) start (λ place key.
-      subst (IsUnderAt (map_of.get (triples_of (input_at start place).entries) key)) (sym (get-from_list key_order (entries_of given) key))
-      (subst (λ x. IsUnderAt x (found key given)) (sym (get-from_list key_order (entries_of (input_at start place).entries) key)) ((tops left all key start given has).under place)));
-  inputs_rise = all_from_each (λ (input : Coming). KeysRise (entries_of input.entries)) start (inputs_rise left all start given has);
+      subst (IsUnderAt (map_of.get (triples_of (input_at start place).entries) key)) (sym (get-from_list key_order (map_entries given) key))
+      (subst (λ x. IsUnderAt x (found key given)) (sym (get-from_list key_order (map_entries (input_at start place).entries) key)) ((tops left all key start given has).under place)));
+  inputs_rise = all_from_each (λ (input : Coming). KeysRise (map_entries input.entries)) start (inputs_rise left all start given has);
   no_fault = all_from_each (λ (input : Coming). input.fault ≡ None) start (no_faults left all start given has);
 }

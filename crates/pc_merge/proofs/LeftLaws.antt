@@ -6,9 +6,9 @@ use Rattle.pc_types.specs.declared.Triple.{Triple}
 use Rattle.pc_types.specs.declared.Refusal.{Refusal}
 use Rattle.pc_merge.specs.Coming.{Coming, ended, after_entry}
 use Rattle.pc_merge.specs.Drawing.{input_at}
-use Rattle.pc_merge.specs.Inputs.{known_with, all_known, left_of, each_left, all_left, if_ended, coming_at}
-use Rattle.pc_merge.specs.Merging.{first_of, firsts_of}
-use Rattle.pc_merge.specs.Tournaments.{at}
+use Rattle.pc_merge.specs.Inputs.{known_with, all_known, rest_of_input, each_left, all_left, if_ended, coming_at}
+use Rattle.pc_merge.specs.Merging.{first_to_come, firsts_of}
+use Rattle.pc_merge.specs.Tournaments.{first_entry_at}
 
 -- ---- if all is known
 
@@ -61,7 +61,7 @@ known_each (input ∷ inputs) (one ∷ was) size each =
 
 -- ---- each input beside its first entry
 
-each_left_at : (inputs : List (Option Coming)) (firsts : List (Option Triple)) (place : ℕ) → length inputs ≡ length firsts → coming_at (each_left inputs firsts) place ≡ left_of (at firsts place) (coming_at inputs place)
+each_left_at : (inputs : List (Option Coming)) (firsts : List (Option Triple)) (place : ℕ) → length inputs ≡ length firsts → coming_at (each_left inputs firsts) place ≡ rest_of_input (first_entry_at firsts place) (coming_at inputs place)
 each_left_at [] [] place size = refl
 each_left_at [] (first ∷ firsts) place size = absurd (omega arith)
 each_left_at (input ∷ inputs) [] place size = absurd (omega arith)
@@ -73,12 +73,12 @@ each_left_length [] firsts size = refl
 each_left_length (input ∷ inputs) [] size = absurd (omega arith)
 each_left_length (input ∷ inputs) (first ∷ firsts) size = ap suc (each_left_length inputs firsts (omega arith))
 
-each_left_set : (inputs : List (Option Coming)) (firsts : List (Option Triple)) (place : ℕ) (input : Option Coming) (first : Option Triple) → length inputs ≡ length firsts → each_left (set inputs place input) (set firsts place first) ≡ set (each_left inputs firsts) place (left_of first input)
+each_left_set : (inputs : List (Option Coming)) (firsts : List (Option Triple)) (place : ℕ) (input : Option Coming) (first : Option Triple) → length inputs ≡ length firsts → each_left (set inputs place input) (set firsts place first) ≡ set (each_left inputs firsts) place (rest_of_input first input)
 each_left_set [] [] place c f size = refl
 each_left_set [] (first ∷ firsts) place c f size = absurd (omega arith)
 each_left_set (input ∷ inputs) [] place c f size = absurd (omega arith)
 each_left_set (input ∷ inputs) (first ∷ firsts) zero c f size = refl
-each_left_set (input ∷ inputs) (first ∷ firsts) (suc place) c f size = ap (λ (all : List (Option Coming)). left_of first input ∷ all) (each_left_set inputs firsts place c f (omega arith))
+each_left_set (input ∷ inputs) (first ∷ firsts) (suc place) c f size = ap (λ (all : List (Option Coming)). rest_of_input first input ∷ all) (each_left_set inputs firsts place c f (omega arith))
 
 -- ---- all that is left
 
@@ -86,15 +86,15 @@ module _ (inputs : List (Option Coming)) (firsts : List (Option Triple)) (was : 
   pub left_length : length was ≡ length inputs
   left_length = known_length (each_left inputs firsts) was left ∙ each_left_length inputs firsts size
 
-  pub left_at : (place : ℕ) → place < length inputs → left_of (at firsts place) (coming_at inputs place) ≡ Some (input_at was place)
+  pub left_at : (place : ℕ) → place < length inputs → rest_of_input (first_entry_at firsts place) (coming_at inputs place) ≡ Some (input_at was place)
   left_at place within = sym (each_left_at inputs firsts place size) ∙ known_at (each_left inputs firsts) was place left (rw (each_left_length inputs firsts size) within)
 
-  pub left_set : (place : ℕ) (input : Option Coming) (first : Option Triple) (now : Coming) → left_of first input ≡ Some now → all_left (set inputs place input) (set firsts place first) ≡ Some (set was place now)
+  pub left_set : (place : ℕ) (input : Option Coming) (first : Option Triple) (now : Coming) → rest_of_input first input ≡ Some now → all_left (set inputs place input) (set firsts place first) ≡ Some (set was place now)
   left_set place input first now is =
       ap all_known (each_left_set inputs firsts place input first size ∙ ap (set (each_left inputs firsts) place) is)
       ∙ known_set (each_left inputs firsts) was place now left
 
-pub left_each : (inputs : List (Option Coming)) (firsts : List (Option Triple)) (now : List Coming) → length inputs ≡ length firsts → length now ≡ length inputs → ((place : ℕ) → place < length inputs → left_of (at firsts place) (coming_at inputs place) ≡ Some (input_at now place)) → all_left inputs firsts ≡ Some now
+pub left_each : (inputs : List (Option Coming)) (firsts : List (Option Triple)) (now : List Coming) → length inputs ≡ length firsts → length now ≡ length inputs → ((place : ℕ) → place < length inputs → rest_of_input (first_entry_at firsts place) (coming_at inputs place) ≡ Some (input_at now place)) → all_left inputs firsts ≡ Some now
 left_each inputs firsts now size many each =
     let same = each_left_length inputs firsts size in
     known_each (each_left inputs firsts) now (many ∙ sym same) (λ place within. each_left_at inputs firsts place size ∙ each place (omega (arith, same, within)))
@@ -110,28 +110,28 @@ pub record IsDrawn (entry : Triple) (input : Option Coming) (was : Coming) : Typ
   pub known : input ≡ Some rest
   pub are : was ≡ after_entry entry rest
 
-pub drawn_first : (entry : Triple) (input : Option Coming) (was : Coming) → left_of (Some entry) input ≡ Some was → IsDrawn entry input was
+pub drawn_first : (entry : Triple) (input : Option Coming) (was : Coming) → rest_of_input (Some entry) input ≡ Some was → IsDrawn entry input was
 drawn_first entry None was is = cc
 drawn_first entry (Some rest) was is = record { rest = rest; known = refl; are = cc }
 
-pub first_left : (first : Option Triple) (input : Option Coming) (was : Coming) → left_of first input ≡ Some was → first_of was ≡ first
-first_left None (Some input) was is = ap first_of (none_left input.entries input.fault was is)
+pub first_left : (first : Option Triple) (input : Option Coming) (was : Coming) → rest_of_input first input ≡ Some was → first_to_come was ≡ first
+first_left None (Some input) was is = ap first_to_come (none_left input.entries input.fault was is)
 first_left None None was is = cc
 first_left (Some entry) None was is = cc
-first_left (Some entry) (Some input) was is = let same : was ≡ after_entry entry input = cc in ap first_of same
+first_left (Some entry) (Some input) was is = let same : was ≡ after_entry entry input = cc in ap first_to_come same
 
 module _ (inputs : List (Option Coming)) (firsts : List (Option Triple)) (was : List Coming) (size : length inputs ≡ length firsts) (left : all_left inputs firsts ≡ Some was) where
   -- the first entry of what is left is at the input's place
-  pub first_at : (place : ℕ) → first_of (input_at was place) ≡ at firsts place
+  pub first_at : (place : ℕ) → first_to_come (input_at was place) ≡ first_entry_at firsts place
   first_at place = ⊎_elim
-      (λ (less : place < length inputs). first_left (at firsts place) (coming_at inputs place) (input_at was place) (left_at inputs firsts was size left place less))
+      (λ (less : place < length inputs). first_left (first_entry_at firsts place) (coming_at inputs place) (input_at was place) (left_at inputs firsts was size left place less))
       (λ more.
       let many = left_length inputs firsts was size left in
-      ap first_of (get_or_past was place ended (omega (arith, many, more))) ∙ sym (get_or_past firsts place None (omega (arith, size, more))))
+      ap first_to_come (get_or_past was place ended (omega (arith, many, more))) ∙ sym (get_or_past firsts place None (omega (arith, size, more))))
       (cases_lt place (length inputs))
 
   pub firsts_are : firsts_of was ≡ firsts
   firsts_are =
       let many = left_length inputs firsts was size left in
-      let mapped = length-map was first_of in
-      ext_get_or None (firsts_of was) firsts (omega (arith, many, size, mapped)) (λ place within. get_or-map first_of was place ended None (omega (arith, mapped, within)) ∙ first_at place)
+      let mapped = length-map was first_to_come in
+      ext_get_or None (firsts_of was) firsts (omega (arith, many, size, mapped)) (λ place within. get_or-map first_to_come was place ended None (omega (arith, mapped, within)) ∙ first_at place)

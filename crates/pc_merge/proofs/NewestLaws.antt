@@ -12,8 +12,8 @@ use Rattle.pc_model.specs.Database.{key_cmp, key_order}
 use Rattle.pc_merge.specs.Coming.{Coming, ended}
 use Rattle.pc_merge.specs.Drawing.{ArePassing, AreRests, HasCause, HasPassed, IsPassing, Passes, StaysOrPassed, input_at}
 use Rattle.pc_merge.specs.Inputs.{all_left}
-use Rattle.pc_merge.specs.Merging.{GivesFirst, IsBelow, IsBest, IsCause, IsNewest, all_behind, behind, first_of, firsts_of}
-use Rattle.pc_merge.specs.Tournaments.{at, IsNoLater}
+use Rattle.pc_merge.specs.Merging.{GivesFirst, IsBelow, IsBest, IsCause, IsNewest, all_behind, input_after_key, first_to_come, firsts_of}
+use Rattle.pc_merge.specs.Tournaments.{first_entry_at, IsNoLater}
 use Rattle.pc_merge.proofs.LeftLaws.{first_at, left_length}
 use Rattle.pc_merge.proofs.PlacesLeft.{having, having_less}
 use Rattle.pc_merge.proofs.PassingLaws.{all_above, beginning, behind_set, cause_before, first_among, rest_behind, rests_begin, rests_set}
@@ -44,42 +44,42 @@ not_below key entry same less = let bad = sym (tied_itself key_order.total key) 
 
 -- ---- one input is passed
 
-module _ (was now : List Coming) (place : ℕ) (other : Triple) (within : place < length now) (first : first_of (input_at now place) ≡ Some other) (rises : IsBelow other.key (first_of (behind other.key (input_at now place)))) where
+module _ (was now : List Coming) (place : ℕ) (other : Triple) (within : place < length now) (first : first_to_come (input_at now place) ≡ Some other) (rises : IsBelow other.key (first_to_come (input_after_key other.key (input_at now place)))) where
   -- the first one
-  pub passing_begins : now ≡ was → IsPassing was (set now place (behind other.key (input_at now place))) other
+  pub passing_begins : now ≡ was → IsPassing was (set now place (input_after_key other.key (input_at now place))) other
   passing_begins same = record {
-    of = first_among was place other (subst (λ (cs : List Coming). first_of (input_at cs place) ≡ Some other) same first);
+    of = first_among was place other (subst (λ (cs : List Coming). first_to_come (input_at cs place) ≡ Some other) same first);
     each = λ p. ⊎_elim
         (λ (own : p ≡ place). inr (
-          subst (IsBest other) (sym first ∙ ap first_of ((λ i. input_at (same i) place) ∙ sym (ap (input_at was) own))) (inr (refl, inr refl)),
-          rw (own, get_or-set_same now place (behind other.key (input_at now place)) ended within) rises,
+          subst (IsBest other) (sym first ∙ ap first_to_come ((λ i. input_at (same i) place) ∙ sym (ap (input_at was) own))) (inr (refl, inr refl)),
+          rw (own, get_or-set_same now place (input_after_key other.key (input_at now place)) ended within) rises,
         ))
-        (λ apart. inl (get_or-set_other now place p (behind other.key (input_at now place)) ended apart ∙ (λ i. input_at (same i) p)))
+        (λ apart. inl (get_or-set_other now place p (input_after_key other.key (input_at now place)) ended apart ∙ (λ i. input_at (same i) p)))
         (cases_eq p place);
     behind = behind_set other.key now place within rises ∙ ap (all_behind other.key) same;
-    rests = subst (λ (cs : List Coming). AreRests cs (set now place (behind other.key (input_at now place)))) same (rests_set now now place (behind other.key (input_at now place)) (rests_begin now) (rest_behind other.key (input_at now place)) within);
+    rests = subst (λ (cs : List Coming). AreRests cs (set now place (input_after_key other.key (input_at now place)))) same (rests_set now now place (input_after_key other.key (input_at now place)) (rests_begin now) (rest_behind other.key (input_at now place)) within);
   }
 
   module _ (entry newer : Triple) (passing : IsPassing was now entry) (key : other.key ≡ entry.key) where
-    stood : StaysOrPassed entry (input_at was place) (input_at now place) → first_of (input_at was place) ≡ Some other
-    stood (inl same) = sym (ap first_of same) ∙ first
+    stood : StaysOrPassed entry (input_at was place) (input_at now place) → first_to_come (input_at was place) ≡ Some other
+    stood (inl same) = sym (ap first_to_come same) ∙ first
     stood (inr passed) = absurd (not_below entry.key other key (subst (IsBelow entry.key) first passed.1))
 
-    pub stood_first : first_of (input_at was place) ≡ Some other
+    pub stood_first : first_to_come (input_at was place) ≡ Some other
     stood_first = stood (passing.each place)
 
-    pub passing_more : IsNewest newer entry → IsNewest newer other → (newer ≡ entry) ⊎ (newer ≡ other) → IsPassing was (set now place (behind other.key (input_at now place))) newer
+    pub passing_more : IsNewest newer entry → IsNewest newer other → (newer ≡ entry) ⊎ (newer ≡ other) → IsPassing was (set now place (input_after_key other.key (input_at now place))) newer
     passing_more than_entry than_other one = record {
       of = of one;
       each = λ p. ⊎_elim
           (λ (own : p ≡ place). inr (
-            subst (IsBest newer) (sym stood_first ∙ ap (λ q. first_of (input_at was q)) (sym own)) (inr (same_key one ∙ sym key, than_other)),
-            rw (own, get_or-set_same now place (behind other.key (input_at now place)) ended within) (below_same other.key newer.key (first_of (behind other.key (input_at now place))) (key ∙ sym (same_key one)) rises),
+            subst (IsBest newer) (sym stood_first ∙ ap (λ q. first_to_come (input_at was q)) (sym own)) (inr (same_key one ∙ sym key, than_other)),
+            rw (own, get_or-set_same now place (input_after_key other.key (input_at now place)) ended within) (below_same other.key newer.key (first_to_come (input_after_key other.key (input_at now place))) (key ∙ sym (same_key one)) rises),
           ))
-          (λ apart. subst (λ (c : Coming). StaysOrPassed newer (input_at was p) c) (sym (get_or-set_other now place p (behind other.key (input_at now place)) ended apart)) (kept p (passing.each p)))
+          (λ apart. subst (λ (c : Coming). StaysOrPassed newer (input_at was p) c) (sym (get_or-set_other now place p (input_after_key other.key (input_at now place)) ended apart)) (kept p (passing.each p)))
           (cases_eq p place);
-      behind = ap (λ k. all_behind k (set now place (behind other.key (input_at now place)))) (same_key one ∙ sym key) ∙ behind_set other.key now place within rises ∙ ap (λ k. all_behind k now) key ∙ passing.behind ∙ ap (λ k. all_behind k was) (sym (same_key one));
-      rests = rests_set was now place (behind other.key (input_at now place)) passing.rests (rest_behind other.key (input_at now place)) within;
+      behind = ap (λ k. all_behind k (set now place (input_after_key other.key (input_at now place)))) (same_key one ∙ sym key) ∙ behind_set other.key now place within rises ∙ ap (λ k. all_behind k now) key ∙ passing.behind ∙ ap (λ k. all_behind k was) (sym (same_key one));
+      rests = rests_set was now place (input_after_key other.key (input_at now place)) passing.rests (rest_behind other.key (input_at now place)) within;
     }
       where
         same_key : (newer ≡ entry) ⊎ (newer ≡ other) → newer.key ≡ entry.key
@@ -92,7 +92,7 @@ module _ (was now : List Coming) (place : ℕ) (other : Triple) (within : place 
 
         kept : (p : ℕ) → StaysOrPassed entry (input_at was p) (input_at now p) → StaysOrPassed newer (input_at was p) (input_at now p)
         kept p (inl same) = inl same
-        kept p (inr passed) = inr (best_more entry newer (first_of (input_at was p)) (same_key one) than_entry passed.0, below_same entry.key newer.key (first_of (input_at now p)) (sym (same_key one)) passed.1)
+        kept p (inr passed) = inr (best_more entry newer (first_to_come (input_at was p)) (same_key one) than_entry passed.0, below_same entry.key newer.key (first_to_come (input_at now p)) (sym (same_key one)) passed.1)
 
     -- two that differ are in conflict
     pub passing_conflict : entry.point ≡ other.point → (entry.content ≡ other.content → ⊥) → IsCause was Conflict
@@ -118,9 +118,9 @@ module _ (was now : List Coming) (place : ℕ) (other : Triple) (within : place 
 
 -- ---- all of the key are passed
 
-module _ (was now : List Coming) (entry : Triple) (passing : IsPassing was now entry) (above : (place : ℕ) → IsBelow entry.key (first_of (input_at now place))) where
-  best : (place : ℕ) → StaysOrPassed entry (input_at was place) (input_at now place) → IsBest entry (first_of (input_at was place))
-  best place (inl same) = above_is_best entry (first_of (input_at was place)) (subst (λ (c : Coming). IsBelow entry.key (first_of c)) same (above place))
+module _ (was now : List Coming) (entry : Triple) (passing : IsPassing was now entry) (above : (place : ℕ) → IsBelow entry.key (first_to_come (input_at now place))) where
+  best : (place : ℕ) → StaysOrPassed entry (input_at was place) (input_at now place) → IsBest entry (first_to_come (input_at was place))
+  best place (inl same) = above_is_best entry (first_to_come (input_at was place)) (subst (λ (c : Coming). IsBelow entry.key (first_to_come c)) same (above place))
   best place (inr passed) = passed.0
 
   pub all_passed : now ≡ all_behind entry.key was
@@ -129,10 +129,10 @@ module _ (was now : List Coming) (entry : Triple) (passing : IsPassing was now e
   pub gives_first : GivesFirst was entry
   gives_first = record {
     of = passing.of;
-    best = λ place other within. let same = length-map was first_of in
-        subst (IsBest entry) (sym (get_or-map first_of was place ended other (omega (arith, same, within)))) (best place (passing.each place));
-    rises = subst (λ (cs : List Coming). All (IsBelow entry.key) (firsts_of cs)) all_passed (λ place other within. let same = length-map now first_of in
-        subst (IsBelow entry.key) (sym (get_or-map first_of now place ended other (omega (arith, same, within)))) (above place));
+    best = λ place other within. let same = length-map was first_to_come in
+        subst (IsBest entry) (sym (get_or-map first_to_come was place ended other (omega (arith, same, within)))) (best place (passing.each place));
+    rises = subst (λ (cs : List Coming). All (IsBelow entry.key) (firsts_of cs)) all_passed (λ place other within. let same = length-map now first_to_come in
+        subst (IsBelow entry.key) (sym (get_or-map first_to_come now place ended other (omega (arith, same, within)))) (above place));
   }
 
 -- ---- the step of a merge
@@ -147,37 +147,37 @@ key_no_later entry newer None same upto = tt
 key_no_later entry newer (Some other) same upto = subst (λ k. key_cmp k other.key ≡ Greater → ⊥) (sym same) upto
 
 module _ (inputs inputs_now : List (Option Coming)) (firsts firsts_now : List (Option Triple)) (place : ℕ) (other : Triple) (size : length inputs ≡ length firsts) (size_now : length inputs_now ≡ length firsts_now) (within : place < length firsts) (passes : Passes firsts firsts_now place other) (passed : HasPassed inputs firsts inputs_now firsts_now place other) where
-  next_at : at firsts_now place ≡ passes.next
-  next_at = ap (λ fs. at fs place) passes.stands ∙ get_or-set_same firsts place passes.next None within
+  next_at : first_entry_at firsts_now place ≡ passes.next
+  next_at = ap (λ fs. first_entry_at fs place) passes.stands ∙ get_or-set_same firsts place passes.next None within
 
   -- of greater keys than the entry's, if no key at a place is less
-  pub least_on : (entry newer : Triple) → newer.key ≡ entry.key → other.key ≡ entry.key → ((p : ℕ) → IsNoLater (Some entry) (at firsts p)) → (p : ℕ) → IsNoLater (Some newer) (at firsts_now p)
+  pub least_on : (entry newer : Triple) → newer.key ≡ entry.key → other.key ≡ entry.key → ((p : ℕ) → IsNoLater (Some entry) (first_entry_at firsts p)) → (p : ℕ) → IsNoLater (Some newer) (first_entry_at firsts_now p)
   least_on entry newer same key least p = ⊎_elim
-      (λ (own : p ≡ place). subst (IsNoLater (Some newer)) (sym (ap (at firsts_now) own ∙ next_at)) (below_no_later newer passes.next (below_same other.key newer.key passes.next (key ∙ sym same) passes.rises)))
-      (λ apart. subst (IsNoLater (Some newer)) (sym (ap (λ fs. at fs p) passes.stands ∙ get_or-set_other firsts place p passes.next None apart)) (key_no_later entry newer (at firsts p) same (least p)))
+      (λ (own : p ≡ place). subst (IsNoLater (Some newer)) (sym (ap (first_entry_at firsts_now) own ∙ next_at)) (below_no_later newer passes.next (below_same other.key newer.key passes.next (key ∙ sym same) passes.rises)))
+      (λ apart. subst (IsNoLater (Some newer)) (sym (ap (λ fs. first_entry_at fs p) passes.stands ∙ get_or-set_other firsts place p passes.next None apart)) (key_no_later entry newer (first_entry_at firsts p) same (least p)))
       (cases_eq p place)
 
   module _ (now : List Coming) (left : all_left inputs firsts ≡ Some now) where
     in_now : place < length now
     in_now = let many = left_length inputs firsts now size left in omega (arith, size, many, within)
 
-    stood_at : first_of (input_at now place) ≡ Some other
+    stood_at : first_to_come (input_at now place) ≡ Some other
     stood_at = first_at inputs firsts now size left place ∙ passes.first
 
-    behind_rises : IsBelow other.key (first_of (behind other.key (input_at now place)))
+    behind_rises : IsBelow other.key (first_to_come (input_after_key other.key (input_at now place)))
     behind_rises = subst (IsBelow other.key)
-        (sym next_at ∙ sym (first_at inputs_now firsts_now (set now place (behind other.key (input_at now place))) size_now (passed now left) place) ∙ ap first_of (get_or-set_same now place (behind other.key (input_at now place)) ended in_now))
+        (sym next_at ∙ sym (first_at inputs_now firsts_now (set now place (input_after_key other.key (input_at now place))) size_now (passed now left) place) ∙ ap first_to_come (get_or-set_same now place (input_after_key other.key (input_at now place)) ended in_now))
         passes.rises
 
   pub go_on : (was : List Coming) (entry newer : Triple) → ArePassing was inputs firsts entry → other.key ≡ entry.key → IsNewest newer entry × IsNewest newer other × ((newer ≡ entry) ⊎ (newer ≡ other)) → ArePassing was inputs_now firsts_now newer
   go_on was entry newer (now, left, passing) key newest =
-      (set now place (behind other.key (input_at now place)), passed now left, passing_more was now place other (in_now now left) (stood_at now left) (behind_rises now left) entry newer passing key newest.0 newest.1 newest.2)
+      (set now place (input_after_key other.key (input_at now place)), passed now left, passing_more was now place other (in_now now left) (stood_at now left) (behind_rises now left) entry newer passing key newest.0 newest.1 newest.2)
 
   pub go_on_conflict : (was : List Coming) (entry : Triple) → ArePassing was inputs firsts entry → other.key ≡ entry.key → entry.point ≡ other.point → (entry.content ≡ other.content → ⊥) → IsCause was Conflict
   go_on_conflict was entry (now, left, passing) key point differ = passing_conflict was now place other (in_now now left) (stood_at now left) (behind_rises now left) entry entry passing key point differ
 
   pub begin : (was : List Coming) → all_left inputs firsts ≡ Some was → ArePassing was inputs_now firsts_now other
-  begin was left = (set was place (behind other.key (input_at was place)), passed was left, passing_begins was was place other (in_now was left) (stood_at was left) (behind_rises was left) refl)
+  begin was left = (set was place (input_after_key other.key (input_at was place)), passed was left, passing_begins was was place other (in_now was left) (stood_at was left) (behind_rises was left) refl)
 
 -- a cause in what is left is one in what was
 pub cause_on : (inputs : List (Option Coming)) (firsts : List (Option Triple)) (was : List Coming) (entry : Triple) (why : Refusal) → ArePassing was inputs firsts entry → HasCause inputs firsts why → IsCause was why

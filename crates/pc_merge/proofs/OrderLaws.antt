@@ -14,7 +14,7 @@ use Rattle.pc_model.specs.Files.{same_content}
 use Rattle.pc_model.proofs.JoinLaws.{one_key}
 use Rattle.pc_merge.specs.Drawing.{has_key}
 use Rattle.pc_merge.specs.Merging.{IsBelow}
-use Rattle.pc_merge.specs.Tournaments.{at, IsLeast, IsNoLater}
+use Rattle.pc_merge.specs.Tournaments.{first_entry_at, IsLeast, IsNoLater}
 use Rattle.pc_merge.specs.Trees.{IsHeadAt}
 
 -- ---- the order
@@ -97,8 +97,8 @@ other_is_less k l upto other = by (key_cmp k l) refl
     by Greater e = absurd (upto e)
 
 -- if the least is of another key than a lesser entry, all are of greater ones
-pub least_is_above : (firsts : List (Option Triple)) (place : ℕ) (entry : Triple) → IsLeast firsts place → ((other : ℕ) → IsNoLater (Some entry) (at firsts other)) → has_key entry.key (at firsts place) ≡ false → (other : ℕ) → IsBelow entry.key (at firsts other)
-least_is_above firsts place entry least lesser test other = by (at firsts place) least.some (lesser place) test (at firsts other) (least.least other)
+pub least_is_above : (firsts : List (Option Triple)) (place : ℕ) (entry : Triple) → IsLeast firsts place → ((other : ℕ) → IsNoLater (Some entry) (first_entry_at firsts other)) → has_key entry.key (first_entry_at firsts place) ≡ false → (other : ℕ) → IsBelow entry.key (first_entry_at firsts other)
+least_is_above firsts place entry least lesser test other = by (first_entry_at firsts place) least.some (lesser place) test (first_entry_at firsts other) (least.least other)
   where
     by : (first : Option Triple) → first ≢ None → IsNoLater (Some entry) first → has_key entry.key first ≡ false → (second : Option Triple) → IsNoLater first second → IsBelow entry.key second
     by None some upto test second next = absurd (some refl)

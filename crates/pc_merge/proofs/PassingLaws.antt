@@ -13,11 +13,11 @@ use Rattle.std.proofs.lemmas.List.Elements.{Contains-append_right}
 use Rattle.pc_types.specs.declared.Refusal.{Refusal}
 use Rattle.pc_types.specs.declared.Triple.{Triple}
 use Rattle.pc_model.specs.Database.{key_cmp, key_order, same_bytes, KeysRise}
-use Rattle.pc_model.specs.TripleLists.{entries_of}
+use Rattle.pc_model.specs.TripleLists.{map_entries}
 use Rattle.pc_model.proofs.RisingLaws.{both}
 use Rattle.pc_merge.specs.Coming.{Coming, ended}
 use Rattle.pc_merge.specs.Drawing.{AreRests, IsRest, input_at}
-use Rattle.pc_merge.specs.Merging.{IsBelow, IsCause, all_behind, behind, entries_behind, first_of, firsts_of}
+use Rattle.pc_merge.specs.Merging.{IsBelow, IsCause, all_behind, input_after_key, entries_behind, first_to_come, firsts_of}
 
 -- ---- rests
 
@@ -32,7 +32,7 @@ rest_trans was now then first second = record {
 }
 
 -- what is after a key is a rest
-pub rest_behind : (key : List ℕ) (input : Coming) → IsRest input (behind key input)
+pub rest_behind : (key : List ℕ) (input : Coming) → IsRest input (input_after_key key input)
 rest_behind key input = record { front = (front_of input.entries).0; entries = (front_of input.entries).1; fault = refl }
   where
     by_key : (entry : Triple) (entries : List Triple) (b : Bool) → (front : List Triple) × (entry ∷ entries ≡ front ++ cond b entries (entry ∷ entries))
@@ -56,9 +56,9 @@ rests_set was now place input rests rest within = record {
 pub rests_begin : (was : List Coming) → AreRests was was
 rests_begin was = record { many = refl; each = λ place. rest_itself (input_at was place) }
 
-rise_rest : (front entries : List Triple) → KeysRise (entries_of (front ++ entries)) → KeysRise (entries_of entries)
+rise_rest : (front entries : List Triple) → KeysRise (map_entries (front ++ entries)) → KeysRise (map_entries entries)
 rise_rest [] entries rise = rise
-rise_rest (entry ∷ front) entries rise = rise_rest front entries (both (below_all key_cmp entry.key (entries_of (front ++ entries))) (is_sorted key_cmp (entries_of (front ++ entries))) rise).1
+rise_rest (entry ∷ front) entries rise = rise_rest front entries (both (below_all key_cmp entry.key (map_entries (front ++ entries))) (is_sorted key_cmp (map_entries (front ++ entries))) rise).1
 
 -- a cause in the rests is one in what was
 module _ (was now : List Coming) (rests : AreRests was now) where
@@ -97,7 +97,7 @@ module _ (was now : List Coming) (rests : AreRests was now) where
       ))))
   cause_before why (inr (inr (inr (inr (is, none))))) =
       let b = before none.0 none.1 in
-      inr (inr (inr (inr (is, (b.0, b.1, λ rise. none.2 (rise_rest b.2.front none.0.entries (subst (λ (es : List Triple). KeysRise (entries_of es)) b.2.entries rise)))))))
+      inr (inr (inr (inr (is, (b.0, b.1, λ rise. none.2 (rise_rest b.2.front none.0.entries (subst (λ (es : List Triple). KeysRise (map_entries es)) b.2.entries rise)))))))
 
 -- ---- keys
 
@@ -114,31 +114,31 @@ pub other_key : (key greater : List ℕ) → key_cmp key greater ≡ Less → sa
 other_key key greater less = ap is_eq (key_order.total.antisymm greater key) ∙ reversed (key_cmp key greater) less
 
 -- if all is above the key, all is after it
-behind_above : (key : List ℕ) (input : Coming) → IsBelow key (first_of input) → behind key input ≡ input
+behind_above : (key : List ℕ) (input : Coming) → IsBelow key (first_to_come input) → input_after_key key input ≡ input
 behind_above key input above = ap (λ (es : List Triple). record { entries = es; fault = input.fault }) (same input.entries above)
   where
     same : (entries : List Triple) → IsBelow key (slice_get entries 0) → entries_behind key entries ≡ entries
     same [] above = refl
     same (entry ∷ entries) above = ap (λ (b : Bool). cond b entries (entry ∷ entries)) (other_key key entry.key above)
 
-pub all_above : (key : List ℕ) (inputs : List Coming) → ((place : ℕ) → IsBelow key (first_of (input_at inputs place))) → all_behind key inputs ≡ inputs
+pub all_above : (key : List ℕ) (inputs : List Coming) → ((place : ℕ) → IsBelow key (first_to_come (input_at inputs place))) → all_behind key inputs ≡ inputs
 all_above key [] above = refl
 all_above key (input ∷ inputs) above = let first = behind_above key input (above 0) in let rest = all_above key inputs (λ place. above (suc place)) in ap (λ (c : Coming). c ∷ all_behind key inputs) first ∙ ap (λ (cs : List Coming). input ∷ cs) rest
 
 -- what is after the key stays if one input is passed
-pub behind_set : (key : List ℕ) (inputs : List Coming) (place : ℕ) → place < length inputs → IsBelow key (first_of (behind key (input_at inputs place))) → all_behind key (set inputs place (behind key (input_at inputs place))) ≡ all_behind key inputs
+pub behind_set : (key : List ℕ) (inputs : List Coming) (place : ℕ) → place < length inputs → IsBelow key (first_to_come (input_after_key key (input_at inputs place))) → all_behind key (set inputs place (input_after_key key (input_at inputs place))) ≡ all_behind key inputs
 behind_set key inputs place within above =
-    map-set (behind key) inputs place (behind key (input_at inputs place))
-    ∙ ap (set (all_behind key inputs) place) (behind_above key (behind key (input_at inputs place)) above ∙ sym (get_or-map (behind key) inputs place ended ended within))
+    map-set (input_after_key key) inputs place (input_after_key key (input_at inputs place))
+    ∙ ap (set (all_behind key inputs) place) (behind_above key (input_after_key key (input_at inputs place)) above ∙ sym (get_or-map (input_after_key key) inputs place ended ended within))
     ∙ set-get_or (all_behind key inputs) place ended
 
 -- ---- first entries
 
 -- an entry that an input begins with is among the first ones, and among the input's
-pub first_among : (inputs : List Coming) (place : ℕ) (entry : Triple) → first_of (input_at inputs place) ≡ Some entry → Contains (firsts_of inputs) (Some entry)
+pub first_among : (inputs : List Coming) (place : ℕ) (entry : Triple) → first_to_come (input_at inputs place) ≡ Some entry → Contains (firsts_of inputs) (Some entry)
 first_among inputs place entry first = ⊎_elim
-    (λ (less : place < length inputs). (place, (let same = length-map inputs first_of in omega (arith, same, less)), get_or-map first_of inputs place ended (Some entry) less ∙ first))
-    (λ more. let bad = sym (ap first_of (get_or_past inputs place ended more)) ∙ first in cc)
+    (λ (less : place < length inputs). (place, (let same = length-map inputs first_to_come in omega (arith, same, less)), get_or-map first_to_come inputs place ended (Some entry) less ∙ first))
+    (λ more. let bad = sym (ap first_to_come (get_or_past inputs place ended more)) ∙ first in cc)
     (cases_lt place (length inputs))
 
 begins : (entries : List Triple) (entry : Triple) → slice_get entries 0 ≡ Some entry → Contains entries entry
@@ -148,7 +148,7 @@ begins (one ∷ entries) entry first = let same : one ≡ entry = cc in (0, omeg
 -- an input that begins with the entry
 pub beginning : (inputs : List Coming) (entry : Triple) → Contains (firsts_of inputs) (Some entry) → (input : Coming) × Contains inputs input × Contains input.entries entry
 beginning inputs entry there =
-    let same = length-map inputs first_of in let within = there.1 in
+    let same = length-map inputs first_to_come in let within = there.1 in
     let less : there.0 < length inputs = omega arith in
-    let first : first_of (input_at inputs there.0) ≡ Some entry = sym (get_or-map first_of inputs there.0 ended (Some entry) less) ∙ there.2 in
+    let first : first_to_come (input_at inputs there.0) ≡ Some entry = sym (get_or-map first_to_come inputs there.0 ended (Some entry) less) ∙ there.2 in
     (input_at inputs there.0, (there.0, less, get_or_default inputs there.0 (input_at inputs there.0) ended less), begins (input_at inputs there.0).entries entry first)

@@ -5,7 +5,7 @@ use Rattle.pc_types.specs.declared.Triple.{Triple}
 use Rattle.pc_model.specs.Database.{key_order, same_bytes}
 use Rattle.pc_merge.specs.Drawing.{has_key}
 use Rattle.pc_merge.specs.Merging.{IsBelow}
-use Rattle.pc_merge.specs.Tournaments.{at}
+use Rattle.pc_merge.specs.Tournaments.{first_entry_at}
 use Rattle.pc_merge.proofs.PassingLaws.{other_key}
 
 -- 1 for an entry of the key
@@ -24,7 +24,7 @@ greater_counts key None below = refl
 greater_counts key (Some next) below = ap (λ (b : Bool). cond b 1 0) (other_key key next.key below)
 
 -- there are fewer if a greater key comes in its place
-pub having_less : (key : List ℕ) (firsts : List (Option Triple)) (place : ℕ) (entry : Triple) (next : Option Triple) → at firsts place ≡ Some entry → entry.key ≡ key → IsBelow key next → having key (set firsts place next) < having key firsts
+pub having_less : (key : List ℕ) (firsts : List (Option Triple)) (place : ℕ) (entry : Triple) (next : Option Triple) → first_entry_at firsts place ≡ Some entry → entry.key ≡ key → IsBelow key next → having key (set firsts place next) < having key firsts
 having_less key [] place entry next there is below = cc
 having_less key (first ∷ firsts) zero entry next there is below =
     let one = ap (one_if key) there ∙ own_counts key entry is in

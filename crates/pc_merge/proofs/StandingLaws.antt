@@ -6,9 +6,9 @@ use Rattle.pc_types.specs.declared.Refusal.{Refusal}
 use Rattle.pc_types.specs.declared.Refusal.TheVariants.{Device}
 use Rattle.std.proofs.lemmas.List.Elements.{All-get_or, All-set}
 use Rattle.pc_types.specs.declared.Triple.{Triple}
-use Rattle.pc_merge.specs.Coming.{Counts, GivesWithin, IsWithin, Standing, Stands, StandsBy}
+use Rattle.pc_merge.specs.Coming.{IsFailureCounted, GivesWithin, IsWithin, Standing, KeepsRefusal, StandsBy}
 use Rattle.pc_merge.specs.Standings.{AllStand, AreWithin, HasFailed, standing_at}
-use Rattle.pc_merge.specs.Tournaments.{at}
+use Rattle.pc_merge.specs.Tournaments.{first_entry_at}
 use Rattle.std.proofs.lemmas.Bool.Decides.{nat_tests}
 
 -- no input
@@ -53,7 +53,7 @@ module _ (was : List Standing) (place : ℕ) (within : place < length was) (now 
   )
 
 module _ {S : Type 0} (standing : S → Standing) where
-  pub drawn_stands : {X : Type 0} (inputs : List S) (place : ℕ) (d now : S) (result : Result X Refusal) → place < length inputs → Stands (standing (get_or inputs place d)) (standing now) result
+  pub drawn_stands : {X : Type 0} (inputs : List S) (place : ℕ) (d now : S) (result : Result X Refusal) → place < length inputs → KeepsRefusal (standing (get_or inputs place d)) (standing now) result
       → AllStand (map standing inputs) (map standing (set inputs place now)) result
   drawn_stands inputs place d now result within s =
       let all = map standing inputs in
@@ -87,14 +87,14 @@ module _ {S : Type 0} (within : S → (ℕ → Bool) → Type 0) where
   drawn_within inputs place d now (Err why) inside gives = tt
 
   -- the first entry at a place is taken, and another one of the points is there
-  pub taken_within : (points : ℕ → Bool) (inputs : List S) (firsts : List (Option Triple)) (place : ℕ) (next : Option Triple) → place < length firsts → All (λ input. within input points) inputs → ((other : ℕ) → IsWithin points (at firsts other)) → IsWithin points next
+  pub taken_within : (points : ℕ → Bool) (inputs : List S) (firsts : List (Option Triple)) (place : ℕ) (next : Option Triple) → place < length firsts → All (λ input. within input points) inputs → ((other : ℕ) → IsWithin points (first_entry_at firsts other)) → IsWithin points next
       → AreWithin within points inputs (set firsts place next)
   taken_within points inputs firsts place next inside all drawn given = record {
     to_come = all;
     drawn = λ other. at_other other (nat_eq place other) refl;
   }
     where
-      at_other : (other : ℕ) (same : Bool) → nat_eq place other ≡ same → IsWithin points (at (set firsts place next) other)
+      at_other : (other : ℕ) (same : Bool) → nat_eq place other ≡ same → IsWithin points (first_entry_at (set firsts place next) other)
       at_other other true is =
           let one : other ≡ place = grind (arith, nat_tests, is) in
           subst (IsWithin points) (sym (ap (λ k. get_or (set firsts place next) k None) one ∙ get_or-set_same firsts place next None inside)) given

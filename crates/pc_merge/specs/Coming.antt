@@ -41,18 +41,18 @@ pub record Standing : Type 0 where
   pub failures : ℕ
 
 -- failures are counted: Device is returned if the count increased, and otherwise the count stays
-abbrev pub Counts : ℕ → ℕ → Refusal → Type 0
-Counts was now why = (why ≡ Device → HasRisen was now) × (why ≢ Device → now ≡ was)
+abbrev pub IsFailureCounted : ℕ → ℕ → Refusal → Type 0
+IsFailureCounted was now why = (why ≡ Device → HasRisen was now) × (why ≢ Device → now ≡ was)
 
 -- If a call was refused, each later call is refused so, and nothing is read. Otherwise a refusal is kept.
 abbrev pub StandsBy : {X : Type 0} → Option Refusal → Standing → Standing → Result X Refusal → Type 0
 StandsBy (Some why) was now result = (result ≡ Err why) × (now ≡ was)
 StandsBy None was now (Ok x) = now ≡ was
-StandsBy None was now (Err why) = (now.refused ≡ Some why) × Counts was.failures now.failures why
+StandsBy None was now (Err why) = (now.refused ≡ Some why) × IsFailureCounted was.failures now.failures why
 
 -- the same of a stream as it was
-abbrev pub Stands : {X : Type 0} → Standing → Standing → Result X Refusal → Type 0
-Stands was now result = StandsBy was.refused was now result
+abbrev pub KeepsRefusal : {X : Type 0} → Standing → Standing → Result X Refusal → Type 0
+KeepsRefusal was now result = StandsBy was.refused was now result
 
 -- an entry, if there is one, is of one of the points
 abbrev pub IsWithin : (ℕ → Bool) → Option Triple → Type 0

@@ -6,13 +6,13 @@ use Rattle.pc_types.specs.declared.Refusal.{Refusal}
 use Rattle.pc_types.specs.declared.Triple.{Triple}
 use Rattle.pc_model.specs.Database.{key_cmp, same_bytes}
 use Rattle.pc_merge.specs.Coming.{Coming, ended, GivesNext}
-use Rattle.pc_merge.specs.Inputs.{all_left, coming_at, left_of}
-use Rattle.pc_merge.specs.Merging.{IsBelow, IsBest, IsCause, all_behind, behind, first_of, firsts_of}
-use Rattle.pc_merge.specs.Tournaments.{at}
+use Rattle.pc_merge.specs.Inputs.{all_left, coming_at, rest_of_input}
+use Rattle.pc_merge.specs.Merging.{IsBelow, IsBest, IsCause, all_behind, input_after_key, first_to_come, firsts_of}
+use Rattle.pc_merge.specs.Tournaments.{first_entry_at}
 
 -- one input answers, and the others stay
-abbrev pub Draws : List (Option Coming) → List (Option Coming) → ℕ → Result (Option Triple) Refusal → Type 0
-Draws was now place result = (input : Option Coming) × (now ≡ slice_set was place input) × GivesNext (coming_at was place) input result
+abbrev pub DrawsOneInput : List (Option Coming) → List (Option Coming) → ℕ → Result (Option Triple) Refusal → Type 0
+DrawsOneInput was now place result = (input : Option Coming) × (now ≡ slice_set was place input) × GivesNext (coming_at was place) input result
 
 -- what is left of the input at a place
 abbrev pub input_at : List Coming → ℕ → Coming
@@ -24,7 +24,7 @@ HasCause inputs firsts why = (was : List Coming) → all_left inputs firsts ≡ 
 
 -- The entry was first at the place; now the next one of its input is there, of a greater key.
 pub record Passes (firsts firsts_now : List (Option Triple)) (place : ℕ) (entry : Triple) : Type 0 where
-  pub first : at firsts place ≡ Some entry
+  pub first : first_entry_at firsts place ≡ Some entry
   pub next : Option Triple
   pub stands : firsts_now ≡ slice_set firsts place next
   pub rises : IsBelow entry.key next
@@ -32,7 +32,7 @@ pub record Passes (firsts firsts_now : List (Option Triple)) (place : ℕ) (entr
 -- the entry was taken from the input at the place, of which what is after its key is left
 abbrev pub HasPassed : List (Option Coming) → List (Option Triple) → List (Option Coming) → List (Option Triple) → ℕ → Triple → Type 0
 HasPassed inputs firsts inputs_now firsts_now place entry =
-    (was : List Coming) → all_left inputs firsts ≡ Some was → all_left inputs_now firsts_now ≡ Some (slice_set was place (behind entry.key (input_at was place)))
+    (was : List Coming) → all_left inputs firsts ≡ Some was → all_left inputs_now firsts_now ≡ Some (slice_set was place (input_after_key entry.key (input_at was place)))
 
 -- what is left of an input is the rest of what was
 pub record IsRest (was now : Coming) : Type 0 where
@@ -47,7 +47,7 @@ pub record AreRests (was now : List Coming) : Type 0 where
 
 -- an input stays as it was, or was passed: it began with an entry that is no better than this one, and goes on with greater keys
 abbrev pub StaysOrPassed : Triple → Coming → Coming → Type 0
-StaysOrPassed entry was now = (now ≡ was) ⊎ (IsBest entry (first_of was) × IsBelow entry.key (first_of now))
+StaysOrPassed entry was now = (now ≡ was) ⊎ (IsBest entry (first_to_come was) × IsBelow entry.key (first_to_come now))
 
 -- Some of the inputs were passed, and this is the newest of their entries of one key.
 pub record IsPassing (was now : List Coming) (entry : Triple) : Type 0 where
@@ -71,9 +71,9 @@ Rises (Some first) (Some next) result = result ≡ is_lt (key_cmp first.key next
 Rises first next result = result ≡ true
 
 -- Of the first inputs, whose number is given, the first entries were drawn, and of the others none: this is left of all.
-pub record AreOpened (inputs : List (Option Coming)) (firsts : List (Option Triple)) (count : ℕ) (was : List Coming) : Type 0 where
+pub record AreFirstsDrawn (inputs : List (Option Coming)) (firsts : List (Option Triple)) (count : ℕ) (was : List Coming) : Type 0 where
   pub many : length was ≡ length inputs
-  pub drawn : (place : ℕ) → place < length inputs → place < count → left_of (at firsts place) (coming_at inputs place) ≡ Some (input_at was place)
+  pub drawn : (place : ℕ) → place < length inputs → place < count → rest_of_input (first_entry_at firsts place) (coming_at inputs place) ≡ Some (input_at was place)
   pub others : (place : ℕ) → place < length inputs → count ≤ place → coming_at inputs place ≡ Some (input_at was place)
 
 -- the entry, if there is one, is of the key

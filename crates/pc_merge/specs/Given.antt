@@ -8,7 +8,7 @@ use Rattle.pc_types.specs.declared.Triple.{Triple}
 use Rattle.pc_model.specs.Database.{KeysRise}
 use Rattle.pc_model.specs.Maps as map_of
 use Rattle.pc_model.specs.Points.{AtPoint, Triples, joined}
-use Rattle.pc_model.specs.TripleLists.{entries_of, triples_of}
+use Rattle.pc_model.specs.TripleLists.{map_entries, triples_of}
 use Rattle.pc_merge.specs.Coming.{Coming}
 use Rattle.pc_merge.specs.Merging.{GivesFirst, AreEnded, IsCause, all_behind}
 
@@ -36,10 +36,10 @@ IsUnder m n = (key : List ℕ) → IsUnderAt (map_of.get m key) (map_of.get n ke
 -- older than what it has in them, or the same, so that no two inputs differ at a key's greatest point. All inputs ascend by key
 -- and end without a refusal.
 pub record IsMerge (inputs : List Coming) (given : List Triple) : Type 0 where
-  pub rise : KeysRise (entries_of given)
+  pub rise : KeysRise (map_entries given)
   pub joined : triples_of given ≡ joined_all (map (λ input. triples_of input.entries) inputs)
   pub over : All (λ input. IsUnder (triples_of input.entries) (triples_of given)) inputs
-  pub inputs_rise : All (λ input. KeysRise (entries_of input.entries)) inputs
+  pub inputs_rise : All (λ input. KeysRise (map_entries input.entries)) inputs
   pub no_fault : All (λ input. input.fault ≡ None) inputs
 
 -- more entries are given than a file can have

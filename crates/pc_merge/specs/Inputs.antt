@@ -22,14 +22,14 @@ if_ended entries fault = None
 
 -- The rest of an input: the entry that was drawn and those to come. If none was drawn, nothing is to come; otherwise
 -- nothing is known.
-abbrev pub left_of : Option Triple → Option Coming → Option Coming
-left_of (Some entry) input = option_map (after_entry entry) input
-left_of None (Some input) = if_ended input.entries input.fault
-left_of None None = None
+abbrev pub rest_of_input : Option Triple → Option Coming → Option Coming
+rest_of_input (Some entry) input = option_map (after_entry entry) input
+rest_of_input None (Some input) = if_ended input.entries input.fault
+rest_of_input None None = None
 
 -- what is left of each input
 abbrev pub each_left : List (Option Coming) → List (Option Triple) → List (Option Coming)
-each_left (input ∷ inputs) (first ∷ firsts) = left_of first input ∷ each_left inputs firsts
+each_left (input ∷ inputs) (first ∷ firsts) = rest_of_input first input ∷ each_left inputs firsts
 each_left inputs firsts = []
 
 -- the same, if it is known of all

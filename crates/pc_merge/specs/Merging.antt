@@ -6,9 +6,9 @@ use Rattle.pc_types.specs.declared.Refusal.{Refusal}
 use Rattle.pc_types.specs.declared.Refusal.TheVariants.{OutOfMemory, Device, Conflict, KeyOrder}
 use Rattle.pc_types.specs.declared.Triple.{Triple}
 use Rattle.pc_model.specs.Database.{KeysRise, key_cmp, same_bytes}
-use Rattle.pc_model.specs.TripleLists.{entries_of}
+use Rattle.pc_model.specs.TripleLists.{map_entries}
 use Rattle.pc_merge.specs.Coming.{Coming, ended}
-use Rattle.pc_merge.specs.Tournaments.{at}
+use Rattle.pc_merge.specs.Tournaments.{first_entry_at}
 
 -- a merge: the first entry that was drawn of each input, if there is one, and the refusal that was answered
 pub record Merging : Type 0 where
@@ -16,12 +16,12 @@ pub record Merging : Type 0 where
   pub refused : Option Refusal
 
 -- the first entry to come
-abbrev pub first_of : Coming → Option Triple
-first_of input = slice_get input.entries 0
+abbrev pub first_to_come : Coming → Option Triple
+first_to_come input = slice_get input.entries 0
 
 -- the first entry of each input
 abbrev pub firsts_of : List Coming → List (Option Triple)
-firsts_of inputs = map first_of inputs
+firsts_of inputs = map first_to_come inputs
 
 -- the entries without the first one if that is of the key
 abbrev pub entries_behind : List ℕ → List Triple → List Triple
@@ -29,12 +29,12 @@ entries_behind key [] = []
 entries_behind key (entry ∷ entries) = if same_bytes entry.key key then entries else entry ∷ entries
 
 -- what comes after the key in an input that begins with it or after it
-abbrev pub behind : List ℕ → Coming → Coming
-behind key input = record { entries = entries_behind key input.entries; fault = input.fault }
+abbrev pub input_after_key : List ℕ → Coming → Coming
+input_after_key key input = record { entries = entries_behind key input.entries; fault = input.fault }
 
 -- the same of each input
 abbrev pub all_behind : List ℕ → List Coming → List Coming
-all_behind key inputs = map (behind key) inputs
+all_behind key inputs = map (input_after_key key) inputs
 
 -- the key is less than that of the entry, if there is one
 abbrev pub IsBelow : List ℕ → Option Triple → Type 0
@@ -81,7 +81,7 @@ pub record HaveConflict (inputs : List Coming) : Type 0 where
 
 -- the keys of one of the inputs don't ascend
 abbrev pub HasNoOrder : List Coming → Type 0
-HasNoOrder inputs = (input : Coming) × Contains inputs input × (KeysRise (entries_of input.entries) → ⊥)
+HasNoOrder inputs = (input : Coming) × Contains inputs input × (KeysRise (map_entries input.entries) → ⊥)
 
 -- why a merge of these inputs may be refused: memory or a device failed, an input ends in that refusal, two conflict, or the keys
 -- of one don't ascend
@@ -96,15 +96,15 @@ IsMergeRefusal refusals why = (why ≡ Conflict) ⊎ (why ≡ KeyOrder) ⊎ refu
 
 -- The answer to one call if it is known what was left: the next entry, of whose key then nothing is left; `None` if all inputs had
 -- ended; or a refusal for a cause.
-abbrev pub GoesOn : Option (List Coming) → Option (List Coming) → Result (Option Triple) Refusal → Type 0
-GoesOn None now result = ⊤
-GoesOn (Some was) now (Ok None) = AreEnded was × (now ≡ Some was)
-GoesOn (Some was) now (Ok (Some entry)) = GivesFirst was entry × (now ≡ Some (all_behind entry.key was))
-GoesOn (Some was) now (Err why) = IsCause was why
+abbrev pub MergesNext : Option (List Coming) → Option (List Coming) → Result (Option Triple) Refusal → Type 0
+MergesNext None now result = ⊤
+MergesNext (Some was) now (Ok None) = AreEnded was × (now ≡ Some was)
+MergesNext (Some was) now (Ok (Some entry)) = GivesFirst was entry × (now ≡ Some (all_behind entry.key was))
+MergesNext (Some was) now (Err why) = IsCause was why
 
 -- the key is less than each of those that come first
 abbrev pub AreAbove : List ℕ → List (Option Triple) → Type 0
-AreAbove key firsts = (place : ℕ) → IsBelow key (at firsts place)
+AreAbove key firsts = (place : ℕ) → IsBelow key (first_entry_at firsts place)
 
 -- The keys ascend: if all that come first are above a key, an entry that is given is; and then all that come first are above it.
 abbrev pub KeysGoOn : List (Option Triple) → List (Option Triple) → Result (Option Triple) Refusal → Type 0

@@ -6,7 +6,7 @@ use Rattle.pc_types.specs.declared.Refusal.{Refusal}
 use Rattle.pc_types.specs.declared.Refusal.TheVariants.{Device}
 use Rattle.pc_types.specs.declared.Triple.{Triple}
 use Rattle.pc_merge.specs.Coming.{IsWithin, Standing}
-use Rattle.pc_merge.specs.Tournaments.{at}
+use Rattle.pc_merge.specs.Tournaments.{first_entry_at}
 
 -- the state of the input at a place
 abbrev pub standing_at : List Standing → ℕ → Standing
@@ -25,7 +25,7 @@ AllStand was now (Err why) = (why ≡ Device → HasFailed was now) × (why ≢ 
 -- the inputs, and the first entries that were drawn from them, keep to these points
 pub record AreWithin {S : Type 0} (within : S → (ℕ → Bool) → Type 0) (points : ℕ → Bool) (inputs : List S) (firsts : List (Option Triple)) : Type 0 where
   pub to_come : All (λ input. within input points) inputs
-  pub drawn : (place : ℕ) → IsWithin points (at firsts place)
+  pub drawn : (place : ℕ) → IsWithin points (first_entry_at firsts place)
 
 -- if all keep to some points, an entry that is given does, and all keep to them then
 abbrev pub AllGiveWithin : {S : Type 0} → (S → (ℕ → Bool) → Type 0) → List S → List (Option Triple) → List S → List (Option Triple) → Result (Option Triple) Refusal → Type 0

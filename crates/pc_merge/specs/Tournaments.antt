@@ -5,12 +5,12 @@ use Rattle.pc_types.specs.declared.Triple.{Triple}
 use Rattle.pc_model.specs.Database.{key_cmp}
 
 -- the entry at a place, if any
-abbrev pub at : List (Option Triple) → ℕ → Option Triple
-at firsts place = slice_index_or firsts place None
+abbrev pub first_entry_at : List (Option Triple) → ℕ → Option Triple
+first_entry_at firsts place = slice_index_or firsts place None
 
 -- there is no entry at any place
-abbrev pub IsFree : List (Option Triple) → Type 0
-IsFree firsts = (place : ℕ) → at firsts place ≡ None
+abbrev pub HasNoEntries : List (Option Triple) → Type 0
+HasNoEntries firsts = (place : ℕ) → first_entry_at firsts place ≡ None
 
 -- the first comes no later by its key than the second; nothing comes after all entries
 abbrev pub IsNoLater : Option Triple → Option Triple → Type 0
@@ -21,5 +21,5 @@ IsNoLater (Some entry) (Some other) = key_cmp entry.key other.key ≢ Greater
 -- there is an entry at the place, and none at another place has a lesser key
 pub record IsLeast (firsts : List (Option Triple)) (place : ℕ) : Type 0 where
   pub within : place < length firsts
-  pub some : at firsts place ≢ None
-  pub least : (other : ℕ) → IsNoLater (at firsts place) (at firsts other)
+  pub some : first_entry_at firsts place ≢ None
+  pub least : (other : ℕ) → IsNoLater (first_entry_at firsts place) (first_entry_at firsts other)

@@ -1,7 +1,7 @@
 //! Entries that come in order.
 ghost use Rattle.std.specs.Prelude.{◌≡◌, ℕ, Bool, Option, IfErr, ⊤};
 ghost use Rattle.pc_types.specs.declared.refusal.Refusal.{Refusal};
-ghost use Rattle.pc_merge.specs.Coming.{Coming, GivesNext, GivesWithin, Standing, Stands};
+ghost use Rattle.pc_merge.specs.Coming.{Coming, GivesNext, GivesWithin, Standing, KeepsRefusal};
 ghost use Rattle.pc_merge.specs.Lists.{all_of, list_coming, list_standing, list_within};
 
 use pc_entries::EntryText;
@@ -26,7 +26,7 @@ pub trait Entries {
     /// on.
     fn next(&mut self, memory: Vec<u8>) -> Result<Option<EntryText>, Refusal>
         ensures given { GivesNext (coming self.old) (coming self.new) result }
-        ensures stands { Stands (standing self.old) (standing self.new) result }
+        ensures stands { KeepsRefusal (standing self.old) (standing self.new) result }
         ensures within { GivesWithin within self.old self.new result }
         ensures refusals { IfErr result refusals };
 }

@@ -5,7 +5,7 @@ ghost use Rattle.pc_types.specs.declared.limits.TheConstants.{MOST_FILE_ENTRIES}
 ghost use Rattle.pc_merge.specs.Coming.{Coming};
 ghost use Rattle.pc_merge.specs.Given.{IsCauseOfAll, IsMerge};
 ghost use Rattle.pc_merge.specs.Inputs.{all_known, all_left, left_in, unopened};
-ghost use Rattle.pc_merge.specs.Merging.{GoesOn, IsCause, IsMergeRefusal, KeysGoOn, MergeRefuses};
+ghost use Rattle.pc_merge.specs.Merging.{MergesNext, IsCause, IsMergeRefusal, KeysGoOn, MergeRefuses};
 ghost use Rattle.pc_merge.specs.Standings.{AllGiveWithin, AllStand, AreWithin};
 
 use crate::entries::Entries;
@@ -81,7 +81,7 @@ impl Merge {
     pub fn next<E: Entries>(&mut self, inputs: &mut [E]) -> Result<Option<EntryText>, Refusal>
         requires { length inputs.old ≡ length self.old.firsts }
         ensures together { length inputs.new ≡ length self.new.firsts }
-        ensures goes_on { GoesOn (left_in (map E.coming inputs.old) self.old) (left_in (map E.coming inputs.new) self.new) result }
+        ensures goes_on { MergesNext (left_in (map E.coming inputs.old) self.old) (left_in (map E.coming inputs.new) self.new) result }
         ensures rises { KeysGoOn self.old.firsts self.new.firsts result }
         ensures within { AllGiveWithin E.within inputs.old self.old.firsts inputs.new self.new.firsts result }
         ensures stand { self.old.refused ≡ None → AllStand (map E.standing inputs.old) (map E.standing inputs.new) result }
@@ -149,7 +149,7 @@ fn least_entry<E: Entries>(
 ) -> Result<Option<EntryText>, Refusal>
     requires { length inputs.old ≡ length firsts.old }
     ensures together { length inputs.new ≡ length firsts.new }
-    ensures goes_on { GoesOn (all_left (map E.coming inputs.old) firsts.old) (all_left (map E.coming inputs.new) firsts.new) result }
+    ensures goes_on { MergesNext (all_left (map E.coming inputs.old) firsts.old) (all_left (map E.coming inputs.new) firsts.new) result }
     ensures rises { KeysGoOn firsts.old firsts.new result }
     ensures within { AllGiveWithin E.within inputs.old firsts.old inputs.new firsts.new result }
     ensures stand { AllStand (map E.standing inputs.old) (map E.standing inputs.new) result }

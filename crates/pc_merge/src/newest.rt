@@ -4,11 +4,11 @@ ghost use Rattle.pc_types.specs.declared.refusal.Refusal.TheVariants.{Conflict};
 ghost use Rattle.pc_model.specs.Files.{same_content};
 ghost use Rattle.std.specs.List.{All};
 ghost use Rattle.pc_merge.specs.Coming.{Coming, IsWithin};
-ghost use Rattle.pc_merge.specs.Drawing.{Draws, GoOnPassing, HasCause, HasPassed, Passes, Rises, has_key};
+ghost use Rattle.pc_merge.specs.Drawing.{DrawsOneInput, GoOnPassing, HasCause, HasPassed, Passes, Rises, has_key};
 ghost use Rattle.pc_merge.specs.Inputs.{all_known, all_left};
 ghost use Rattle.pc_merge.specs.Merging.{IsBelow, IsCause, IsMergeRefusal, IsNewest};
 ghost use Rattle.pc_merge.specs.Standings.{AllStand, AreWithin};
-ghost use Rattle.pc_merge.specs.Tournaments.{IsFree, IsNoLater, at};
+ghost use Rattle.pc_merge.specs.Tournaments.{HasNoEntries, IsNoLater, first_entry_at};
 
 use crate::entries::Entries;
 use crate::order::{are_same, precedes};
@@ -27,7 +27,7 @@ fn draw<E: Entries>(
 ) -> Result<Option<EntryText>, Refusal>
     requires { place < length inputs.old }
     ensures together { length inputs.new ≡ length inputs.old }
-    ensures draws { Draws (map E.coming inputs.old) (map E.coming inputs.new) place result }
+    ensures draws { DrawsOneInput (map E.coming inputs.old) (map E.coming inputs.new) place result }
     ensures stand { AllStand (map E.standing inputs.old) (map E.standing inputs.new) result }
     ensures within { IfOk result (λ next. (points : ℕ → Bool) → All (λ input. E.within input points) inputs.old → IsWithin points next × All (λ input. E.within input points) inputs.new) }
     ensures refusals { IfErr result E.refusals }
@@ -42,7 +42,7 @@ pub(crate) fn draw_firsts<E: Entries>(
     firsts: &mut Tournament,
 ) -> Result<(), Refusal>
     requires size { length inputs.old ≡ length firsts.old }
-    requires free { IsFree firsts.old }
+    requires free { HasNoEntries firsts.old }
     ensures together { length inputs.new ≡ length firsts.new }
     ensures stand { AllStand (map E.standing inputs.old) (map E.standing inputs.new) result }
     ensures within { OnOk result ((points : ℕ → Bool) → All (λ input. E.within input points) inputs.old → AreWithin E.within points inputs.new firsts.new) }
@@ -67,7 +67,7 @@ pub(crate) fn advance<E: Entries>(
 ) -> Result<EntryText, Refusal>
     requires together { length inputs.old ≡ length firsts.old }
     requires place { place < length firsts.old }
-    requires some { at firsts.old place ≢ None }
+    requires some { first_entry_at firsts.old place ≢ None }
     ensures together { length inputs.new ≡ length firsts.new }
     ensures stand { AllStand (map E.standing inputs.old) (map E.standing inputs.new) result }
     ensures within { IfOk result (λ entry. (points : ℕ → Bool) → AreWithin E.within points inputs.old firsts.old → IsTrue (points entry.point) × AreWithin E.within points inputs.new firsts.new) }
@@ -107,12 +107,12 @@ pub(crate) fn newest_of<E: Entries>(
     spare: &mut Spare,
 ) -> Result<EntryText, Refusal>
     requires together { length inputs.old ≡ length firsts.old }
-    requires least { (place : ℕ) → IsNoLater (Some entry) (at firsts.old place) }
+    requires least { (place : ℕ) → IsNoLater (Some entry) (first_entry_at firsts.old place) }
     ensures together { length inputs.new ≡ length firsts.new }
     ensures stand { AllStand (map E.standing inputs.old) (map E.standing inputs.new) result }
     ensures within { IfOk result (λ newest. (points : ℕ → Bool) → IsTrue (points entry.point) → AreWithin E.within points inputs.old firsts.old → IsTrue (points newest.point) × AreWithin E.within points inputs.new firsts.new) }
     ensures key { IfOk result (λ newest. newest.key ≡ entry.key) }
-    ensures above { IfOk result (λ newest. (place : ℕ) → IsBelow newest.key (at firsts.new place)) }
+    ensures above { IfOk result (λ newest. (place : ℕ) → IsBelow newest.key (first_entry_at firsts.new place)) }
     ensures goes_on { GoOnPassing (map E.coming inputs.old) firsts.old entry (map E.coming inputs.new) firsts.new result }
     ensures refusals { IfErr result (IsMergeRefusal E.refusals) }
 {
@@ -127,11 +127,11 @@ pub(crate) fn newest_of<E: Entries>(
 // The place of the least key, if that is the entry's.
 #[inline(always)]
 fn least_with(firsts: &Tournament, entry: &EntryText) -> Option<usize>
-    requires { (place : ℕ) → IsNoLater (Some entry.now) (at firsts.now place) }
-    ensures none { IfNone result ((place : ℕ) → IsBelow entry.now.key (at firsts.now place)) }
+    requires { (place : ℕ) → IsNoLater (Some entry.now) (first_entry_at firsts.now place) }
+    ensures none { IfNone result ((place : ℕ) → IsBelow entry.now.key (first_entry_at firsts.now place)) }
     ensures within { IfSome result (λ place. place < length firsts.now) }
-    ensures some { IfSome result (λ place. at firsts.now place ≢ None) }
-    ensures key { IfSome result (λ place. has_key entry.now.key (at firsts.now place) ≡ true) }
+    ensures some { IfSome result (λ place. first_entry_at firsts.now place ≢ None) }
+    ensures key { IfSome result (λ place. has_key entry.now.key (first_entry_at firsts.now place) ≡ true) }
 {
     let place = firsts.least()?;
     if is_of_key(firsts.standing(place), entry) {

@@ -1,6 +1,6 @@
 //! A tournament of places: of the entries at them the one with the least key is known.
 ghost use Rattle.std.specs.Prelude.{◌≡◌, ◌≤◌, ◌<◌, None, IfOk, IfSome, IfNone, length, option_map, replicate, slice_set};
-ghost use Rattle.pc_merge.specs.Tournaments.{IsFree, IsLeast, at};
+ghost use Rattle.pc_merge.specs.Tournaments.{HasNoEntries, IsLeast, first_entry_at};
 
 use crate::limits::MOST_INPUTS;
 use crate::tree::{LAST_HEAD, head_at, leftmost, mend};
@@ -48,7 +48,7 @@ impl Tournament {
 
     /// The place of the least key, if there is an entry at any.
     pub(crate) fn least(&self) -> Option<usize>
-        ensures none { IfNone result (IsFree self.now) }
+        ensures none { IfNone result (HasNoEntries self.now) }
         ensures least { IfSome result (IsLeast self.now) }
     {
         if self.firsts.is_empty() {
@@ -64,7 +64,7 @@ impl Tournament {
     /// The entry at the place, if any.
     pub(crate) fn standing(&self, place: usize) -> Option<&EntryText>
         requires { place < length self.now }
-        ensures { option_map (λ entry. entry.now) result ≡ at self.now place }
+        ensures { option_map (λ entry. entry.now) result ≡ first_entry_at self.now place }
     {
         self.firsts[place].as_ref()
     }
@@ -73,7 +73,7 @@ impl Tournament {
     #[inline(always)]
     pub(crate) fn replace(&mut self, place: usize, entry: Option<EntryText>) -> Option<EntryText>
         requires { place < length self.old }
-        ensures given { result ≡ at self.old place }
+        ensures given { result ≡ first_entry_at self.old place }
         ensures placed { self.new ≡ slice_set self.old place entry }
     {
         self.heads[place] = head_at(&entry);

@@ -1,7 +1,7 @@
 //! The tree over places, of which each inner node has the better place of its two children.
 ghost use Rattle.std.specs.Prelude.{◌≡◌, ◌≤◌, ◌<◌, ◌*◌, ◌+◌, ℕ, ◌⊎◌, IfOk, MatchBool, length};
-ghost use Rattle.pc_merge.specs.Tournaments.{IsNoLater, at};
-ghost use Rattle.pc_merge.specs.Trees.{AreHeads, AreNodes, HasBetter, HasPlaceBelow, IsHeadAt, IsOver, IsTournament};
+ghost use Rattle.pc_merge.specs.Tournaments.{IsNoLater, first_entry_at};
+ghost use Rattle.pc_merge.specs.Trees.{AreHeads, AreNodes, HasBetter, HasPlaceBelow, IsHeadAt, IsAncestorOrSelf, IsTournament};
 
 use crate::limits::MOST_INPUTS;
 use crate::order::compare;
@@ -40,7 +40,7 @@ pub(crate) fn mend(tree: &mut [u32], heads: &[u64], firsts: &[Option<EntryText>]
     requires place { place < length firsts.now }
     requires heads { AreHeads firsts.now heads.now }
     requires nodes { AreNodes (length firsts.now) tree.old }
-    requires others { (node : ℕ) → 1 ≤ node → node < length firsts.now → HasBetter firsts.now tree.old node ⊎ IsOver node (length firsts.now + place) }
+    requires others { (node : ℕ) → 1 ≤ node → node < length firsts.now → HasBetter firsts.now tree.old node ⊎ IsAncestorOrSelf node (length firsts.now + place) }
     ensures { IsTournament firsts.now tree.new }
 {
     let mut node = (firsts.len() + place) / 2;
@@ -56,8 +56,8 @@ fn better(heads: &[u64], firsts: &[Option<EntryText>], first: u32, second: u32) 
     requires heads { AreHeads firsts.now heads.now }
     requires places { (first < length firsts.now) × (second < length firsts.now) }
     ensures one { (result ≡ first) ⊎ (result ≡ second) }
-    ensures left { IsNoLater (at firsts.now result) (at firsts.now first) }
-    ensures right { IsNoLater (at firsts.now result) (at firsts.now second) }
+    ensures left { IsNoLater (first_entry_at firsts.now result) (first_entry_at firsts.now first) }
+    ensures right { IsNoLater (first_entry_at firsts.now result) (first_entry_at firsts.now second) }
 {
     let (one, other) = (first as usize, second as usize);
     if is_no_later(heads[one], &firsts[one], heads[other], &firsts[other]) {
@@ -106,7 +106,7 @@ fn leaf_below(node: usize, places: usize) -> usize
     requires places { places ≤ MOST_INPUTS }
     requires node { (1 ≤ node) × (node < 2 * places) }
     ensures leaf { (places ≤ result) × (result < 2 * places) }
-    ensures over { IsOver node result }
+    ensures over { IsAncestorOrSelf node result }
     ensures own { places ≤ node → result ≡ node }
 {
     let mut leaf = node;

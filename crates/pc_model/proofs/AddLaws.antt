@@ -15,7 +15,7 @@ use Rattle.pc_model.specs.Maps.{get}
 use Rattle.pc_model.specs.Database.{Database, applied_all, change_to, write_of, with_write, written, seen}
 use Rattle.pc_model.specs.Changes.{Applies, AllApply, AddsApply}
 use Rattle.pc_model.specs.Log.{after}
-use Rattle.pc_model.specs.History.{History, Effect, effect, contents, log_of, number_of, writes_of, writes_by, entries_by}
+use Rattle.pc_model.specs.History.{History, Effect, effect, contents, log_of, transaction_number_of, writes_of, writes_by, entries_by}
 use Rattle.pc_model.specs.History.Effect.{Begins, Reads, Writes, Adds, Waits, Dies, Commits, Aborts, Moves, Takes, Shelves, Joins, Nothing}
 use Rattle.pc_model.specs.Locks.{outcome, queue_of}
 use Rattle.pc_model.specs.Reads.{HasRightReads, HasReadFrom, ReadBy, RightBy}
@@ -24,7 +24,7 @@ use Rattle.pc_model.proofs.EffectLaws.{no_first, no_other, no_others}
 use Rattle.pc_model.proofs.ChangeLaws.{still}
 
 -- if no cause applies and the request is granted, there is a sum, and it can be kept
-pub add_stands : (st : Setting) (h : History) (s : ℕ) (key : List ℕ) (delta : ℤ) → first_refusal (write_causes st s key h ++ add_causes st s key delta h) ≡ None → outcome (queue_of key h) (number_of s h) Exclusive ≡ Granted →
+pub add_stands : (st : Setting) (h : History) (s : ℕ) (key : List ℕ) (delta : ℤ) → first_refusal (write_causes st s key h ++ add_causes st s key delta h) ≡ None → outcome (queue_of key h) (transaction_number_of s h) Exclusive ≡ Granted →
     (is_none (added delta (seen_by st s key h)) ≡ false) × (can_add (written (writes_of s h) key) delta ≡ true)
 add_stands st h s key delta none granted = by_or (is_none (added delta (seen_by st s key h))) (can_add (written (writes_of s h) key) delta) in_range
   where

@@ -14,7 +14,7 @@ use Rattle.pc_model.specs.Sets as set
 use Rattle.pc_model.specs.Database.{Database, written, seen}
 use Rattle.pc_model.specs.Log.{state_at}
 use Rattle.pc_types.specs.declared.Step.{Step}
-use Rattle.pc_model.specs.History.{History, writes_of, log_of, contents, begun, number_of, point_of}
+use Rattle.pc_model.specs.History.{History, writes_of, log_of, contents, begun, transaction_number_of, point_of}
 use Rattle.pc_model.specs.Locks.{outcome, queue_of}
 use Rattle.pc_model.specs.Points.{taken}
 use Rattle.pc_model.specs.Files.{File, shelf, file_at, join_of}
@@ -33,10 +33,10 @@ file_reply (f ∷ fs) number = told.File number (set.items f.points) (map_of.len
 abbrev pub answer : Setting → History → Event → Reply
 answer st history (asked.Begin s) = told.Begun (begun history + 1)
 answer st history (asked.Get s key) =
-    by_outcome (outcome (queue_of key history) (number_of s history) Shared) (read_reply (seen (written (writes_of s history) key) (map_of.get (contents st.base history) key)))
-answer st history (asked.Put s key value) = by_outcome (outcome (queue_of key history) (number_of s history) Exclusive) told.Ok
-answer st history (asked.Del s key) = by_outcome (outcome (queue_of key history) (number_of s history) Exclusive) told.Ok
-answer st history (asked.Add s key delta) = by_outcome (outcome (queue_of key history) (number_of s history) Exclusive) (sum_reply (added delta (seen_by st s key history)))
+    by_outcome (outcome (queue_of key history) (transaction_number_of s history) Shared) (read_reply (seen (written (writes_of s history) key) (map_of.get (contents st.base history) key)))
+answer st history (asked.Put s key value) = by_outcome (outcome (queue_of key history) (transaction_number_of s history) Exclusive) told.Ok
+answer st history (asked.Del s key) = by_outcome (outcome (queue_of key history) (transaction_number_of s history) Exclusive) told.Ok
+answer st history (asked.Add s key delta) = by_outcome (outcome (queue_of key history) (transaction_number_of s history) Exclusive) (sum_reply (added delta (seen_by st s key history)))
 answer st history (asked.Commit s) = told.Committed (length (log_of history) + 1)
 answer st history (asked.Abort s) = told.Aborted
 answer st history asked.StartPoint = told.Phase phase.Prepare (point_of history + 1)

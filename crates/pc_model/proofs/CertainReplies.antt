@@ -8,7 +8,7 @@ use Rattle.pc_types.specs.declared.Reply.TheVariants as told
 use Rattle.pc_types.specs.declared.Refusal.{Refusal}
 use Rattle.pc_types.specs.declared.Refusal.TheVariants as why
 use Rattle.pc_model.specs.History.{History}
-use Rattle.pc_model.specs.Replies.{Setting, first_refusal, or_else, log_is_full, not_yet, wrong_phase, held_back, active_in, is_in}
+use Rattle.pc_model.specs.Replies.{Setting, first_refusal, or_else, log_is_full, not_yet, wrong_phase, held_back_reply, active_in_class, is_in_phase}
 use Rattle.pc_model.proofs.EffectLaws.{first_refusal_refuses}
 
 module _ (Kind : Reply → Type 0) where
@@ -34,7 +34,7 @@ module _ (Kind : Reply → Type 0) where
 
     -- outside a phase, and then
     pub by_phase : (from : Phase) (h : History) (o : Option Reply) → IfSome o Kind → IfSome (or_else (wrong_phase from h) o) Kind
-    by_phase from h o = by_either (wrong_phase from h) o (by_causes ((not (is_in from h), why.WrongPhase) ∷ []))
+    by_phase from h o = by_either (wrong_phase from h) o (by_causes ((not (is_in_phase from h), why.WrongPhase) ∷ []))
 
     module _ (waits : (count : ℕ) → Kind (told.NotYet count)) where
       -- while some are left, and then
@@ -46,10 +46,10 @@ module _ (Kind : Reply → Type 0) where
           by_case false = waits count
 
       -- what holds back a change of the phase
-      pub by_held : (st : Setting) (from : Phase) (class : Class) (h : History) → IfSome (held_back st from class h) Kind
+      pub by_held : (st : Setting) (from : Phase) (class : Class) (h : History) → IfSome (held_back_reply st from class h) Kind
       by_held st from class h =
-          by_phase from h (or_else (not_yet (active_in st class h)) (first_refusal ((log_is_full h, why.LogFull) ∷ [])))
-          (by_count (active_in st class h) (first_refusal ((log_is_full h, why.LogFull) ∷ [])) (by_causes ((log_is_full h, why.LogFull) ∷ [])))
+          by_phase from h (or_else (not_yet (active_in_class st class h)) (first_refusal ((log_is_full h, why.LogFull) ∷ [])))
+          (by_count (active_in_class st class h) (first_refusal ((log_is_full h, why.LogFull) ∷ [])) (by_causes ((log_is_full h, why.LogFull) ∷ [])))
 
 -- a legal reply is the answer if no cause applies, or a refusal, for events that are only refused or answered
 pub answer_or_refusal : (causes : List (Bool × Refusal)) (Answer : Type 0) (reply : Reply) → MatchOption (first_refusal causes) (Answer ⊎ (reply ≡ told.Refused why.OutOfMemory)) (λ due. reply ≡ due) →

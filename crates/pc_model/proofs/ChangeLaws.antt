@@ -5,7 +5,7 @@ use Rattle.std.proofs.lemmas.Cmp.{eq_by_cmp_equiv}
 use Rattle.pc_types.specs.declared.Change.{Change}
 use Rattle.pc_types.specs.declared.Change.TheVariants.{Set, Remove, Add}
 use Rattle.pc_types.specs.declared.Write.{Write}
-use Rattle.pc_types.specs.Changes.{fits, number_text, number_of, sum_of, sum_if, added, or_same, changed, set_to, merged}
+use Rattle.pc_types.specs.Changes.{fits_i64, number_text, content_number, sum_of, sum_if, added, or_same, changed_content, set_to, merged}
 use Rattle.pc_types.proofs.NumberLaws.{fits_is, read_back, none_is, is_sum, assoc, from_zero}
 use Rattle.pc_model.specs.Maps.{get}
 use Rattle.pc_model.specs.Database.{Database, key_order, same_bytes, applied, applied_all, write_of, with_write, written, seen}
@@ -17,10 +17,10 @@ use Rattle.pc_model.proofs.WrittenKeyLaws.{merged_if, written_with}
 use Rattle.pc_model.proofs.DistinctWriteLaws.{distinct_with, seen_of}
 
 abbrev pub Merges : Change → Change → Option (List ℕ) → Type 0
-Merges a b there = (changed (merged a b) there ≡ changed b (changed a there)) × Applies (merged a b) there
+Merges a b there = (changed_content (merged a b) there ≡ changed_content b (changed_content a there)) × Applies (merged a b) there
 
 -- an add after a value
-on_value : (v : List ℕ) (there : Option (List ℕ)) (o : Option ℤ) → (changed (set_to v o) there ≡ or_same (Some v) o) × Applies (set_to v o) there
+on_value : (v : List ℕ) (there : Option (List ℕ)) (o : Option ℤ) → (changed_content (set_to v o) there ≡ or_same (Some v) o) × Applies (set_to v o) there
 on_value v there None = (refl, tt)
 on_value v there (Some n) = (refl, tt)
 
@@ -32,7 +32,7 @@ on_none d there some =
     (sym (ap (or_same None) (is ∙ sum.0) ∙ ap (λ n. Some (number_text n)) (from_zero d)), tt)
 
 -- an add after an add
-on_add : (e d : ℤ) (there : Option (List ℕ)) (o : Option ℤ) → number_of there ≡ o → is_some (sum_if o e) ≡ true → is_some (added d (or_same there (sum_if o e))) ≡ true →
+on_add : (e d : ℤ) (there : Option (List ℕ)) (o : Option ℤ) → content_number there ≡ o → is_some (sum_if o e) ≡ true → is_some (added d (or_same there (sum_if o e))) ≡ true →
     (or_same there (sum_if o (e +ℤ d)) ≡ or_same (or_same there (sum_if o e)) (added d (or_same there (sum_if o e)))) × (is_some (sum_if o (e +ℤ d)) ≡ true)
 on_add e d there None is first second = cc
 on_add e d there (Some n) is first second =
@@ -40,18 +40,18 @@ on_add e d there (Some n) is first second =
     let then_ : or_same there (sum_of n e) ≡ Some (number_text (n +ℤ e)) = ap (or_same there) one.0 in
     let more : added d (or_same there (sum_of n e)) ≡ sum_of (n +ℤ e) d = ap (added d) then_ ∙ ap (λ o. sum_if o d) (read_back (n +ℤ e) (fits_is (n +ℤ e) one.1)) in
     let two = is_sum (n +ℤ e) d (sym (ap is_some more) ∙ second) in
-    let all : sum_of n (e +ℤ d) ≡ Some ((n +ℤ e) +ℤ d) = ap (λ z. if fits z then Some z else None) (sym (assoc n e d)) ∙ two.0 in
+    let all : sum_of n (e +ℤ d) ≡ Some ((n +ℤ e) +ℤ d) = ap (λ z. if fits_i64 z then Some z else None) (sym (assoc n e d)) ∙ two.0 in
     (ap (or_same there) all ∙ sym (ap (or_same (or_same there (sum_of n e))) (more ∙ two.0)), ap is_some all)
 
-pub merge : (a b : Change) (there : Option (List ℕ)) → Applies a there → Applies b (changed a there) → Merges a b there
+pub merge : (a b : Change) (there : Option (List ℕ)) → Applies a there → Applies b (changed_content a there) → Merges a b there
 merge a (Set v) there first second = (refl, tt)
 merge a Remove there first second = (refl, tt)
 merge (Set v) (Add d) there first second = on_value v there (added d (Some v))
 merge Remove (Add d) there first second = on_none d there second
-merge (Add e) (Add d) there first second = on_add e d there (number_of there) refl first second
+merge (Add e) (Add d) there first second = on_add e d there (content_number there) refl first second
 
 -- a change after the earlier one does what both do in a row
-pub merge_if : (o : Option Change) (change : Change) (there : Option (List ℕ)) → AppliesIfAny o there → Applies change (seen o there) → (changed (merged_if o change) there ≡ changed change (seen o there)) × Applies (merged_if o change) there
+pub merge_if : (o : Option Change) (change : Change) (there : Option (List ℕ)) → AppliesIfAny o there → Applies change (seen o there) → (changed_content (merged_if o change) there ≡ changed_content change (seen o there)) × Applies (merged_if o change) there
 merge_if None change there first second = (refl, second)
 merge_if (Some before) change there first second = merge before change there first second
 
@@ -63,22 +63,22 @@ pub final_write : (db : Database) (ws : List Write) (w : Write) → AreDistinct 
     applied_all db (with_write ws w) ≡ applied (applied_all db ws) w
 final_write db ws w d first second = same_database _ _ (λ q.
     seen_of db (with_write ws w) q (distinct_with ws w d) ∙ ap (λ o. seen o (get db q)) (written_with ws w q) ∙ by_match q (same_bytes w.key q) refl
-    ∙ sym (get_put (applied_all db ws) w.key q (changed w.change (get (applied_all db ws) w.key))))
+    ∙ sym (get_put (applied_all db ws) w.key q (changed_content w.change (get (applied_all db ws) w.key))))
   where
     by_match : (q : List ℕ) (b : Bool) → same_bytes w.key q ≡ b → seen (cond b (Some (merged_if (written ws w.key) w.change)) (written ws q)) (get db q)
-        ≡ cond (same_bytes q w.key) (changed w.change (get (applied_all db ws) w.key)) (get (applied_all db ws) q)
+        ≡ cond (same_bytes q w.key) (changed_content w.change (get (applied_all db ws) w.key)) (get (applied_all db ws) q)
     by_match q true e =
-        ap (λ k. changed (merged_if (written ws w.key) w.change) (get db k)) (sym (one_key w.key q e))
+        ap (λ k. changed_content (merged_if (written ws w.key) w.change) (get db k)) (sym (one_key w.key q e))
         ∙ (merge_if (written ws w.key) w.change (get db w.key) first second).0
-        ∙ ap (changed w.change) (sym (seen_of db ws w.key d))
-        ∙ ap (λ b. cond b (changed w.change (get (applied_all db ws) w.key)) (get (applied_all db ws) q)) (sym (turn q w.key ∙ e))
-    by_match q false e = sym (seen_of db ws q d) ∙ ap (λ b. cond b (changed w.change (get (applied_all db ws) w.key)) (get (applied_all db ws) q)) (sym (turn q w.key ∙ e))
+        ∙ ap (changed_content w.change) (sym (seen_of db ws w.key d))
+        ∙ ap (λ b. cond b (changed_content w.change (get (applied_all db ws) w.key)) (get (applied_all db ws) q)) (sym (turn q w.key ∙ e))
+    by_match q false e = sym (seen_of db ws q d) ∙ ap (λ b. cond b (changed_content w.change (get (applied_all db ws) w.key)) (get (applied_all db ws) q)) (sym (turn q w.key ∙ e))
 
 -- an add that doesn't apply changes nothing
 pub nothing_done : (db : Database) (key : List ℕ) (d : ℤ) → added d (get db key) ≡ None → applied db (write_of key (Add d)) ≡ db
-nothing_done db key d none = same_database _ _ (λ q. get_put db key q (changed (Add d) (get db key)) ∙ by_match q (same_bytes q key) refl)
+nothing_done db key d none = same_database _ _ (λ q. get_put db key q (changed_content (Add d) (get db key)) ∙ by_match q (same_bytes q key) refl)
   where
-    by_match : (q : List ℕ) (b : Bool) → same_bytes q key ≡ b → cond b (changed (Add d) (get db key)) (get db q) ≡ get db q
+    by_match : (q : List ℕ) (b : Bool) → same_bytes q key ≡ b → cond b (changed_content (Add d) (get db key)) (get db q) ≡ get db q
     by_match q true e = ap (or_same (get db key)) none ∙ ap (get db) (sym (one_key q key e))
     by_match q false e = refl
 

@@ -3,7 +3,7 @@ use Rattle.std.proofs.Common.{◌≡◌, ℕ, List, [], ◌∷◌, Option, Some,
 use Rattle.std.proofs.lemmas.Cmp.{eq_by_cmp_equiv}
 use Rattle.pc_types.specs.declared.Change.{Change}
 use Rattle.pc_types.specs.declared.Write.{Write}
-use Rattle.pc_types.specs.Changes.{changed, merged}
+use Rattle.pc_types.specs.Changes.{changed_content, merged}
 use Rattle.pc_model.specs.Maps.{get}
 use Rattle.pc_model.specs.Database.{Database, applied, applied_all, key_order, same_bytes, with_write, written, seen}
 use Rattle.pc_model.specs.DistinctWrites.{AreDistinct}
@@ -32,12 +32,12 @@ pub seen_of : (db : Database) (ws : List Write) (key : List ℕ) → AreDistinct
 seen_of db [] key d = refl
 seen_of db (w ∷ ws) key d = seen_of (applied db w) ws key d.1 ∙ by_match (same_bytes w.key key) refl
   where
-    left : get (applied db w) key ≡ cond (same_bytes key w.key) (changed w.change (get db w.key)) (get db key)
-    left = get_put db w.key key (changed w.change (get db w.key))
+    left : get (applied db w) key ≡ cond (same_bytes key w.key) (changed_content w.change (get db w.key)) (get db key)
+    left = get_put db w.key key (changed_content w.change (get db w.key))
 
     by_match : (b : Bool) → same_bytes w.key key ≡ b → seen (written ws key) (get (applied db w) key) ≡ seen (cond b (Some w.change) (written ws key)) (get db key)
     by_match true e =
         let same : w.key ≡ key = one_key w.key key e in
         let none : written ws key ≡ None = ap (written ws) (sym same) ∙ not_some (written ws w.key) d.0 in
-        ap (λ o. seen o (get (applied db w) key)) none ∙ left ∙ ap (λ b. cond b (changed w.change (get db w.key)) (get db key)) (turn key w.key ∙ e) ∙ ap (λ k. changed w.change (get db k)) same
-    by_match false e = ap (seen (written ws key)) (left ∙ ap (λ b. cond b (changed w.change (get db w.key)) (get db key)) (turn key w.key ∙ e))
+        ap (λ o. seen o (get (applied db w) key)) none ∙ left ∙ ap (λ b. cond b (changed_content w.change (get db w.key)) (get db key)) (turn key w.key ∙ e) ∙ ap (λ k. changed_content w.change (get db k)) same
+    by_match false e = ap (seen (written ws key)) (left ∙ ap (λ b. cond b (changed_content w.change (get db w.key)) (get db key)) (turn key w.key ∙ e))

@@ -7,8 +7,8 @@ use Rattle.pc_model.specs.Maps.{get}
 use Rattle.pc_model.proofs.MapLaws.{get-insert, get-remove, get-empty, get-entries}
 use Rattle.std.specs.Ordering.{is_eq}
 use Rattle.pc_model.specs.Database.{Database, key_cmp, key_order, same_bytes, put, applied, applied_all}
-use Rattle.pc_types.specs.Changes.{changed}
-use Rattle.pc_model.specs.Points.{Triples, AtPoint, newer, later, joined_entries, joined, laid_at, laid_entries, laid, triples_of, is_among, with_key, with_keys, with_written}
+use Rattle.pc_types.specs.Changes.{changed_content}
+use Rattle.pc_model.specs.Points.{Triples, AtPoint, newer, later, joined_entries, joined, laid_at, laid_entries, laid, triples_at_point, is_among, with_key, with_keys, with_written}
 use Rattle.pc_types.specs.declared.Write.{Write}
 use Rattle.pc_types.specs.declared.Entry.{Entry}
 use Rattle.pc_types.specs.declared.Entry.TheVariants.{Commit, Token}
@@ -53,10 +53,10 @@ pub get-laid : (db : Database) (point : ℕ) (m : Triples) (q : List ℕ) → ge
 get-laid db point m q = laid_entries_get db point m.entries q ∙ ap (laid_at (get db q) point) (sym (get-entries m q))
 
 -- a part has the keys that it is made of
-pub get-triples_of : (point : ℕ) (db : Database) (keys : List (List ℕ)) (q : List ℕ) → get (triples_of point db keys) q ≡ cond (is_among keys q) (Some (record { point = point; content = get db q })) None
+pub get-triples_of : (point : ℕ) (db : Database) (keys : List (List ℕ)) (q : List ℕ) → get (triples_at_point point db keys) q ≡ cond (is_among keys q) (Some (record { point = point; content = get db q })) None
 get-triples_of point db [] q = get-empty key_order q
-get-triples_of point db (key ∷ keys) q = get-insert (triples_of point db keys) key (record { point = point; content = get db key }) q
-    ∙ elim (same_bytes q key) as (λ b. same_bytes q key ≡ b → cond b (Some (record { point = point; content = get db key })) (get (triples_of point db keys) q) ≡ cond (b || is_among keys q) (Some (record { point = point; content = get db q })) None) [
+get-triples_of point db (key ∷ keys) q = get-insert (triples_at_point point db keys) key (record { point = point; content = get db key }) q
+    ∙ elim (same_bytes q key) as (λ b. same_bytes q key ≡ b → cond b (Some (record { point = point; content = get db key })) (get (triples_at_point point db keys) q) ≡ cond (b || is_among keys q) (Some (record { point = point; content = get db q })) None) [
       | true ↦ λ same. ap (λ k. Some (record { point = point; content = get db k })) (sym (one_key q key same))
       | false ↦ λ _. get-triples_of point db keys q
     ] refl
@@ -113,7 +113,7 @@ is_among-with_written keys (Token phase point ∷ log) q = is_among-with_written
 applied_all_other : (db : Database) (ws : List Write) (q : List ℕ) → have_key ws q ≡ false → get (applied_all db ws) q ≡ get db q
 applied_all_other db [] q none = refl
 applied_all_other db (w ∷ ws) q none =
-    applied_all_other (applied db w) ws q (second (same_bytes q w.key) (have_key ws q) none) ∙ get_put db w.key q (changed w.change (get db w.key)) ∙ ap (λ b. cond b (changed w.change (get db w.key)) (get db q)) (first (same_bytes q w.key) (have_key ws q) none)
+    applied_all_other (applied db w) ws q (second (same_bytes q w.key) (have_key ws q) none) ∙ get_put db w.key q (changed_content w.change (get db w.key)) ∙ ap (λ b. cond b (changed_content w.change (get db w.key)) (get db q)) (first (same_bytes q w.key) (have_key ws q) none)
 
 pub after_other : (db : Database) (log : List Entry) (q : List ℕ) → has_written log q ≡ false → get (after db log) q ≡ get db q
 after_other db [] q none = refl
@@ -121,7 +121,7 @@ after_other db (Commit s ws ∷ log) q none = after_other (applied_all db ws) lo
 after_other db (Token phase point ∷ log) q none = after_other db log q none
 
 -- A file of what a piece of the log wrote, applied to the database before it, is the database after it.
-pub one_piece : (db : Database) (log : List Entry) (b point : ℕ) → b < point → laid db b (triples_of point (after db log) (with_written [] log)) ≡ after db log
+pub one_piece : (db : Database) (log : List Entry) (b point : ℕ) → b < point → laid db b (triples_at_point point (after db log) (with_written [] log)) ≡ after db log
 one_piece db log b point above = same_database _ _ (λ q. get-laid db b _ q ∙ ap (laid_at (get db q) b) (get-triples_of point (after db log) (with_written [] log) q ∙ ap (λ t. cond t (Some (record { point = point; content = get (after db log) q })) None) (is_among-with_written [] log q))
     ∙ elim (has_written log q) as (λ t. has_written log q ≡ t → laid_at (get db q) b (cond t (Some (record { point = point; content = get (after db log) q })) None) ≡ get (after db log) q) [
       | true ↦ λ _. ap (λ t. cond t (get (after db log) q) (get db q)) (lt-ltb b point above)

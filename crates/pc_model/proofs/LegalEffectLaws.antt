@@ -18,13 +18,13 @@ use Rattle.pc_types.specs.declared.Reply.{Reply}
 use Rattle.pc_types.specs.declared.Reply.TheVariants as told
 use Rattle.pc_types.specs.declared.Refusal.{Refusal}
 use Rattle.pc_types.specs.declared.Refusal.TheVariants as why
-use Rattle.pc_model.specs.History.{History, Effect, effect_of, is_open, phase_of, point_of, has_died, effect_of_add, writes_of, number_of}
+use Rattle.pc_model.specs.History.{History, Effect, effect_of, is_open, phase_of, point_of, has_died, effect_of_add, writes_of, transaction_number_of}
 use Rattle.pc_model.specs.History.Effect.{Nothing}
 use Rattle.pc_types.specs.declared.Class.{Class}
 use Rattle.pc_types.specs.declared.Class.TheVariants.{Before, During, After}
 use Rattle.pc_model.specs.Locks.{is_waiting, outcome, queue_of}
 use Rattle.pc_model.specs.Files.{shelf, numbers_to}
-use Rattle.pc_model.specs.Replies.{Setting, is_in, closed_set, is_empty, first_refusal, or_else, no_session, log_is_full, transaction_causes, not_yet, wrong_phase, held_back, TakesFirst, certain, Answers, IsLegal, IsLegalHistory, write_causes, add_causes, seen_by, sum_reply, by_outcome}
+use Rattle.pc_model.specs.Replies.{Setting, is_in_phase, closed_set, is_empty, first_refusal, or_else, no_session, log_is_full, transaction_causes, not_yet, wrong_phase, held_back_reply, TakesFirst, certain, Answers, IsLegal, IsLegalHistory, write_causes, add_causes, seen_by, sum_reply, by_outcome}
 use Rattle.pc_model.specs.LegalEffects.{some_active, Fits, IsIdle, IsIdleIfAny}
 use Rattle.pc_types.specs.Phases.{same_phase}
 use Rattle.pc_model.specs.Standing.{HasLegalEffects}
@@ -48,7 +48,7 @@ causes_idle = by_causes IsIdle refused_idle
 pub or_else_idle : (o p : Option Reply) → IsIdleIfAny o → IsIdleIfAny p → IsIdleIfAny (or_else o p)
 or_else_idle = by_either IsIdle
 
-pub held_back_idle : (st : Setting) (from : Phase) (class : Class) (h : History) → IsIdleIfAny (held_back st from class h)
+pub held_back_idle : (st : Setting) (from : Phase) (class : Class) (h : History) → IsIdleIfAny (held_back_reply st from class h)
 held_back_idle = by_held IsIdle refused_idle (λ count event. not_yet_does_nothing event count)
 
 none_left_idle : (b : Bool) → IsIdleIfAny (cond b (Some told.NoneLeft) None)
@@ -80,9 +80,9 @@ one_phase Complete Complete e = refl
 one_phase a b e = cc
 
 right_phase : (from : Phase) (h : History) → wrong_phase from h ≡ None → phase_of h ≡ from
-right_phase from h none = one_phase (phase_of h) from (turned (is_in from h) (no_first (not (is_in from h), why.WrongPhase) [] none))
+right_phase from h none = one_phase (phase_of h) from (turned (is_in_phase from h) (no_first (not (is_in_phase from h), why.WrongPhase) [] none))
 
-held_back_phase : (st : Setting) (from : Phase) (class : Class) (h : History) → held_back st from class h ≡ None → phase_of h ≡ from
+held_back_phase : (st : Setting) (from : Phase) (class : Class) (h : History) → held_back_reply st from class h ≡ None → phase_of h ≡ from
 held_back_phase st from class h none = right_phase from h (or_else_none (wrong_phase from h) _ none).0
 
 none_empty : {X : Type 0} (xs : List X) → not_yet (length xs) ≡ None → xs ≡ []
@@ -148,7 +148,7 @@ module _ (st : Setting) (h : History) where
   legal_fits (asked.Del s key) reply legal = write_case (Fits st h) tt s key None reply (λ counts. tt) tt tt
   legal_fits (asked.Add s key delta) reply legal = elim (answer_or_refusal (write_causes st s key h ++ add_causes st s key delta h) (Answers st h (asked.Add s key delta) reply) reply legal) [
     | inl answered ↦ let P : Reply → Type 0 = (λ r. Fits st h (effect_of (asked.Add s key delta) r)) in
-        subst P (sym answered.1) (add_fits s key delta (outcome (queue_of key h) (number_of s h) Exclusive) (added delta (seen_by st s key h)) (λ granted. (add_stands st h s key delta answered.0 granted).1))
+        subst P (sym answered.1) (add_fits s key delta (outcome (queue_of key h) (transaction_number_of s h) Exclusive) (added delta (seen_by st s key h)) (λ granted. (add_stands st h s key delta answered.0 granted).1))
     | inr refused ↦ let P : Effect → Type 0 = Fits st h in subst P (sym (ap (effect_of (asked.Add s key delta)) refused.1 ∙ refused_does_nothing (asked.Add s key delta) refused.0)) tt
   ]
   legal_fits (asked.Commit s) reply legal =

@@ -16,7 +16,7 @@ use Rattle.pc_model.specs.Files.{shelf}
 use Rattle.pc_model.specs.History.{History, Effect, effect, effect_of, entries_by, log_of, point_of}
 use Rattle.pc_model.specs.History.Effect.{Commits, Moves, Shelves}
 use Rattle.pc_model.specs.LegalEffects.{IsIdle, IsIdleIfAny}
-use Rattle.pc_model.specs.Replies.{Setting, Answers, IsLegal, IsLegalHistory, certain, closed_set, first_refusal, held_back, is_in, log_is_full, not_yet, or_else, transaction_causes, wrong_phase}
+use Rattle.pc_model.specs.Replies.{Setting, Answers, IsLegal, IsLegalHistory, certain, closed_set, first_refusal, held_back_reply, is_in_phase, log_is_full, not_yet, or_else, transaction_causes, wrong_phase}
 use Rattle.pc_model.proofs.EffectCases.{begin_case, get_case, write_case, add_case, abort_case, take_case, join_case}
 use Rattle.pc_model.proofs.EffectLaws.{no_first, no_others}
 use Rattle.pc_model.proofs.LegalEffectLaws.{causes_idle, held_back_idle, not_yet_does_nothing, or_else_idle, or_else_none, settled}
@@ -62,14 +62,14 @@ module _ (st : Setting) (h : History) where
       by (inl answered) = λ full. not_both (log_is_full h) (room answered.0) full
       by (inr nothing) = idle_keeps event reply nothing
 
-  held : (from : Phase) (class : Class) → held_back st from class h ≡ None → log_is_full h ≡ false
+  held : (from : Phase) (class : Class) → held_back_reply st from class h ≡ None → log_is_full h ≡ false
   held from class none = not_full [] h (or_else_none _ _ (or_else_none (wrong_phase from h) _ none).1).1
 
   pub done_idle : IsIdleIfAny (certain st h asked.Done)
   done_idle =
       let causes = with_full ((eqb (length (shelf st.run h)) MOST_FILES, why.ShelfFull) ∷ []) h in
       let count = not_yet (length (closed_set h)) in
-      or_else_idle (wrong_phase phase.Capture h) (or_else count (first_refusal causes)) (causes_idle ((not (is_in phase.Capture h), why.WrongPhase) ∷ []))
+      or_else_idle (wrong_phase phase.Capture h) (or_else count (first_refusal causes)) (causes_idle ((not (is_in_phase phase.Capture h), why.WrongPhase) ∷ []))
       (or_else_idle count (first_refusal causes) (not_yet_idle (length (closed_set h))) (causes_idle causes))
 
   pub keeps : (event : Event) (reply : Reply) → IsLegal st h event reply → Keeps h (effect_of event reply)
@@ -82,7 +82,7 @@ module _ (st : Setting) (h : History) where
   keeps (asked.Abort s) reply legal = abort_case (Keeps h) (λ full. refl) s reply (λ counts full. refl)
   keeps asked.StartPoint reply legal =
       let causes = (eqb (point_of h) MOST_POINTS, why.PointsFull) ∷ [] in
-      let wrong = (not (is_in phase.Rest h), why.WrongPhase) ∷ [] in
+      let wrong = (not (is_in_phase phase.Rest h), why.WrongPhase) ∷ [] in
       placed asked.StartPoint reply (or_else_idle (wrong_phase phase.Rest h) (first_refusal (with_full causes h)) (causes_idle wrong) (causes_idle (with_full causes h)))
       (λ none. not_full causes h (or_else_none (wrong_phase phase.Rest h) _ none).1) legal
   keeps asked.Seal reply legal = placed asked.Seal reply (held_back_idle st phase.Prepare Before h) (held phase.Prepare Before) legal
@@ -90,7 +90,7 @@ module _ (st : Setting) (h : History) where
   keeps asked.Take reply legal = take_case (Keeps h) (λ full. refl) reply (λ key content full. refl)
   keeps asked.Done reply legal =
       let causes = (eqb (length (shelf st.run h)) MOST_FILES, why.ShelfFull) ∷ [] in
-      let wrong = (not (is_in phase.Capture h), why.WrongPhase) ∷ [] in
+      let wrong = (not (is_in_phase phase.Capture h), why.WrongPhase) ∷ [] in
       let count = not_yet (length (closed_set h)) in
       placed asked.Done reply
       (or_else_idle (wrong_phase phase.Capture h) (or_else count (first_refusal (with_full causes h))) (causes_idle wrong)

@@ -14,7 +14,7 @@ use Rattle.pc_model.specs.Maps as map_of
 use Rattle.pc_model.specs.Sets as set
 use Rattle.pc_model.specs.Database.{Database, key_cmp, key_order, same_bytes}
 use Rattle.pc_model.specs.Points.{is_among, with_key}
-use Rattle.pc_model.specs.History.{History, Effect, contents, effect_of, effect_of_write, number_of, effect_of_add}
+use Rattle.pc_model.specs.History.{History, Effect, contents, effect_of, effect_of_write, transaction_number_of, effect_of_add}
 use Rattle.pc_types.specs.declared.Request.{Request}
 use Rattle.pc_model.specs.Locks.{Queue, queue_of, queue_by, queue_after, queue_without, granted_behind}
 use Rattle.pc_types.specs.declared.Outcome.TheVariants.{Granted, Queued}
@@ -79,22 +79,22 @@ module _ (h : History) (q : List ℕ) (was : Has (queue_of q h) → is_among (as
   still : (k : List ℕ) → Has (queue_of q h) → is_among (with_key (asked_for h) k) q ≡ true
   still k has = among_with_key (asked_for h) k q ∙ or_second (same_bytes k q) (is_among (asked_for h) q) (was has)
 
-  ended : (s : ℕ) → Has (queue_without (queue_of q h) (number_of s h)) → is_among (asked_for h) q ≡ true
-  ended s has = was (ended_has (queue_of q h) (number_of s h) has)
+  ended : (s : ℕ) → Has (queue_without (queue_of q h) (transaction_number_of s h)) → is_among (asked_for h) q ≡ true
+  ended s has = was (ended_has (queue_of q h) (transaction_number_of s h) has)
 
   written : (s : ℕ) (k : List ℕ) (value : Option (List ℕ)) (reply : Reply) → Then (with_key (asked_for h) k) (effect_of_write s k value reply)
   written s k value reply =
-      write_case (Then (with_key (asked_for h) k)) (still k) s k value reply (λ counts. now k (queue_after (queue_of q h) (number_of s h) Exclusive Granted)) (now k (queue_after (queue_of q h) (number_of s h) Exclusive Queued)) (still k)
+      write_case (Then (with_key (asked_for h) k)) (still k) s k value reply (λ counts. now k (queue_after (queue_of q h) (transaction_number_of s h) Exclusive Granted)) (now k (queue_after (queue_of q h) (transaction_number_of s h) Exclusive Queued)) (still k)
 
   added_to : (s : ℕ) (k : List ℕ) (delta : ℤ) (reply : Reply) → Then (with_key (asked_for h) k) (effect_of_add s k delta reply)
   added_to s k delta reply =
-      add_case (Then (with_key (asked_for h) k)) (still k) s k delta reply (λ sum counts. now k (queue_after (queue_of q h) (number_of s h) Exclusive Granted)) (now k (queue_after (queue_of q h) (number_of s h) Exclusive Queued)) (still k)
+      add_case (Then (with_key (asked_for h) k)) (still k) s k delta reply (λ sum counts. now k (queue_after (queue_of q h) (transaction_number_of s h) Exclusive Granted)) (now k (queue_after (queue_of q h) (transaction_number_of s h) Exclusive Queued)) (still k)
 
   -- what is asked for and answered
   asked_by_event : (event : Event) (reply : Reply) → Then (asked_by event (asked_for h)) (effect_of event reply)
   asked_by_event (asked.Begin s) reply = begin_case (Then (asked_for h)) was s reply (λ counts. was)
   asked_by_event (asked.Get s k) reply =
-      get_case (Then (with_key (asked_for h) k)) (still k) s k reply (λ answer counts. now k (queue_after (queue_of q h) (number_of s h) Shared Granted)) (now k (queue_after (queue_of q h) (number_of s h) Shared Queued)) (still k)
+      get_case (Then (with_key (asked_for h) k)) (still k) s k reply (λ answer counts. now k (queue_after (queue_of q h) (transaction_number_of s h) Shared Granted)) (now k (queue_after (queue_of q h) (transaction_number_of s h) Shared Queued)) (still k)
   asked_by_event (asked.Put s k v) reply = written s k (Some v) reply
   asked_by_event (asked.Del s k) reply = written s k None reply
   asked_by_event (asked.Add s k delta) reply = added_to s k delta reply

@@ -10,7 +10,7 @@ use Rattle.pc_types.specs.declared.Write.{Write}
 use Rattle.pc_model.specs.History.{History, Effect, effect, effect_of, writes_by, writes_of, open_by, is_open}
 use Rattle.pc_model.specs.History.Effect.{Begins, Reads, Writes, Adds, Commits, Aborts}
 use Rattle.pc_model.specs.Calls.{counts, session_of, is_call_of, calls_of}
-use Rattle.pc_model.specs.Receipts.{Read, reads_by, Own, own, receipts_by_commit, receipts_by, own_by, own_of}
+use Rattle.pc_model.specs.Receipts.{Read, reads_by, Own, own_record, receipts_by_commit, receipts_by, own_by, own_of}
 use Rattle.pc_model.proofs.EffectCases.{begin_case, get_case, write_case, commit_case, abort_case, move_case, take_case, done_case, join_case, add_case}
 
 keep : {A : Type 0} (b : Bool) (x y : A) → b ≡ false → cond b x y ≡ y
@@ -81,7 +81,7 @@ module _ (s : ℕ) (o : Own) where
   pub own_other : (c : Step) → is_call_of s c ≡ false → own_by s c o ≡ o
   own_other c e =
       let others = step_is_others s c.event c.reply e in
-      (λ i. own (open_other s o.is_open (effect c) others i) (writes_other s o.writes (effect c) others i) (reads_other s o.writes o.reads (effect c) others i) (kept_other c.event c.reply e i))
+      (λ i. own_record (open_other s o.is_open (effect c) others i) (writes_other s o.writes (effect c) others i) (reads_other s o.writes o.reads (effect c) others i) (kept_other c.event c.reply e i))
 
 pub own_own : (s : ℕ) (history : History) → own_of s (calls_of s history) ≡ own_of s history
 own_own s [] = refl

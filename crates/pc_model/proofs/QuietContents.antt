@@ -9,7 +9,7 @@ use Rattle.pc_model.specs.Database.{Database}
 use Rattle.pc_model.specs.Log.{after, front, has_token, state_at}
 use Rattle.pc_model.specs.History.{History, Effect, effect, log_of, phase_of, point_of, entries_by, phase_by, point_by, contents}
 use Rattle.pc_model.specs.History.Effect.{Commits, Moves, Shelves}
-use Rattle.pc_model.specs.Replies.{Setting, is_in, open_set}
+use Rattle.pc_model.specs.Replies.{Setting, is_in_phase, open_set}
 use Rattle.pc_model.specs.LegalEffects.{some_active, Fits}
 use Rattle.pc_model.specs.Quiet.{IsQuiet, is_quiet}
 use Rattle.pc_model.specs.Standing.{HasLegalEffects, is_past_token}
@@ -24,16 +24,16 @@ both true b e = (refl, e)
 both false b e = cc
 
 -- in a quiet run a transaction is active in rest alone
-quiet_now : (st : Setting) (h : History) → IsQuiet st h → (is_in Rest h || not (some_active st h)) ≡ true
+quiet_now : (st : Setting) (h : History) → IsQuiet st h → (is_in_phase Rest h || not (some_active st h)) ≡ true
 quiet_now st [] quiet = refl
-quiet_now st (step ∷ h) quiet = (both (is_in Rest (step ∷ h) || not (some_active st (step ∷ h))) (is_quiet st h) quiet).0
+quiet_now st (step ∷ h) quiet = (both (is_in_phase Rest (step ∷ h) || not (some_active st (step ∷ h))) (is_quiet st h) quiet).0
 
 pub quiet_before : (st : Setting) (h : History) → (b : Bool) → (b && is_quiet st h) ≡ true → IsQuiet st h
 quiet_before st h b quiet = (both b (is_quiet st h) quiet).1
 
 -- an active transaction of a quiet run is in rest
 pub active_in_rest : (st : Setting) (h : History) → IsQuiet st h → some_active st h ≡ true → phase_of h ≡ Rest
-active_in_rest st h quiet active = one_phase (phase_of h) Rest (by_rest (is_in Rest h) (sym (ap (λ b. is_in Rest h || not b) active) ∙ quiet_now st h quiet))
+active_in_rest st h quiet active = one_phase (phase_of h) Rest (by_rest (is_in_phase Rest h) (sym (ap (λ b. is_in_phase Rest h || not b) active) ∙ quiet_now st h quiet))
   where
     by_rest : (b : Bool) → (b || false) ≡ true → b ≡ true
     by_rest true e = refl

@@ -18,11 +18,11 @@ use Rattle.pc_types.specs.declared.Refusal.TheVariants as why
 use Rattle.pc_types.specs.declared.limits.TheConstants.{MOST_FILES, MOST_POINTS, MOST_TRANSACTIONS}
 use Rattle.pc_model.specs.Maps.{get}
 use Rattle.pc_model.specs.Database.{written, seen}
-use Rattle.pc_model.specs.History.{History, is_open, begun, writes_of, number_of, log_of, contents, point_of}
+use Rattle.pc_model.specs.History.{History, is_open, begun, writes_of, transaction_number_of, log_of, contents, point_of}
 use Rattle.pc_model.specs.Points.{taken}
 use Rattle.pc_model.specs.Files.{File, shelf, file_at, join_of}
 use Rattle.pc_model.specs.Locks.{outcome, queue_of}
-use Rattle.pc_model.specs.Replies.{Setting, first_refusal, or_else, no_session, is_full, log_is_full, transaction_causes, write_causes, not_yet, wrong_phase, held_back, closed_set, is_empty, join_causes, read_reply, by_outcome, TakesFirst, IsFileReply, IsLegal, add_causes, seen_by, sum_reply}
+use Rattle.pc_model.specs.Replies.{Setting, first_refusal, or_else, no_session, is_full, log_is_full, transaction_causes, write_causes, not_yet, wrong_phase, held_back_reply, closed_set, is_empty, join_causes, read_reply, by_outcome, TakesFirst, IsFileReply, IsLegal, add_causes, seen_by, sum_reply}
 use Rattle.pc_model.specs.ReplyKinds.{IsBeginReply, IsGetReply, IsWriteReply, IsCommitReply, IsAbortReply, IsMoveReply, IsTakeReply, IsDoneReply, IsJoinReply, IsReplyTo, IsAddReply}
 use Rattle.pc_model.proofs.CertainReplies.{answer_or_kind, by_either, by_causes, by_phase, by_count, by_held}
 
@@ -69,25 +69,25 @@ file_kind [] number reply is = absurd is
 file_kind (f ∷ fs) number reply is = subst IsJoinReply (sym is) tt
 
 move_kind : (st : Setting) (from : Phase) (class : Class) (h : History) (to : Phase) (reply : Reply)
-    → MatchOption (held_back st from class h) ((reply ≡ told.Phase to (point_of h)) ⊎ (reply ≡ told.Refused why.OutOfMemory)) (λ due. reply ≡ due) → IsMoveReply reply
+    → MatchOption (held_back_reply st from class h) ((reply ≡ told.Phase to (point_of h)) ⊎ (reply ≡ told.Refused why.OutOfMemory)) (λ due. reply ≡ due) → IsMoveReply reply
 move_kind st from class h to reply =
-    by_due IsMoveReply tt (held_back st from class h) (by_held IsMoveReply (λ r. tt) (λ count. tt) st from class h) (reply ≡ told.Phase to (point_of h)) reply (as_told IsMoveReply (told.Phase to (point_of h)) reply tt)
+    by_due IsMoveReply tt (held_back_reply st from class h) (by_held IsMoveReply (λ r. tt) (λ count. tt) st from class h) (reply ≡ told.Phase to (point_of h)) reply (as_told IsMoveReply (told.Phase to (point_of h)) reply tt)
 
 pub reply_kind : (st : Setting) (h : History) (e : Event) (r : Reply) → IsLegal st h e r → IsReplyTo e r
 reply_kind st h (asked.Begin s) r legal =
     legal_kind IsBeginReply (λ w. tt) ((no_session st s, why.NoSession) ∷ (is_open s h, why.AlreadyBegun) ∷ (begun h == MOST_TRANSACTIONS, why.LogFull) ∷ []) (r ≡ told.Begun (begun h + 1)) r (as_told IsBeginReply (told.Begun (begun h + 1)) r tt) legal
 reply_kind st h (asked.Get s key) r legal =
     let found = seen (written (writes_of s h) key) (get (contents st.base h) key) in
-    let o = outcome (queue_of key h) (number_of s h) Shared in
+    let o = outcome (queue_of key h) (transaction_number_of s h) Shared in
     legal_kind IsGetReply (λ w. tt) (transaction_causes st s h ++ (is_full st key h, why.Full) ∷ []) (r ≡ by_outcome o (read_reply found)) r (as_told IsGetReply (by_outcome o (read_reply found)) r (read_kind o found)) legal
 reply_kind st h (asked.Put s key value) r legal =
-    let o = outcome (queue_of key h) (number_of s h) Exclusive in
+    let o = outcome (queue_of key h) (transaction_number_of s h) Exclusive in
     legal_kind IsWriteReply (λ w. tt) (write_causes st s key h) (r ≡ by_outcome o told.Ok) r (as_told IsWriteReply (by_outcome o told.Ok) r (write_kind o)) legal
 reply_kind st h (asked.Del s key) r legal =
-    let o = outcome (queue_of key h) (number_of s h) Exclusive in
+    let o = outcome (queue_of key h) (transaction_number_of s h) Exclusive in
     legal_kind IsWriteReply (λ w. tt) (write_causes st s key h) (r ≡ by_outcome o told.Ok) r (as_told IsWriteReply (by_outcome o told.Ok) r (write_kind o)) legal
 reply_kind st h (asked.Add s key delta) r legal =
-    let o = outcome (queue_of key h) (number_of s h) Exclusive in
+    let o = outcome (queue_of key h) (transaction_number_of s h) Exclusive in
     let sum = added delta (seen_by st s key h) in
     legal_kind IsAddReply (λ w. tt) (write_causes st s key h ++ add_causes st s key delta h) (r ≡ by_outcome o (sum_reply sum)) r (as_told IsAddReply (by_outcome o (sum_reply sum)) r (add_kind o sum)) legal
 reply_kind st h (asked.Commit s) r legal =

@@ -18,7 +18,7 @@ use Rattle.pc_types.specs.declared.Mode.TheVariants.{Shared, Exclusive}
 use Rattle.pc_model.specs.Maps.{get}
 use Rattle.pc_model.specs.Database.{Database, key_order, same_bytes, written, seen}
 use Rattle.pc_model.specs.Log.{after}
-use Rattle.pc_model.specs.History.{History, Effect, effect, contents, log_of, begun, is_open, number_of, writes_of, has_died, effect_of, effect_of_get, effect_of_write, entries_by, open_by, effect_of_add}
+use Rattle.pc_model.specs.History.{History, Effect, effect, contents, log_of, begun, is_open, transaction_number_of, writes_of, has_died, effect_of, effect_of_get, effect_of_write, entries_by, open_by, effect_of_add}
 use Rattle.pc_model.specs.History.Effect.{Begins, Reads, Writes, Adds, Waits, Dies, Commits, Aborts, Moves, Takes, Shelves, Joins, Nothing}
 use Rattle.pc_types.specs.declared.Outcome.{Outcome}
 use Rattle.pc_model.specs.Locks.{outcome, queue_of, is_waiting}
@@ -64,19 +64,19 @@ module _ (st : Setting) (history : History) where
       let second = no_other (not (is_open s history), why.NoTransaction) waits first in
       (turned (is_open s history) (no_first (not (is_open s history), why.NoTransaction) waits first), no_first (is_waiting s history, why.StillWaiting) died second)
 
-  read_sound : (s : ℕ) (key : List ℕ) (o : Outcome) (answer : Option (List ℕ)) → MayAsk s history → outcome (queue_of key history) (number_of s history) Shared ≡ o →
+  read_sound : (s : ℕ) (key : List ℕ) (o : Outcome) (answer : Option (List ℕ)) → MayAsk s history → outcome (queue_of key history) (transaction_number_of s history) Shared ≡ o →
       answer ≡ seen (written (writes_of s history) key) (get (contents st.base history) key) → IsSound st.base history (effect_of_get s key (by_outcome o (read_reply answer)))
   read_sound s key Granted None may is answer = ((may, is), answer)
   read_sound s key Granted (Some v) may is answer = ((may, is), answer)
   read_sound s key Queued answer may is right = ((may, is), tt)
   read_sound s key Died answer may is right = (tt, tt)
 
-  write_sound : (s : ℕ) (key : List ℕ) (content : Option (List ℕ)) (o : Outcome) → MayAsk s history → outcome (queue_of key history) (number_of s history) Exclusive ≡ o → IsSound st.base history (effect_of_write s key content (by_outcome o told.Ok))
+  write_sound : (s : ℕ) (key : List ℕ) (content : Option (List ℕ)) (o : Outcome) → MayAsk s history → outcome (queue_of key history) (transaction_number_of s history) Exclusive ≡ o → IsSound st.base history (effect_of_write s key content (by_outcome o told.Ok))
   write_sound s key content Granted may is = ((may, is), tt)
   write_sound s key content Queued may is = ((may, is), tt)
   write_sound s key content Died may is = (tt, tt)
 
-  sum_sound : (s : ℕ) (key : List ℕ) (delta : ℤ) (o : Outcome) (sum : Option ℤ) → MayAsk s history → outcome (queue_of key history) (number_of s history) Exclusive ≡ o →
+  sum_sound : (s : ℕ) (key : List ℕ) (delta : ℤ) (o : Outcome) (sum : Option ℤ) → MayAsk s history → outcome (queue_of key history) (transaction_number_of s history) Exclusive ≡ o →
       added delta (seen_by st s key history) ≡ sum → IsSound st.base history (effect_of_add s key delta (by_outcome o (sum_reply sum)))
   sum_sound s key delta Granted None may is right = (tt, tt)
   sum_sound s key delta Granted (Some n) may is right = ((may, is), right)
@@ -113,14 +113,14 @@ module _ (st : Setting) (history : History) where
   -- a write that was legally answered
   written_sound : (s : ℕ) (key : List ℕ) (content : Option (List ℕ)) (event : Event) (reply : Reply) →
       ((r : Reply) → effect_of event r ≡ effect_of_write s key content r) →
-      MatchOption (first_refusal (write_causes st s key history)) ((reply ≡ by_outcome (outcome (queue_of key history) (number_of s history) Exclusive) told.Ok) ⊎ (reply ≡ told.Refused why.OutOfMemory)) (λ due. reply ≡ due) →
+      MatchOption (first_refusal (write_causes st s key history)) ((reply ≡ by_outcome (outcome (queue_of key history) (transaction_number_of s history) Exclusive) told.Ok) ⊎ (reply ≡ told.Refused why.OutOfMemory)) (λ due. reply ≡ due) →
       IsSound st.base history (effect_of event reply)
   written_sound s key content event reply same legal =
-      elim (answer_or_refusal (write_causes st s key history) (reply ≡ by_outcome (outcome (queue_of key history) (number_of s history) Exclusive) told.Ok) reply legal) [
+      elim (answer_or_refusal (write_causes st s key history) (reply ≡ by_outcome (outcome (queue_of key history) (transaction_number_of s history) Exclusive) told.Ok) reply legal) [
         | inl answered ↦ let P : Effect → Type 0 = IsSound st.base history in
             let may = may_ask s ((too_many s key history, why.TooManyWrites) ∷ (is_full st key history, why.Full) ∷ []) answered.0 in
-            subst P (sym (ap (effect_of event) answered.1 ∙ same (by_outcome (outcome (queue_of key history) (number_of s history) Exclusive) told.Ok)))
-            (write_sound s key content (outcome (queue_of key history) (number_of s history) Exclusive) may refl)
+            subst P (sym (ap (effect_of event) answered.1 ∙ same (by_outcome (outcome (queue_of key history) (transaction_number_of s history) Exclusive) told.Ok)))
+            (write_sound s key content (outcome (queue_of key history) (transaction_number_of s history) Exclusive) may refl)
         | inr refused ↦ refused_sound st.base history event reply refused
       ]
 
@@ -128,7 +128,7 @@ module _ (st : Setting) (history : History) where
   legal_sound (asked.Begin s) reply legal = begin_sound s reply legal
   legal_sound (asked.Get s key) reply legal = elim (answer_or_refusal (transaction_causes st s history ++ (is_full st key history, why.Full) ∷ []) (Answers st history (asked.Get s key) reply) reply legal) [
     | inl answered ↦ let P : Reply → Type 0 = (λ r. IsSound st.base history (effect_of (asked.Get s key) r)) in
-        subst P (sym answered.1) (read_sound s key (outcome (queue_of key history) (number_of s history) Shared) (seen (written (writes_of s history) key) (get (contents st.base history) key))
+        subst P (sym answered.1) (read_sound s key (outcome (queue_of key history) (transaction_number_of s history) Shared) (seen (written (writes_of s history) key) (get (contents st.base history) key))
         (may_ask s ((is_full st key history, why.Full) ∷ []) answered.0) refl refl)
     | inr refused ↦ refused_sound st.base history (asked.Get s key) reply refused
   ]
@@ -136,7 +136,7 @@ module _ (st : Setting) (history : History) where
   legal_sound (asked.Del s key) reply legal = written_sound s key None (asked.Del s key) reply (λ r. refl) legal
   legal_sound (asked.Add s key delta) reply legal = elim (answer_or_refusal (write_causes st s key history ++ add_causes st s key delta history) (Answers st history (asked.Add s key delta) reply) reply legal) [
     | inl answered ↦ let P : Reply → Type 0 = (λ r. IsSound st.base history (effect_of (asked.Add s key delta) r)) in
-        subst P (sym answered.1) (sum_sound s key delta (outcome (queue_of key history) (number_of s history) Exclusive) (added delta (seen_by st s key history))
+        subst P (sym answered.1) (sum_sound s key delta (outcome (queue_of key history) (transaction_number_of s history) Exclusive) (added delta (seen_by st s key history))
         (may_ask s ((too_many s key history, why.TooManyWrites) ∷ (is_full st key history, why.Full) ∷ add_causes st s key delta history) answered.0) refl refl)
     | inr refused ↦ refused_sound st.base history (asked.Add s key delta) reply refused
   ]
@@ -223,7 +223,7 @@ commit_leaves h s t key l is_s is_t other read = by_test (is_some (written (writ
   where
     by_test : (b : Bool) → is_some (written (writes_of t h) key) ≡ b → b ≡ false
     by_test false e = refl
-    by_test true e = sym (alone (queue_of key h) (number_of t h) (number_of s h) (l.settled key) (l.writes t key is_t e) (l.reads s key is_s read)) ∙ l.apart t s is_t is_s other
+    by_test true e = sym (alone (queue_of key h) (transaction_number_of t h) (transaction_number_of s h) (l.settled key) (l.writes t key is_t e) (l.reads s key is_s read)) ∙ l.apart t s is_t is_s other
 
 -- the reads so far are still correct after one more effect
 still_right : (base : Database) (s : ℕ) (history : History) (e : Effect) → IsSound base history e → Locked history → (is_open s history ≡ true → HasReadFrom (contents base history) s history) → open_by s e (is_open s history) ≡ true →

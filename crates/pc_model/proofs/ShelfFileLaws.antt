@@ -15,9 +15,9 @@ use Rattle.pc_model.specs.Database.{Database}
 use Rattle.pc_model.specs.Log.{has_token, state_at}
 use Rattle.pc_model.specs.History.{History, Effect, effect, log_of, phase_of, point_of, entries_by}
 use Rattle.pc_model.specs.History.Effect.{Shelves, Joins}
-use Rattle.pc_model.specs.Points.{Triples, touched, taken, part_of, joined, content, laid, triples_of}
+use Rattle.pc_model.specs.Points.{Triples, touched, taken, part_of, joined, content, laid, triples_at_point}
 use Rattle.pc_model.specs.Files.{File, triples_taken, joined_file, file_at, join_of, shelved_by, shelf, conflict, numbers_to}
-use Rattle.pc_model.specs.Standing.{file_of, HasLegalEffects, IsOfItsPoints, JoinsWell, is_past_token}
+use Rattle.pc_model.specs.Standing.{file_of_points, HasLegalEffects, IsOfItsPoints, JoinsWell, is_past_token}
 use Rattle.pc_model.specs.Replies.{Setting, closed_set}
 use Rattle.pc_model.specs.Headline.{TakesPointValue, IsMade, HasHeadline}
 use Rattle.pc_model.specs.Headline.IsMade.{Shelved, Joined}
@@ -78,7 +78,7 @@ module _ (run : ℕ) (base : Database) where
   pub run_is : (log : List Entry) (f : File) → IsOfItsPoints run base log f → f.run ≡ run
   run_is log f of = ap (λ g. g.run) of.is
 
-  joined_is : (log : List Entry) (a b : File) → IsOfItsPoints run base log a → IsOfItsPoints run base log b → joined_file a b ≡ file_of run base log (set.union a.points b.points)
+  joined_is : (log : List Entry) (a b : File) → IsOfItsPoints run base log a → IsOfItsPoints run base log b → joined_file a b ≡ file_of_points run base log (set.union a.points b.points)
   joined_is log a b of other =
       let r : a.run ≡ run = run_is log a of in
       let t : joined a.triples b.triples ≡ content base log (set.items (set.union a.points b.points)) =
@@ -146,7 +146,7 @@ module _ (st : Setting) (h : History) (legal : HasLegalEffects st h) (values : T
 
       triples : triples_taken (point_of h) (taken h) ≡ content st.base (log_of h ++ more) (set.items {o = number_order} (set.insert set.empty (point_of h)))
       triples = triples_are (point_of h) (state_at st.base (log_of h) (point_of h)) (taken h) (taken_values st h legal values (ap is_past_token at))
-          ∙ ap (triples_of (point_of h) (state_at st.base (log_of h) (point_of h))) all_taken
+          ∙ ap (triples_at_point (point_of h) (state_at st.base (log_of h) (point_of h))) all_taken
           ∙ sym (part_stays st.base (log_of h) more (point_of h) (is_ordered st h legal) own)
           ∙ sym (ap (content st.base (log_of h ++ more)) (one_point (point_of h)) ∙ joined_none (part_of st.base (log_of h ++ more) (point_of h)))
 
@@ -201,6 +201,6 @@ module _ (st : Setting) (h : History) (legal : HasLegalEffects st h) (values : T
   headline = record {
     has_tokens = λ f p made there. (made_is_of_points f made).has_tokens p there;
     any_two_join = λ a b made other. let well = made_join_well a b made other in (well.one_run, well.no_conflict);
-    one_file = λ a b made other same. (made_is_of_points a made).is ∙ ap (file_of st.run st.base (log_of h)) same ∙ sym (made_is_of_points b other).is;
+    one_file = λ a b made other same. (made_is_of_points a made).is ∙ ap (file_of_points st.run st.base (log_of h)) same ∙ sym (made_is_of_points b other).is;
     is_the_state = λ f n made covers. laid_is_state f n (made_is_of_points f made) covers;
   }

@@ -8,7 +8,7 @@ use Rattle.pc_types.specs.declared.Entry.TheVariants.{Commit, Token}
 use Rattle.pc_types.specs.declared.Phase.{Phase}
 use Rattle.pc_types.specs.declared.Phase.TheVariants.{Rest, Prepare, Resolve, Capture, Complete}
 use Rattle.pc_types.specs.declared.Step.{Step}
-use Rattle.pc_model.specs.Log.{behind, has_token}
+use Rattle.pc_model.specs.Log.{log_after_point, has_token}
 use Rattle.pc_model.specs.History.{History, Effect, effect, log_of, phase_of, point_of, entries_by, phase_by, point_by, writes_of}
 use Rattle.pc_model.specs.History.Effect.{Commits, Moves, Takes, Shelves}
 use Rattle.pc_model.specs.Points.{cycle, with_written, touched, taken, taken_by}
@@ -121,7 +121,7 @@ written_is st h legal = (has_standing st h legal).open_keys
 -- the log after the token of the last sealed point: all of it if there is none
 abbrev pub behind_last : ℕ → List Entry → List Entry
 behind_last zero log = log
-behind_last (suc n) log = behind (suc n) log
+behind_last (suc n) log = log_after_point (suc n) log
 
 -- they are the keys of the log after the last token
 pub written_behind : (st : Setting) (h : History) → HasLegalEffects st h → open_set h ≡ with_written [] (behind_last (last_sealed h) (log_of h))

@@ -9,7 +9,7 @@ use Rattle.pc_model.specs.Database.{Database}
 use Rattle.pc_model.specs.Log.{state_at}
 use Rattle.pc_model.specs.History.{History, Effect, effect, log_of, phase_of, point_of, entries_by, phase_by, point_by, writes_of}
 use Rattle.pc_model.specs.History.Effect.{Commits, Moves, Takes, Shelves}
-use Rattle.pc_model.specs.Points.{taken, taken_by, triples_of}
+use Rattle.pc_model.specs.Points.{taken, taken_by, triples_at_point}
 use Rattle.pc_model.specs.Files.{triples_taken}
 use Rattle.pc_model.specs.Replies.{Setting}
 use Rattle.pc_model.specs.Headline.{TakesPointValue, ValueBy}
@@ -29,11 +29,11 @@ all_and_one db [] key content all is = (is, tt)
 all_and_one db (t ∷ ts) key content all is = (all.0, all_and_one db ts key content all.1 is)
 
 -- such keys make the triples of the keys at the point
-pub triples_are : (point : ℕ) (db : Database) (ts : List (List ℕ × Option (List ℕ))) → AllFrom db ts → triples_taken point ts ≡ triples_of point db (map (λ t. t.0) ts)
+pub triples_are : (point : ℕ) (db : Database) (ts : List (List ℕ × Option (List ℕ))) → AllFrom db ts → triples_taken point ts ≡ triples_at_point point db (map (λ t. t.0) ts)
 triples_are point db [] all = refl
 triples_are point db (t ∷ ts) all =
     ap (λ m. map_of.insert m t.0 (record { point = point; content = t.1 })) (triples_are point db ts all.1)
-    ∙ ap (λ (c : Option (List ℕ)). map_of.insert (triples_of point db (map (λ x. x.0) ts)) t.0 (record { point = point; content = c })) all.0
+    ∙ ap (λ (c : Option (List ℕ)). map_of.insert (triples_at_point point db (map (λ x. x.0) ts)) t.0 (record { point = point; content = c })) all.0
 
 module _ (st : Setting) (h : History) (legal : HasLegalEffects st h) (before : is_past_token (phase_of h) ≡ true → AllFrom (state_at st.base (log_of h) (point_of h)) (taken h)) where
   stays : (more : List Entry) → is_past_token (phase_of h) ≡ true → AllFrom (state_at st.base (log_of h ++ more) (point_of h)) (taken h)

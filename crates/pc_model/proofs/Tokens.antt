@@ -8,7 +8,7 @@ use Rattle.pc_types.specs.declared.Entry.{Entry}
 use Rattle.pc_types.specs.declared.Entry.TheVariants.{Commit, Token}
 use Rattle.pc_types.specs.declared.Phase.{Phase}
 use Rattle.pc_types.specs.declared.Phase.TheVariants.{Rest, Prepare, Resolve}
-use Rattle.pc_model.specs.Log.{front, behind, has_token, is_resolve, is_token_of}
+use Rattle.pc_model.specs.Log.{front, log_after_point, has_token, is_resolve, is_token_of}
 use Rattle.pc_model.specs.Standing.{PrecedesNext, sealed_in}
 use Rattle.pc_model.specs.Database.{same_bytes}
 use Rattle.pc_model.specs.Points.{cycle, touched, with_keys, with_written}
@@ -224,7 +224,7 @@ module _ (point : ℕ) (log : List Entry) (written gone : List (List ℕ)) (s : 
       by_point (suc n) low none = cycle_next (log ++ Token Resolve (suc n) ∷ []) n
           ∙ ap (front (suc n + 1)) (behind_past (suc n) log (Token Resolve (suc n) ∷ []) none ∙ own_end (suc n))
         where
-          own_end : (m : ℕ) → behind m (Token Resolve m ∷ []) ≡ []
+          own_end : (m : ℕ) → log_after_point m (Token Resolve m ∷ []) ≡ []
           own_end m = let is : eqb m m ≡ true = grind (arith, nat_tests) in rw is refl
 
   -- all of them are left at its token

@@ -2,7 +2,7 @@
 use Rattle.std.proofs.Common.{◌≡◌, ℕ, List, [], ◌∷◌, Option, Some, None, is_some, refl, sym, ap, ◌∙◌, cond, true, false, true≢false, Bool, ◌||◌}
 use Rattle.pc_types.specs.declared.Change.{Change}
 use Rattle.pc_types.specs.declared.Write.{Write}
-use Rattle.pc_types.specs.Changes.{changed, merged}
+use Rattle.pc_types.specs.Changes.{changed_content, merged}
 use Rattle.pc_model.specs.Maps.{get}
 use Rattle.pc_model.specs.Database.{Database, applied, applied_all, key_order, same_bytes, written, with_write}
 use Rattle.pc_model.proofs.JoinLaws.{one_key, get_put}
@@ -61,4 +61,4 @@ unwritten_stays db (w ∷ ws) key none = by_match (same_bytes w.key key) refl no
     by_match : (b : Bool) → same_bytes w.key key ≡ b → is_some (cond b (Some w.change) (written ws key)) ≡ false → (is_some (written ws key) ≡ false → get (applied_all (applied db w) ws) key ≡ get (applied db w) key) →
         get (applied_all (applied db w) ws) key ≡ get db key
     by_match true e none later = cc
-    by_match false e none later = later none ∙ get_put db w.key key (changed w.change (get db w.key)) ∙ ap (λ b. cond b (changed w.change (get db w.key)) (get db key)) ((eq_by_cmp_equiv key_order.total).symm key w.key ∙ e)
+    by_match false e none later = later none ∙ get_put db w.key key (changed_content w.change (get db w.key)) ∙ ap (λ b. cond b (changed_content w.change (get db w.key)) (get db key)) ((eq_by_cmp_equiv key_order.total).symm key w.key ∙ e)

@@ -9,7 +9,7 @@ use Rattle.std.specs.Coded.{Coded, coded_list, coded_ℕ}
 use Rattle.pc_types.specs.declared.Change.{Change}
 use Rattle.pc_types.specs.declared.Change.TheVariants.{Set, Remove}
 use Rattle.pc_types.specs.declared.Write.{Write}
-use Rattle.pc_types.specs.Changes.{changed, merged}
+use Rattle.pc_types.specs.Changes.{changed_content, merged}
 
 -- the order of keys, byte by byte: by their two bytes of a space first, and then by their own bytes
 abbrev pub key_cmp : List ℕ → List ℕ → Ordering
@@ -42,7 +42,7 @@ put db key (Some value) = insert db key value
 
 -- the database after one write
 abbrev pub applied : Database → Write → Database
-applied db write = put db write.key (changed write.change (get db write.key))
+applied db write = put db write.key (changed_content write.change (get db write.key))
 
 -- after the writes, in order
 abbrev pub applied_all : Database → List Write → Database
@@ -71,7 +71,7 @@ written (w ∷ ws) key = if same_bytes w.key key then Some w.change else written
 -- what a transaction sees of a key: what its own change, if it has one, makes of what the database has
 abbrev pub seen : Option Change → Option (List ℕ) → Option (List ℕ)
 seen None there = there
-seen (Some own) there = changed own there
+seen (Some own) there = changed_content own there
 
 -- a database is stored as its pairs
 abbrev pub database_code : Coded Database

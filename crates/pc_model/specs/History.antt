@@ -178,14 +178,14 @@ begun [] = 0
 begun (step ∷ history) = begun_by (effect step) (begun history)
 
 -- the number of the session's last transaction after this effect, given how many were begun before
-abbrev pub number_by : ℕ → Effect → ℕ → ℕ → ℕ
-number_by s (Begins t) so_far n = if t == s then so_far + 1 else n
-number_by s other so_far n = n
+abbrev pub transaction_number_by : ℕ → Effect → ℕ → ℕ → ℕ
+transaction_number_by s (Begins t) so_far n = if t == s then so_far + 1 else n
+transaction_number_by s other so_far n = n
 
 -- the number of the session's last transaction: each begin takes the next number, the first takes 1
-abbrev pub number_of : ℕ → History → ℕ
-number_of s [] = 0
-number_of s (step ∷ history) = number_by s (effect step) (begun history) (number_of s history)
+abbrev pub transaction_number_of : ℕ → History → ℕ
+transaction_number_of s [] = 0
+transaction_number_of s (step ∷ history) = transaction_number_by s (effect step) (begun history) (transaction_number_of s history)
 
 -- the phase after this effect
 abbrev pub phase_by : Effect → Phase → Phase

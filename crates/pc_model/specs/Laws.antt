@@ -4,7 +4,7 @@ use Rattle.std.specs.Int.{w64}
 use Rattle.pc_types.specs.declared.Change.{Change}
 use Rattle.pc_types.specs.declared.Change.TheVariants.{Add}
 use Rattle.pc_types.specs.declared.Write.{Write}
-use Rattle.pc_types.specs.Changes.{number_text, number_of, added, changed, merged}
+use Rattle.pc_types.specs.Changes.{number_text, content_number, added, changed_content, merged}
 use Rattle.pc_model.specs.Changes.{Applies, AllApplyInTurn, AddsApply, merged_writes}
 use Rattle.pc_types.specs.declared.Entry.{Entry}
 use Rattle.pc_types.specs.declared.Event.{Event}
@@ -28,11 +28,11 @@ use Rattle.pc_model.specs.Headline.{TakesEachKeyOnce, TakesPointValue, IsMade, H
 
 -- A number is read of its own eight bytes.
 abbrev pub NumbersAreRead : Type 0
-NumbersAreRead = (z : ℤ) → FitsSigned w64 z → number_of (Some (number_text z)) ≡ Some z
+NumbersAreRead = (z : ℤ) → FitsSigned w64 z → content_number (Some (number_text z)) ≡ Some z
 
 -- Two changes of a key in a row, each of which applies, are the merged one, which applies too.
 abbrev pub ChangesMerge : Type 0
-ChangesMerge = (a b : Change) (there : Option (List ℕ)) → Applies a there → Applies b (changed a there) → (changed (merged a b) there ≡ changed b (changed a there)) × Applies (merged a b) there
+ChangesMerge = (a b : Change) (there : Option (List ℕ)) → Applies a there → Applies b (changed_content a there) → (changed_content (merged a b) there ≡ changed_content b (changed_content a there)) × Applies (merged a b) there
 
 -- The final writes of a transaction, one for each key, do what its writes did in order, if each applied.
 abbrev pub FinalWritesAgree : Type 0

@@ -1,6 +1,6 @@
 -- The limits of the keys and values that a run writes, and of the numbers that it adds.
 use Rattle.std.specs.Prelude.{◌≡◌, true, [], ◌∷◌, ⊤}
-use Rattle.pc_types.specs.Changes.{fits}
+use Rattle.pc_types.specs.Changes.{fits_i64}
 use Rattle.pc_types.specs.Limits.{IsKey, IsValue}
 use Rattle.pc_types.specs.declared.Event.{Event}
 use Rattle.pc_types.specs.declared.Event.TheVariants as asked
@@ -10,7 +10,7 @@ use Rattle.pc_model.specs.History.{History}
 abbrev pub IsInLimits : Event → Type 0
 IsInLimits (asked.Put s key value) = IsKey key × IsValue value
 IsInLimits (asked.Del s key) = IsKey key
-IsInLimits (asked.Add s key delta) = IsKey key × (fits delta ≡ true)
+IsInLimits (asked.Add s key delta) = IsKey key × (fits_i64 delta ≡ true)
 IsInLimits other = ⊤
 
 -- those of each event are

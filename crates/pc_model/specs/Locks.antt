@@ -17,7 +17,7 @@ use Rattle.pc_types.specs.declared.Outcome.{Outcome}
 use Rattle.pc_types.specs.declared.Outcome.TheVariants.{Granted, Queued, Died}
 use Rattle.pc_types.specs.declared.Request.{Request}
 use Rattle.pc_model.specs.Database.{same_bytes}
-use Rattle.pc_model.specs.History.{History, Effect, effect, number_of}
+use Rattle.pc_model.specs.History.{History, Effect, effect, transaction_number_of}
 use Rattle.pc_model.specs.History.Effect.{Begins, Reads, Writes, Adds, Waits, Commits, Aborts}
 
 -- the requests of a key, in the order of arrival
@@ -84,12 +84,12 @@ queue_without queue t = granted_behind [] (filter (λ r. not (r.transaction == t
 
 -- the queue after one effect
 abbrev pub queue_by : List ℕ → Effect → History → Queue → Queue
-queue_by key (Reads s k answer) history queue = if same_bytes k key then queue_after queue (number_of s history) Shared Granted else queue
-queue_by key (Writes s k value) history queue = if same_bytes k key then queue_after queue (number_of s history) Exclusive Granted else queue
-queue_by key (Adds s k delta sum) history queue = if same_bytes k key then queue_after queue (number_of s history) Exclusive Granted else queue
-queue_by key (Waits s k mode) history queue = if same_bytes k key then queue_after queue (number_of s history) mode Queued else queue
-queue_by key (Commits s) history queue = queue_without queue (number_of s history)
-queue_by key (Aborts s) history queue = queue_without queue (number_of s history)
+queue_by key (Reads s k answer) history queue = if same_bytes k key then queue_after queue (transaction_number_of s history) Shared Granted else queue
+queue_by key (Writes s k value) history queue = if same_bytes k key then queue_after queue (transaction_number_of s history) Exclusive Granted else queue
+queue_by key (Adds s k delta sum) history queue = if same_bytes k key then queue_after queue (transaction_number_of s history) Exclusive Granted else queue
+queue_by key (Waits s k mode) history queue = if same_bytes k key then queue_after queue (transaction_number_of s history) mode Queued else queue
+queue_by key (Commits s) history queue = queue_without queue (transaction_number_of s history)
+queue_by key (Aborts s) history queue = queue_without queue (transaction_number_of s history)
 queue_by key other history queue = queue
 
 -- the requests of the key
@@ -116,7 +116,7 @@ is_ungranted (Some r) = not r.granted
 -- the session's transaction has a request of this key that waits
 abbrev pub waits_on : ℕ → History → Option (List ℕ) → Bool
 waits_on s history None = false
-waits_on s history (Some key) = is_ungranted (request_in (queue_of key history) (number_of s history))
+waits_on s history (Some key) = is_ungranted (request_in (queue_of key history) (transaction_number_of s history))
 
 -- a request of the session's transaction waits
 abbrev pub is_waiting : ℕ → History → Bool

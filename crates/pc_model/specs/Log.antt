@@ -28,10 +28,10 @@ front point (Commit session writes ∷ log) = Commit session writes ∷ front po
 front point (Token phase m ∷ log) = if is_token_of point phase m then [] else Token phase m ∷ front point log
 
 -- the log after the point's token, or nothing if it has none
-abbrev pub behind : ℕ → List Entry → List Entry
-behind point [] = []
-behind point (Commit session writes ∷ log) = behind point log
-behind point (Token phase m ∷ log) = if is_token_of point phase m then log else behind point log
+abbrev pub log_after_point : ℕ → List Entry → List Entry
+log_after_point point [] = []
+log_after_point point (Commit session writes ∷ log) = log_after_point point log
+log_after_point point (Token phase m ∷ log) = if is_token_of point phase m then log else log_after_point point log
 
 -- the log has the point's token
 abbrev pub has_token : ℕ → List Entry → Bool

@@ -6,7 +6,7 @@ use Rattle.pc_types.specs.declared.Write.{Write}
 use Rattle.pc_types.specs.declared.Entry.{Entry}
 use Rattle.pc_types.specs.declared.Entry.TheVariants.{Commit, Token}
 use Rattle.pc_model.specs.Database.{Database, key_order, same_bytes, put}
-use Rattle.pc_model.specs.Log.{front, behind, state_at, is_resolve}
+use Rattle.pc_model.specs.Log.{front, log_after_point, state_at, is_resolve}
 use Rattle.pc_model.specs.History.{History, Effect, effect}
 use Rattle.pc_model.specs.History.Effect.{Moves, Takes}
 
@@ -31,7 +31,7 @@ with_written keys (Token phase point ∷ log) = with_written keys log
 
 -- the part of the log between the token of the point before (for 1: the start) and the token of the point
 abbrev pub cycle : ℕ → List Entry → List Entry
-cycle point log = if point == 1 then front 1 log else front point (behind (point - 1) log)
+cycle point log = if point == 1 then front 1 log else front point (log_after_point (point - 1) log)
 
 -- the keys that commits wrote in the point's cycle, each once, in the order of first writes
 abbrev pub touched : ℕ → List Entry → List (List ℕ)
@@ -47,13 +47,13 @@ abbrev pub Triples : Type 0
 Triples = Map key_order AtPoint
 
 -- the triples of the keys at the point, each with what the database has
-abbrev pub triples_of : ℕ → Database → List (List ℕ) → Triples
-triples_of point db [] = empty
-triples_of point db (key ∷ keys) = insert (triples_of point db keys) key (record { point = point; content = get db key })
+abbrev pub triples_at_point : ℕ → Database → List (List ℕ) → Triples
+triples_at_point point db [] = empty
+triples_at_point point db (key ∷ keys) = insert (triples_at_point point db keys) key (record { point = point; content = get db key })
 
 -- the part of a point: each touched key with what it has in the point's state, a value or a tombstone
 abbrev pub part_of : Database → List Entry → ℕ → Triples
-part_of base log point = triples_of point (state_at base log point) (touched point log)
+part_of base log point = triples_at_point point (state_at base log point) (touched point log)
 
 -- of two triples of a key that of the greater point
 abbrev pub newer : Option AtPoint → AtPoint → AtPoint

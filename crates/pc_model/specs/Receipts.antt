@@ -42,8 +42,8 @@ pub record Own : Type 0 where
   pub reads : List Read
   pub receipts : List Receipt
 
-abbrev pub own : Bool → List Write → List Read → List Receipt → Own
-own is_open writes reads receipts = record { is_open = is_open; writes = writes; reads = reads; receipts = receipts }
+abbrev pub own_record : Bool → List Write → List Read → List Receipt → Own
+own_record is_open writes reads receipts = record { is_open = is_open; writes = writes; reads = reads; receipts = receipts }
 
 -- the receipt of a commit with this number
 abbrev pub receipt_of : ℕ → ℕ → Own → Receipt
@@ -62,11 +62,11 @@ receipts_by s other reply o = o.receipts
 -- what the session keeps after a step
 abbrev pub own_by : ℕ → Step → Own → Own
 own_by s step o =
-    own (open_by s (effect step) o.is_open) (writes_by s (effect step) o.writes) (reads_by s (effect step) o.writes o.reads) (receipts_by s step.event step.reply o)
+    own_record (open_by s (effect step) o.is_open) (writes_by s (effect step) o.writes) (reads_by s (effect step) o.writes o.reads) (receipts_by s step.event step.reply o)
 
 -- what the session keeps after a history
 abbrev pub own_of : ℕ → History → Own
-own_of s [] = own false [] [] []
+own_of s [] = own_record false [] [] []
 own_of s (step ∷ history) = own_by s step (own_of s history)
 
 -- each read answered what its key has in the database

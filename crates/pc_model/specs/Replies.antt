@@ -16,7 +16,7 @@ use Rattle.pc_types.specs.declared.Refusal.{Refusal}
 use Rattle.pc_types.specs.declared.Refusal.TheVariants as why
 use Rattle.pc_model.specs.Database.{Database, key_order, written, seen}
 use Rattle.pc_model.specs.Log.{has_token, is_resolve}
-use Rattle.pc_model.specs.History.{History, Effect, effect, is_open, writes_of, log_of, contents, begun, number_of, phase_of, point_of, class_of, has_died}
+use Rattle.pc_model.specs.History.{History, Effect, effect, is_open, writes_of, log_of, contents, begun, transaction_number_of, phase_of, point_of, class_of, has_died}
 use Rattle.pc_types.specs.declared.Class.{Class}
 use Rattle.pc_model.specs.History.Effect.{Moves, Commits}
 use Rattle.pc_types.specs.declared.Class.TheVariants.{Before, During, After}
@@ -35,12 +35,12 @@ pub record Setting : Type 0 where
   pub capacity : ℕ
 
 -- the phase is this one
-abbrev pub is_in : Phase → History → Bool
-is_in phase history = same_phase (phase_of history) phase
+abbrev pub is_in_phase : Phase → History → Bool
+is_in_phase phase history = same_phase (phase_of history) phase
 
 -- how many transactions of the class are active
-abbrev pub active_in : Setting → Class → History → ℕ
-active_in st class history = length (filter (λ s. is_open s history && same_class (class_of s history) class) (numbers_to st.sessions))
+abbrev pub active_in_class : Setting → Class → History → ℕ
+active_in_class st class history = length (filter (λ s. is_open s history && same_class (class_of s history) class) (numbers_to st.sessions))
 
 -- the keys that aren't among the second ones
 abbrev pub without : List (List ℕ) → List (List ℕ) → List (List ℕ)
@@ -136,11 +136,11 @@ is_granted other = false
 
 -- the session's request to write the key would be granted
 abbrev pub may_write : ℕ → List ℕ → History → Bool
-may_write s key history = is_granted (outcome (queue_of key history) (number_of s history) Exclusive)
+may_write s key history = is_granted (outcome (queue_of key history) (transaction_number_of s history) Exclusive)
 
 -- NotNumber: what it sees is no number
 abbrev pub no_number : Setting → ℕ → List ℕ → History → Bool
-no_number st s key history = is_none (change.number_of (seen_by st s key history))
+no_number st s key history = is_none (change.content_number (seen_by st s key history))
 
 -- OutOfRange: the sum leaves 64 bits, or that of all that the transaction has added to the key does
 abbrev pub out_of_range : Setting → ℕ → List ℕ → ℤ → History → Bool
@@ -157,12 +157,12 @@ not_yet count = if count == 0 then None else Some (told.NotYet count)
 
 -- WrongPhase: the phase is another
 abbrev pub wrong_phase : Phase → History → Option Reply
-wrong_phase phase history = first_refusal ((not (is_in phase history), why.WrongPhase) ∷ [])
+wrong_phase phase history = first_refusal ((not (is_in_phase phase history), why.WrongPhase) ∷ [])
 
 -- Seal, OpenCapture and Rest: from this phase, once no transaction of the class is active
-abbrev pub held_back : Setting → Phase → Class → History → Option Reply
-held_back st from class history =
-    or_else (wrong_phase from history) (or_else (not_yet (active_in st class history)) (first_refusal ((log_is_full history, why.LogFull) ∷ [])))
+abbrev pub held_back_reply : Setting → Phase → Class → History → Option Reply
+held_back_reply st from class history =
+    or_else (wrong_phase from history) (or_else (not_yet (active_in_class st class history)) (first_refusal ((log_is_full history, why.LogFull) ∷ [])))
 
 -- the causes of two files' join
 abbrev pub join_causes : Option File → Option File → List (Bool × Refusal)
@@ -189,13 +189,13 @@ certain st history (asked.Abort s) =
     or_else (first_refusal ((no_session st s, why.NoSession) ∷ (not (is_open s history), why.NoTransaction) ∷ [])) (Some told.Aborted)
 certain st history asked.StartPoint =
     or_else (wrong_phase phase.Rest history) (first_refusal ((point_of history == MOST_POINTS, why.PointsFull) ∷ (log_is_full history, why.LogFull) ∷ []))
-certain st history asked.Seal = held_back st phase.Prepare Before history
-certain st history asked.OpenCapture = held_back st phase.Resolve During history
+certain st history asked.Seal = held_back_reply st phase.Prepare Before history
+certain st history asked.OpenCapture = held_back_reply st phase.Resolve During history
 certain st history asked.Take = or_else (wrong_phase phase.Capture history) (if is_empty (closed_set history) then Some told.NoneLeft else None)
 certain st history asked.Done =
     or_else (wrong_phase phase.Capture history) (or_else (not_yet (length (closed_set history)))
     (first_refusal ((length (shelf st.run history) == MOST_FILES, why.ShelfFull) ∷ (log_is_full history, why.LogFull) ∷ [])))
-certain st history asked.Rest = held_back st phase.Complete After history
+certain st history asked.Rest = held_back_reply st phase.Complete After history
 certain st history (asked.Join a b) = join_refusal (shelf st.run history) (file_at (shelf st.run history) a) (file_at (shelf st.run history) b)
 
 -- the reply to a read that gives this
@@ -228,11 +228,11 @@ IsFileReply (f ∷ fs) number reply = reply ≡ told.File number (set.items f.po
 abbrev pub Answers : Setting → History → Event → Reply → Type 0
 Answers st history (asked.Begin s) reply = reply ≡ told.Begun (begun history + 1)
 Answers st history (asked.Get s key) reply =
-    reply ≡ by_outcome (outcome (queue_of key history) (number_of s history) Shared) (read_reply (seen_by st s key history))
-Answers st history (asked.Put s key value) reply = reply ≡ by_outcome (outcome (queue_of key history) (number_of s history) Exclusive) told.Ok
-Answers st history (asked.Del s key) reply = reply ≡ by_outcome (outcome (queue_of key history) (number_of s history) Exclusive) told.Ok
+    reply ≡ by_outcome (outcome (queue_of key history) (transaction_number_of s history) Shared) (read_reply (seen_by st s key history))
+Answers st history (asked.Put s key value) reply = reply ≡ by_outcome (outcome (queue_of key history) (transaction_number_of s history) Exclusive) told.Ok
+Answers st history (asked.Del s key) reply = reply ≡ by_outcome (outcome (queue_of key history) (transaction_number_of s history) Exclusive) told.Ok
 Answers st history (asked.Add s key delta) reply =
-    reply ≡ by_outcome (outcome (queue_of key history) (number_of s history) Exclusive) (sum_reply (added delta (seen_by st s key history)))
+    reply ≡ by_outcome (outcome (queue_of key history) (transaction_number_of s history) Exclusive) (sum_reply (added delta (seen_by st s key history)))
 Answers st history (asked.Commit s) reply = reply ≡ told.Committed (length (log_of history) + 1)
 Answers st history (asked.Abort s) reply = ⊥
 Answers st history asked.StartPoint reply = reply ≡ told.Phase phase.Prepare (point_of history + 1)

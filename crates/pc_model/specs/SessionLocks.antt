@@ -3,7 +3,7 @@ use Rattle.std.specs.Prelude.{◌≡◌, ℕ, ◌==◌, ◌≤◌, Bool, true, f
 use Rattle.pc_types.specs.declared.Mode.TheVariants.{Shared, Exclusive}
 use Rattle.pc_types.specs.declared.Write.{Write}
 use Rattle.pc_model.specs.Database.{written}
-use Rattle.pc_model.specs.History.{History, Effect, effect, begun, is_open, number_of, writes_of}
+use Rattle.pc_model.specs.History.{History, Effect, effect, begun, is_open, transaction_number_of, writes_of}
 use Rattle.pc_model.specs.History.Effect.{Begins, Reads, Adds}
 use Rattle.pc_model.specs.Locks.{Queue, request_in, queue_of, is_ungranted, waited_for}
 use Rattle.pc_model.specs.Points.{is_among}
@@ -34,4 +34,4 @@ pub record IsLocked (queue : List ℕ → Queue) (count : ℕ) (opened : ℕ →
 
 -- the same after a history, and after one more effect
 abbrev pub Locked : History → Type 0
-Locked h = IsLocked (λ key. queue_of key h) (begun h) (λ s. is_open s h) (λ s. number_of s h) (λ s. waited_for s h) (λ s. keys_read s h) (λ s. writes_of s h)
+Locked h = IsLocked (λ key. queue_of key h) (begun h) (λ s. is_open s h) (λ s. transaction_number_of s h) (λ s. waited_for s h) (λ s. keys_read s h) (λ s. writes_of s h)

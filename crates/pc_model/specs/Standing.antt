@@ -18,8 +18,8 @@ abbrev pub PrecedesNext : ℕ → List Entry → Type 0
 PrecedesNext point log = (point ≡ 0) ⊎ IsTrue (has_token point (front (point + 1) log))
 
 -- the file of a set of points, by the log of its run
-abbrev pub file_of : ℕ → Database → List Entry → Set number_order → File
-file_of run base log points = record { run = run; points = points; triples = content base log (set.items points) }
+abbrev pub file_of_points : ℕ → Database → List Entry → Set number_order → File
+file_of_points run base log points = record { run = run; points = points; triples = content base log (set.items points) }
 
 -- each step of the history was legal, or has no effect
 abbrev pub HasLegalEffects : Setting → History → Type 0
@@ -49,7 +49,7 @@ is_past_token other = false
 
 -- the file is the one that the log gives its points; it has at least one point, and each has its token in the log
 pub record IsOfItsPoints (run : ℕ) (base : Database) (log : List Entry) (file : File) : Type 0 where
-  pub is : file ≡ file_of run base log file.points
+  pub is : file ≡ file_of_points run base log file.points
   pub covers_some : ¬ (set.items file.points ≡ [])
   pub has_tokens : (point : ℕ) → IsTrue (set.contains file.points point) → IsTrue (has_token point log)
 
@@ -57,4 +57,4 @@ pub record IsOfItsPoints (run : ℕ) (base : Database) (log : List Entry) (file 
 pub record JoinsWell (run : ℕ) (base : Database) (log : List Entry) (a b : File) : Type 0 where
   pub one_run : a.run ≡ b.run
   pub no_conflict : IsFalse (conflict a.triples b.triples)
-  pub is_of_both : joined_file a b ≡ file_of run base log (set.union a.points b.points)
+  pub is_of_both : joined_file a b ≡ file_of_points run base log (set.union a.points b.points)

@@ -9,12 +9,12 @@ abbrev pub entry_of : Triple → List ℕ × AtPoint
 entry_of triple = (triple.key, record { point = triple.point; content = triple.content })
 
 -- the triples as entries of a map
-abbrev pub entries_of : List Triple → List (List ℕ × AtPoint)
-entries_of triples = map entry_of triples
+abbrev pub map_entries : List Triple → List (List ℕ × AtPoint)
+map_entries triples = map entry_of triples
 
 -- the triples of a list, by key
 abbrev pub triples_of : List Triple → Triples
-triples_of triples = map_of.from_list (entries_of triples)
+triples_of triples = map_of.from_list (map_entries triples)
 
 -- a key, and what it had at the point, as a triple of the point
 abbrev pub triple_at : ℕ → List ℕ × Option (List ℕ) → Triple

@@ -3,15 +3,15 @@ use Rattle.std.specs.Prelude.{◌⊎◌, ◌≢◌, ◌≤◌, ◌+◌, ℕ, Lis
 use Rattle.pc_model.specs.Files.{BaseFile}
 use Rattle.pc_log.specs.Texts.{header_text}
 use Rattle.pc_bases.specs.Texts.{base_text}
-use Rattle.pc_generations.specs.Folders.{Counts, IsUnbegun, StaysAt, next_of}
+use Rattle.pc_generations.specs.Folders.{IsCurrentGeneration, IsUnbegun, StaysAt, next_of}
 
 -- the generation after the one that counted counts, with the text of this base and a log of its run without entries
 abbrev pub CountsWith : (ℕ → List ℕ → Option (List ℕ) → Type 0) → Option ℕ → BaseFile → Type 0
-CountsWith stands latest base = Counts stands (next_of latest) (base_text base) (header_text base.run)
+CountsWith stands latest base = IsCurrentGeneration stands (next_of latest) (base_text base) (header_text base.run)
 
 -- either that, or no generation has begun
-abbrev pub IsCutOff : (ℕ → List ℕ → Option (List ℕ) → Type 0) → (ℕ → List ℕ → Option (List ℕ) → Type 0) → Option ℕ → BaseFile → Type 0
-IsCutOff old new latest base = CountsWith new latest base ⊎ IsUnbegun old new latest
+abbrev pub IsOpeningCutOff : (ℕ → List ℕ → Option (List ℕ) → Type 0) → (ℕ → List ℕ → Option (List ℕ) → Type 0) → Option ℕ → BaseFile → Type 0
+IsOpeningCutOff old new latest base = CountsWith new latest base ⊎ IsUnbegun old new latest
 
 -- of the generations before this one, the last ones, as many as are kept, are as they were
 abbrev pub KeepsBefore : ℕ → (ℕ → List ℕ → Option (List ℕ) → Type 0) → (ℕ → List ℕ → Option (List ℕ) → Type 0) → ℕ → Type 0

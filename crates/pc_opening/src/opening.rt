@@ -11,7 +11,7 @@ ghost use Rattle.pc_engine.specs.Stands.{Stands};
 ghost use Rattle.pc_engine.specs.Runs.{starting};
 ghost use Rattle.pc_engine.specs.Store.{setting_of};
 ghost use Rattle.pc_generations.specs.Folders.{AreGone, HasBase, IsLatest, StayBut, next_of};
-ghost use Rattle.pc_opening.specs.Openings.{CountsWith, IsCutOff, KeepsBefore};
+ghost use Rattle.pc_opening.specs.Openings.{CountsWith, IsOpeningCutOff, KeepsBefore};
 
 use pc_bases::Base;
 use pc_engine::World;
@@ -70,7 +70,7 @@ pub fn open_store<G: Generations>(
     ensures store { IfOk result (λ opened. Stands opened.world [] × (setting_of opened.world ≡ starting base size.sessions size.capacity)) }
     ensures number { IfOk result (λ opened. opened.generation ≡ next_of succession.latest) }
     ensures begun { IsLatest (G.stands folders.old) succession.latest → OnOk result (CountsWith (G.stands folders.new) succession.latest base) }
-    ensures cut_off { IsLatest (G.stands folders.old) succession.latest → OnErr result (IsCutOff (G.stands folders.old) (G.stands folders.new) succession.latest base) }
+    ensures cut_off { IsLatest (G.stands folders.old) succession.latest → OnErr result (IsOpeningCutOff (G.stands folders.old) (G.stands folders.new) succession.latest base) }
     ensures kept { KeepsBefore succession.keep (G.stands folders.old) (G.stands folders.new) (next_of succession.latest) }
     ensures gone { IfOk result (λ opened. OnOk opened.removal (AreGone succession.keep (G.stands folders.new) (next_of succession.latest))) }
     ensures full { size.capacity < len base.pairs → (result ≡ Err Refusal.Full) × (folders.new ≡ folders.old) }
@@ -129,7 +129,7 @@ fn begin_with<G: Generations>(
 ) -> Result<Begun, Refusal>
     ensures number { IfOk result (λ begun. begun.generation ≡ next_of succession.latest) }
     ensures begun { IsLatest (G.stands folders.old) succession.latest → OnOk result (CountsWith (G.stands folders.new) succession.latest base.now) }
-    ensures cut_off { IsLatest (G.stands folders.old) succession.latest → OnErr result (IsCutOff (G.stands folders.old) (G.stands folders.new) succession.latest base.now) }
+    ensures cut_off { IsLatest (G.stands folders.old) succession.latest → OnErr result (IsOpeningCutOff (G.stands folders.old) (G.stands folders.new) succession.latest base.now) }
     ensures kept { KeepsBefore succession.keep (G.stands folders.old) (G.stands folders.new) (next_of succession.latest) }
     ensures gone { IfOk result (λ begun. OnOk begun.removal (AreGone succession.keep (G.stands folders.new) (next_of succession.latest))) }
 {
@@ -152,7 +152,7 @@ fn begin_texts<G: Generations>(
     ensures number { IfOk result (λ number. number ≡ next_of latest) }
     ensures has_base { OnOk result (HasBase (G.stands folders.new) (next_of latest)) }
     ensures begun { IsLatest (G.stands folders.old) latest → OnOk result (CountsWith (G.stands folders.new) latest base.now) }
-    ensures cut_off { IsLatest (G.stands folders.old) latest → OnErr result (IsCutOff (G.stands folders.old) (G.stands folders.new) latest base.now) }
+    ensures cut_off { IsLatest (G.stands folders.old) latest → OnErr result (IsOpeningCutOff (G.stands folders.old) (G.stands folders.new) latest base.now) }
     ensures others { StayBut (G.stands folders.old) (G.stands folders.new) (next_of latest) }
 {
     let texts = match texts_of(alloc, base) {

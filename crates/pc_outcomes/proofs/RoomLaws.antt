@@ -16,7 +16,7 @@ use Rattle.pc_types.specs.declared.Request.{Request}
 use Rattle.pc_types.specs.declared.Step.{Step}
 use Rattle.pc_types.specs.declared.Write.{Write}
 use Rattle.pc_model.specs.Database.{Database, key_order, same_bytes, written}
-use Rattle.pc_model.specs.History.{History, Effect, contents, effect, effect_of, entries_by, is_open, log_of, number_of, writes_of, has_died}
+use Rattle.pc_model.specs.History.{History, Effect, contents, effect, effect_of, entries_by, is_open, log_of, transaction_number_of, writes_of, has_died}
 use Rattle.pc_model.specs.History.Effect.{Reads, Writes, Adds, Waits, Commits, Aborts, Moves, Takes, Shelves}
 use Rattle.pc_model.specs.LegalEffects.{Fits, IsIdle, IsIdleIfAny, changes_closed}
 use Rattle.pc_model.specs.Locks.{Queue, granted_behind, is_waiting, queue_after, queue_by, queue_of, queue_without, request_in}
@@ -149,7 +149,7 @@ module _ (st : Setting) (h : History) where
 
   module _ (locks : Locked h) (q : List ℕ) where
     held_key : (s : ℕ) → is_open s h ≡ true → is_some (written (writes_of s h) q) ≡ true → Was q
-    held_key s opened there = by_queue q (some_held (queue_of q h) (number_of s h) (locks.writes s q opened there))
+    held_key s opened there = by_queue q (some_held (queue_of q h) (transaction_number_of s h) (locks.writes s q opened there))
 
     -- a key that has a value after the effect
     value_after : (e : Effect) → May e → is_some (get (after (contents st.base h) (entries_by e h)) q) ≡ true → Was q
@@ -168,12 +168,12 @@ module _ (st : Setting) (h : History) where
 
     -- one with a request
     queue_then : (e : Effect) → not (is_empty (queue_by q e h (queue_of q h))) ≡ true → (Was q) ⊎ Asked e q
-    queue_then (Reads s key answer) is = asked_or (same_bytes key q) (queue_after (queue_of q h) (number_of s h) Shared Granted) (λ same. same) is
-    queue_then (Writes s key value) is = asked_or (same_bytes key q) (queue_after (queue_of q h) (number_of s h) Exclusive Granted) (λ same. same) is
-    queue_then (Adds s key delta sum) is = asked_or (same_bytes key q) (queue_after (queue_of q h) (number_of s h) Exclusive Granted) (λ same. same) is
-    queue_then (Waits s key mode) is = asked_or (same_bytes key q) (queue_after (queue_of q h) (number_of s h) mode Queued) (λ same. same) is
-    queue_then (Commits s) is = inl (by_queue q (some_without (queue_of q h) (number_of s h) is))
-    queue_then (Aborts s) is = inl (by_queue q (some_without (queue_of q h) (number_of s h) is))
+    queue_then (Reads s key answer) is = asked_or (same_bytes key q) (queue_after (queue_of q h) (transaction_number_of s h) Shared Granted) (λ same. same) is
+    queue_then (Writes s key value) is = asked_or (same_bytes key q) (queue_after (queue_of q h) (transaction_number_of s h) Exclusive Granted) (λ same. same) is
+    queue_then (Adds s key delta sum) is = asked_or (same_bytes key q) (queue_after (queue_of q h) (transaction_number_of s h) Exclusive Granted) (λ same. same) is
+    queue_then (Waits s key mode) is = asked_or (same_bytes key q) (queue_after (queue_of q h) (transaction_number_of s h) mode Queued) (λ same. same) is
+    queue_then (Commits s) is = inl (by_queue q (some_without (queue_of q h) (transaction_number_of s h) is))
+    queue_then (Aborts s) is = inl (by_queue q (some_without (queue_of q h) (transaction_number_of s h) is))
     queue_then other is = inl (by_queue q is)
 
     -- one of the open set

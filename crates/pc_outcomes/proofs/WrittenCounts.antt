@@ -7,7 +7,7 @@ use Rattle.pc_types.specs.declared.Write.{Write}
 use Rattle.pc_types.specs.declared.limits.TheConstants.{MOST_WRITES}
 use Rattle.pc_model.specs.Database.{Database}
 use Rattle.pc_model.specs.FewWrites.{HasFewWrites}
-use Rattle.pc_model.specs.Log.{behind, front, has_token, is_token_of, state_at}
+use Rattle.pc_model.specs.Log.{log_after_point, front, has_token, is_token_of, state_at}
 use Rattle.pc_model.specs.Maps.{get, len}
 use Rattle.pc_model.specs.Points.{AtPoint, content, cycle, is_among, later, part_of, touched, with_key, with_keys, with_written}
 use Rattle.pc_model.proofs.JoinLaws.{get-joined, get-triples_of, has_written, is_among-with_written}
@@ -68,21 +68,21 @@ in_front n (Token phase m ∷ log) q is = by (is_token_of n phase m) is (in_fron
     by true none rest = absurd (let bad : false ≡ true = none in cc)
     by false there rest = rest there
 
-in_behind : (n : ℕ) (log : List Entry) (q : List ℕ) → has_written (behind n log) q ≡ true → has_written log q ≡ true
+in_behind : (n : ℕ) (log : List Entry) (q : List ℕ) → has_written (log_after_point n log) q ≡ true → has_written log q ≡ true
 in_behind n [] q is = is
 in_behind n (Commit s ws ∷ log) q is = or_right _ _ (in_behind n log q is)
 in_behind n (Token phase m ∷ log) q is = by (is_token_of n phase m) is (in_behind n log q)
   where
-    by : (b : Bool) → has_written (cond b log (behind n log)) q ≡ true → (has_written (behind n log) q ≡ true → has_written log q ≡ true) → has_written log q ≡ true
+    by : (b : Bool) → has_written (cond b log (log_after_point n log)) q ≡ true → (has_written (log_after_point n log) q ≡ true → has_written log q ≡ true) → has_written log q ≡ true
     by true there rest = there
     by false there rest = rest there
 
 in_cycle : (n : ℕ) (log : List Entry) (q : List ℕ) → has_written (cycle n log) q ≡ true → has_written log q ≡ true
 in_cycle n log q = by (eqb n 1)
   where
-    by : (b : Bool) → has_written (cond b (front 1 log) (front n (behind (n - 1) log))) q ≡ true → has_written log q ≡ true
+    by : (b : Bool) → has_written (cond b (front 1 log) (front n (log_after_point (n - 1) log))) q ≡ true → has_written log q ≡ true
     by true is = in_front 1 log q is
-    by false is = in_behind (n - 1) log q (in_front n (behind (n - 1) log) q is)
+    by false is = in_behind (n - 1) log q (in_front n (log_after_point (n - 1) log) q is)
 
 module _ (base : Database) (log : List Entry) where
   part_written : (n : ℕ) (q : List ℕ) → is_some (get (part_of base log n) q) ≡ true → has_written log q ≡ true

@@ -25,12 +25,12 @@ abbrev pub left_text : StoreReport → List ℕ
 left_text left = file_lines left.collapsed ++ check_line left.is_right
 
 -- how many jobs were committed, and how many given up, and how many points were taken
-abbrev pub counts_text : RunReport → List ℕ
-counts_text o = codes "commits " ++ (decimal o.commits ++ (codes "\ngave up " ++ (decimal o.given_up ++ (codes "\npoints " ++ (decimal o.points ++ codes "\n")))))
+abbrev pub run_counts_text : RunReport → List ℕ
+run_counts_text o = codes "commits " ++ (decimal o.commits ++ (codes "\ngave up " ++ (decimal o.given_up ++ (codes "\npoints " ++ (decimal o.points ++ codes "\n")))))
 
 -- the lines of a run
 abbrev pub outcome_text : RunReport → List ℕ
-outcome_text o = counts_text o ++ left_text o.left
+outcome_text o = run_counts_text o ++ left_text o.left
 
 -- what is printed of a workload: the number of its first bad line, or the lines of its run
 abbrev pub printed_text : Printed → List ℕ
@@ -38,6 +38,6 @@ printed_text (printed.BadLine line) = number_line (codes "bad line ") line
 printed_text (printed.Whole outcome) = outcome_text outcome
 
 -- its status
-abbrev pub status_of : Printed → ℕ
-status_of (printed.BadLine line) = 3
-status_of (printed.Whole outcome) = 0
+abbrev pub run_status : Printed → ℕ
+run_status (printed.BadLine line) = 3
+run_status (printed.Whole outcome) = 0

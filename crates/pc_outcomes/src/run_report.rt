@@ -1,7 +1,7 @@
 //! The report of a run, and its text.
 ghost use Rattle.std.specs.Prelude.{◌≡◌};
 ghost use Rattle.pc_io.specs.Tallies.{Puts};
-ghost use Rattle.pc_outcomes.specs.Outcomes.{number_line, collapsed_lines, file_lines, left_text, counts_text, outcome_text, printed_text, status_of};
+ghost use Rattle.pc_outcomes.specs.Outcomes.{number_line, collapsed_lines, file_lines, left_text, run_counts_text, outcome_text, printed_text, run_status};
 
 use itoa::Buffer;
 use pc_io::Tally;
@@ -92,7 +92,7 @@ impl StoreReport {
 impl RunReport {
     // Writes how many jobs were committed and given up, and how many points were taken.
     fn put_counts<W: Write>(&self, out: &mut Tally<W>) -> Result<(), Refusal>
-        ensures { Puts W.contents out.old out.new result (counts_text self.now) }
+        ensures { Puts W.contents out.old out.new result (run_counts_text self.now) }
     {
         let mut commits = Buffer::new();
         let mut given_up = Buffer::new();
@@ -120,7 +120,7 @@ impl RunReport {
 impl Printed {
     /// Its exit status.
     pub fn status(&self) -> u8
-        ensures { result ≡ status_of self.now }
+        ensures { result ≡ run_status self.now }
     {
         match self {
             Printed::BadLine(_) => 3,

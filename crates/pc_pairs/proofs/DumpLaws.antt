@@ -18,7 +18,7 @@ use Rattle.pc_pairs.specs.declared.choice.Choice.{Choice}
 use Rattle.pc_restore.specs.declared.recovery.Folder.{Folder}
 use Rattle.pc_restore.specs.declared.recovery.Lost.{Lost}
 use Rattle.pc_restore.specs.declared.recovery.Lost.TheVariants as lost
-use Rattle.pc_pairs.specs.Dumps.{Begins, DumpsInPart, IsPutInPart, IsUndumped, PutsUntil, PutsWhole, chosen, dump_text, pair_lines}
+use Rattle.pc_pairs.specs.Dumps.{SendsBeginning, DumpsInPart, IsPutInPart, IsUndumped, PutsUntil, PutsWhole, chosen, dump_text, pair_lines}
 
 -- a beginning of a text is one of each longer text
 begins_longer : (a b : Option (List ℕ)) (x y : List ℕ) → AppendsBeginning a b x → AppendsBeginning a b (x ++ y)
@@ -42,7 +42,7 @@ module _ {T : Type 0} (contents : T → Option (List ℕ)) where
       → Appends (contents (inner_of a)) (contents (inner_of b)) (flat_map f (take i xs)) → failures_of b ≡ failures_of a
       → PutsUntil contents b c (Err why) (f (get_or xs i d)) → PutsUntil contents a c (Err why) (flat_map f xs)
   until_at f xs i d a b c why within sent counted (begun, cause) = (
-    subst (Begins contents a c) (sym (pieces_at f xs i d within))
+    subst (SendsBeginning contents a c) (sym (pieces_at f xs i d within))
         (begins_longer (contents (inner_of a)) (contents (inner_of c)) (flat_map f (take i xs) ++ f (get_or xs i d)) (flat_map f (drop (suc i) xs))
         (begins_after (contents (inner_of a)) (contents (inner_of b)) (contents (inner_of c)) (flat_map f (take i xs)) (f (get_or xs i d)) sent begun)),
     by cause,

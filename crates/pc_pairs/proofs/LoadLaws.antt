@@ -16,7 +16,7 @@ use Rattle.pc_model.proofs.MapLaws.{get-entries}
 use Rattle.pc_model.proofs.PlaceLaws.{rest_at}
 use Rattle.pc_model.proofs.PairMapLaws.{len_of, same_database, tested}
 use Rattle.pc_model.proofs.RisingLaws.{both, is_less}
-use Rattle.pc_pairs.specs.Dumps.{line_of, pair_lines}
+use Rattle.pc_pairs.specs.Dumps.{pair_line, pair_lines}
 use Rattle.pc_pairs.specs.declared.form.Form.{Form}
 use Rattle.pc_pairs.specs.Loads.{IsLoaded, IsStorable, IsUnloaded, and_then, database_in, pair_in, with_line, with_lines}
 use Rattle.pc_pairs.specs.declared.loading.Unloaded.{Unloaded}
@@ -53,7 +53,7 @@ inserted db k v = refl
 
 -- each line adds its pair behind those before it
 grows : (form : Form) (pairs done : List Pair) (db last : Database) (number : ℕ) → All IsStorable pairs → db.entries ≡ done → last.entries ≡ done ++ pairs → is_sorted key_cmp (done ++ pairs) ≡ true
-    → with_lines form db number (map (line_of form) pairs) ≡ Ok last
+    → with_lines form db number (map (pair_line form) pairs) ≡ Ok last
 grows form [] done db last number all here whole sorted = ap Ok (same_by_entries db last (here ∙ sym (append-nil done) ∙ sym whole))
 grows form (pair ∷ pairs) done db last number all here whole sorted =
     let at_end = behind done pair pairs sorted in
@@ -61,8 +61,8 @@ grows form (pair ∷ pairs) done db last number all here whole sorted =
     let next = insert db pair.0 pair.1 in
     let more : next.entries ≡ done ++ pair ∷ [] = inserted db pair.0 pair.1 ∙ ap (put key_cmp pair.0 pair.1) here ∙ at_end.1 in
     let joined : (done ++ pair ∷ []) ++ pairs ≡ done ++ pair ∷ pairs = append_assoc done (pair ∷ []) pairs in
-    ap (λ t. and_then (with_line db number t) (λ after. with_lines form after (number + 1) (map (line_of form) pairs))) (pair_again form pair (first_storable pair pairs all))
-    ∙ ap (λ o. and_then (if is_some o then Err (number, fault.Twice) else Ok next) (λ after. with_lines form after (number + 1) (map (line_of form) pairs))) absent
+    ap (λ t. and_then (with_line db number t) (λ after. with_lines form after (number + 1) (map (pair_line form) pairs))) (pair_again form pair (first_storable pair pairs all))
+    ∙ ap (λ o. and_then (if is_some o then Err (number, fault.Twice) else Ok next) (λ after. with_lines form after (number + 1) (map (pair_line form) pairs))) absent
     ∙ grows form pairs (done ++ pair ∷ []) next last (number + 1) (rest_storable pair pairs all) more (whole ∙ sym joined) (ap (is_sorted key_cmp) joined ∙ sorted)
 
 empty_entries : (db : Database) → db ≡ empty → db.entries ≡ []

@@ -7,12 +7,12 @@ use Rattle.std.proofs.lemmas.List.Folds.{list_all-append}
 use Rattle.bstr.specs.Text.{lines_of, no_cr, without_terminator}
 use Rattle.bstr.proofs.lemmas.LineLemmas.{EndsLine, lines-append, lines-nil, lines-one}
 use Rattle.pc_lines.specs.Lines.{is_key, is_value, lines_in}
-use Rattle.pc_lines.specs.Words.{key_text_of, text_of}
+use Rattle.pc_lines.specs.Words.{key_text_of, word_text}
 use Rattle.pc_texts.specs.Texts.{printed, printed_key}
 use Rattle.pc_types.specs.Keys.{own_bytes, space_of}
 use Rattle.pc_json.proofs.JsonLaws.{json_again}
 use Rattle.pc_json.proofs.KeptByteLaws.{line_kept as json_kept}
-use Rattle.pc_pairs.specs.Dumps.{line_of, pair_lines}
+use Rattle.pc_pairs.specs.Dumps.{pair_line, pair_lines}
 use Rattle.pc_pairs.specs.declared.form.Form.{Form}
 use Rattle.pc_pairs.specs.declared.form.Form.TheVariants as form
 use Rattle.pc_pairs.specs.Loads.{IsStorable, pair_around, pair_in, pair_of, pair_of_json, words_pair}
@@ -42,14 +42,14 @@ shown_kept (b ∷ word) all =
     let kept : is_kept b ≡ true = let first = parts.0 in grind (arith, nat_tests) in
     and_true (is_kept b) (list_all is_kept word) kept (shown_kept word parts.1)
 
-words_kept : (pair : List ℕ × List ℕ) → IsStorable pair → list_all is_kept (line_of form.Words pair) ≡ true
+words_kept : (pair : List ℕ × List ℕ) → IsStorable pair → list_all is_kept (pair_line form.Words pair) ≡ true
 words_kept pair storable =
     list_all-append is_kept (printed_key pair.0) (32 ∷ printed pair.1)
     ∙ and_true (list_all is_kept (printed_key pair.0)) (list_all is_kept (32 ∷ printed pair.1))
     (shown_kept (printed_key pair.0) (shown_key pair.0 storable.1.0 (let key = storable.0.0 in omega (arith, key.0))))
     (shown_kept (printed pair.1) (shown_value pair.1 storable.1.1))
 
-line_kept : (form : Form) (pair : List ℕ × List ℕ) → IsStorable pair → list_all is_kept (line_of form pair) ≡ true
+line_kept : (form : Form) (pair : List ℕ × List ℕ) → IsStorable pair → list_all is_kept (pair_line form pair) ≡ true
 line_kept form.Words pair storable = words_kept pair storable
 line_kept form.Json pair storable =
     let parts = key_parts pair.0 storable.1.0 (let key = storable.0.0 in omega (arith, key.0)) in
@@ -65,19 +65,19 @@ fitting pair storable =
     ap (λ x. if x then (if is_value pair.1 then line.Pair pair.0 pair.1 else line.Bad fault.ValueLength) else line.Bad fault.KeyLength) key_fits
     ∙ ap (λ x. if x then line.Pair pair.0 pair.1 else line.Bad fault.ValueLength) value_fits
 
-words_again : (pair : List ℕ × List ℕ) → IsStorable pair → words_pair (line_of form.Words pair) ≡ line.Pair pair.0 pair.1
+words_again : (pair : List ℕ × List ℕ) → IsStorable pair → words_pair (pair_line form.Words pair) ≡ line.Pair pair.0 pair.1
 words_again pair storable =
     let word = printed_key pair.0 in
     let value = printed pair.1 in
     let long : 2 ≤ length pair.0 = let key = storable.0.0 in omega (arith, key.0) in
     ap (pair_around (word ++ 32 ∷ value)) (found_at (λ b. b == 32) word 32 value (no_space word (shown_key pair.0 storable.1.0 long)) refl)
-    ∙ ap (λ t. pair_of (key_text_of t) (text_of (drop (length word + 1) (word ++ 32 ∷ value)))) (taken word (32 ∷ value))
-    ∙ ap (λ t. pair_of (key_text_of word) (text_of t)) (dropped word 32 value)
-    ∙ ap (λ t. pair_of t (text_of value)) (key_again pair.0 storable.1.0 long)
+    ∙ ap (λ t. pair_of (key_text_of t) (word_text (drop (length word + 1) (word ++ 32 ∷ value)))) (taken word (32 ∷ value))
+    ∙ ap (λ t. pair_of (key_text_of word) (word_text t)) (dropped word 32 value)
+    ∙ ap (λ t. pair_of t (word_text value)) (key_again pair.0 storable.1.0 long)
     ∙ ap (pair_of (Some pair.0)) (value_again pair.1 storable.1.1)
     ∙ fitting pair storable
 
-pub pair_again : (form : Form) (pair : List ℕ × List ℕ) → IsStorable pair → pair_in form (line_of form pair) ≡ line.Pair pair.0 pair.1
+pub pair_again : (form : Form) (pair : List ℕ × List ℕ) → IsStorable pair → pair_in form (pair_line form pair) ≡ line.Pair pair.0 pair.1
 pair_again form.Words pair storable = words_again pair storable
 pair_again form.Json pair storable =
     let parts = key_parts pair.0 storable.1.0 (let key = storable.0.0 in omega (arith, key.0)) in
@@ -147,10 +147,10 @@ pub rest_storable : (pair : List ℕ × List ℕ) (pairs : List (List ℕ × Lis
 rest_storable pair pairs all = λ k d within. all (suc k) d (omega arith)
 
 -- the lines of pairs are a line for each
-pub lines_again : (form : Form) (pairs : List (List ℕ × List ℕ)) → All IsStorable pairs → lines_in (pair_lines form pairs) ≡ map (line_of form) pairs
+pub lines_again : (form : Form) (pairs : List (List ℕ × List ℕ)) → All IsStorable pairs → lines_in (pair_lines form pairs) ≡ map (pair_line form) pairs
 lines_again form [] all = ap (map without_terminator) lines-nil
 lines_again form (pair ∷ pairs) all =
-    let word = line_of form pair in
+    let word = pair_line form pair in
     let kept = line_kept form pair (first_storable pair pairs all) in
     ap (map without_terminator) (lines-append (length (word ++ 10 ∷ [])) (word ++ 10 ∷ []) (pair_lines form pairs) (omega arith) (line_ends word)
     ∙ ap (λ t. t ++ lines_of (pair_lines form pairs)) (one_line word kept))

@@ -11,7 +11,7 @@ use Rattle.std.proofs.lemmas.Fmt.{decimal_is_IsNumeral, first_decimal, length-de
 use Rattle.std.proofs.lemmas.List.Folds.{list_all-append}
 use Rattle.pc_types.specs.Bytes.{IsBytes}
 use Rattle.pc_types.specs.Keys.{key_of, space_of, own_bytes}
-use Rattle.pc_lines.specs.Words.{escaped, hex_byte, hex_value, is_digit, is_numeral, is_plain, key_at_colon, key_behind, key_in, key_text_of, number_of, space_in, space_within, text_of, unescaped, with_byte, with_escape, with_plain}
+use Rattle.pc_lines.specs.Words.{escaped, byte_of_hex, hex_value, is_digit, is_numeral, is_plain, key_at_colon, key_of_own_word, key_in_space, key_text_of, parsed_number, space_in, space_within, word_text, unescaped, with_byte, with_escape, with_plain}
 use Rattle.pc_texts.specs.Texts.{printed, printed_byte, printed_key, printed_space}
 
 -- a byte that no word has but a word's: neither a space nor a line feed nor a carriage return
@@ -67,7 +67,7 @@ shown_digit d small = by (nat_lt d 10) refl
 no_escape : (b x high low : ℕ) → is_plain b ≡ true → escaped b x high low ≡ None
 no_escape b x high low h =
     let other : (b == 92) ≡ false = grind (arith, nat_tests) in
-    ap (λ y. if y && (x == 120) then hex_byte (hex_value high) (hex_value low) else None) other
+    ap (λ y. if y && (x == 120) then byte_of_hex (hex_value high) (hex_value low) else None) other
 
 plain_alone : (b : ℕ) (word : List ℕ) → is_plain b ≡ true → with_plain b (unescaped word) ≡ with_byte b (unescaped word)
 plain_alone b word h = ap (λ x. if x then with_byte b (unescaped word) else None) h
@@ -88,7 +88,7 @@ escape_first b word small =
     let low : hex_value (digit_char (b % 16)) ≡ Some (b % 16) = hex_again (b % 16) (omega arith) in
     let whole : b / 16 * 16 + b % 16 ≡ b = omega arith in
     let is : escaped 92 120 (digit_char (b / 16)) (digit_char (b % 16)) ≡ Some b =
-    ap (λ t. hex_byte t (hex_value (digit_char (b % 16)))) high ∙ ap (hex_byte (Some (b / 16))) low ∙ ap Some whole in
+    ap (λ t. byte_of_hex t (hex_value (digit_char (b % 16)))) high ∙ ap (byte_of_hex (Some (b / 16))) low ∙ ap Some whole in
     ap (λ t. with_escape t (unescaped word) (with_plain 92 (unescaped (120 ∷ digit_char (b / 16) ∷ digit_char (b % 16) ∷ word)))) is
 
 byte_first : (b : ℕ) (word : List ℕ) → b < 256 → unescaped (printed_byte b ++ word) ≡ with_byte b (unescaped word)
@@ -137,7 +137,7 @@ no_hyphen b bytes other = by (is_plain b) refl bytes other
     by false h bytes other = refl
 
 -- a printed value is read back
-pub value_again : (bytes : List ℕ) → IsBytes bytes → text_of (printed bytes) ≡ Some bytes
+pub value_again : (bytes : List ℕ) → IsBytes bytes → word_text (printed bytes) ≡ Some bytes
 value_again [] fit = refl
 value_again (b ∷ bytes) fit = by (bytes_eq (b ∷ bytes) (45 ∷ [])) refl
   where
@@ -145,7 +145,7 @@ value_again (b ∷ bytes) fit = by (bytes_eq (b ∷ bytes) (45 ∷ [])) refl
     alone b [] e = grind (arith, nat_tests)
     alone b (c ∷ bytes) e = absurd (grind (arith, nat_tests))
 
-    by : (x : Bool) → bytes_eq (b ∷ bytes) (45 ∷ []) ≡ x → text_of (if x then 92 ∷ 120 ∷ 50 ∷ 100 ∷ [] else flat_map printed_byte (b ∷ bytes)) ≡ Some (b ∷ bytes)
+    by : (x : Bool) → bytes_eq (b ∷ bytes) (45 ∷ []) ≡ x → word_text (if x then 92 ∷ 120 ∷ 50 ∷ 100 ∷ [] else flat_map printed_byte (b ∷ bytes)) ≡ Some (b ∷ bytes)
     by true e = ap Some (alone b bytes e)
     by false e =
         ap (λ x. if x then Some [] else unescaped (flat_map printed_byte (b ∷ bytes))) (no_hyphen b bytes e)
@@ -203,7 +203,7 @@ digits_shown (d ∷ ds) all =
     let shown : is_shown d ≡ true = let first = parts.0 in grind (arith, nat_tests) in
     and_true (is_shown d) (list_all is_shown ds) shown (digits_shown ds parts.1)
 
-number_again : (n : ℕ) → n < 65536 → number_of (decimal n) ≡ Some n
+number_again : (n : ℕ) → n < 65536 → parsed_number (decimal n) ≡ Some n
 number_again n small =
     let numeral = decimal_is_IsNumeral n (omega arith) in
     let some : nat_lt 0 (length (decimal n)) ≡ true = let long = numeral.0.0 in grind (arith, nat_tests) in
@@ -213,12 +213,12 @@ number_again n small =
     (and_true (nat_lt 0 (length (decimal n))) (nat_lt (length (decimal n)) 10) some few) (digits_are (decimal n) numeral.0.1) in
     ap (λ x. if x then Some (digits_value 10 (decimal n)) else None) is ∙ ap Some numeral.1
 
-space_of_digits : (ds : List ℕ) (n : ℕ) → 0 < length ds → 48 < get_or ds 0 0 → number_of ds ≡ Some n → n < 65536 → space_in ds ≡ Some n
+space_of_digits : (ds : List ℕ) (n : ℕ) → 0 < length ds → 48 < get_or ds 0 0 → parsed_number ds ≡ Some n → n < 65536 → space_in ds ≡ Some n
 space_of_digits [] n some first number small = absurd (omega arith)
 space_of_digits (d ∷ ds) n some first number small =
     let other : (d == 48) ≡ false = grind (arith, nat_tests) in
     let within : nat_lt n 65536 ≡ true = grind (arith, nat_tests) in
-    ap (λ x. if x then None else space_within (number_of (d ∷ ds))) other ∙ ap space_within number ∙ ap (λ x. if x then Some n else None) within
+    ap (λ x. if x then None else space_within (parsed_number (d ∷ ds))) other ∙ ap space_within number ∙ ap (λ x. if x then Some n else None) within
 
 digits_again : (n : ℕ) → 0 < n → n < 65536 → space_in (decimal n) ≡ Some n
 digits_again n some small =
@@ -226,12 +226,12 @@ digits_again n some small =
 
 -- A printed key is read back.
 
-behind_again : (space : ℕ) (own : List ℕ) → IsBytes own → key_behind (Some space) (printed own) ≡ Some (key_of space own)
+behind_again : (space : ℕ) (own : List ℕ) → IsBytes own → key_of_own_word (Some space) (printed own) ≡ Some (key_of space own)
 behind_again space own fit = some (printed own) (longer own) (value_again own fit)
   where
-    some : (word : List ℕ) → 0 < length word → text_of word ≡ Some own → key_behind (Some space) word ≡ Some (key_of space own)
+    some : (word : List ℕ) → 0 < length word → word_text word ≡ Some own → key_of_own_word (Some space) word ≡ Some (key_of space own)
     some [] long is = absurd (omega arith)
-    some (b ∷ word) long is = ap (key_in space) is
+    some (b ∷ word) long is = ap (key_in_space space) is
 
     byte : (x : Bool) (b : ℕ) (rest : List ℕ) → 0 < length ((if x then b ∷ [] else 92 ∷ 120 ∷ digit_char (b / 16) ∷ digit_char (b % 16) ∷ []) ++ rest)
     byte true b rest = omega arith
@@ -247,25 +247,25 @@ behind_again space own fit = some (printed own) (longer own) (value_again own fi
 
 -- the word of own bytes tells no space
 own_again : (own : List ℕ) → IsBytes own → key_text_of (printed own) ≡ Some (key_of 0 own)
-own_again own fit = form own ∙ ap (key_in 0) (value_again own fit)
+own_again own fit = form own ∙ ap (key_in_space 0) (value_again own fit)
   where
-    plain : (b : ℕ) (rest : List ℕ) → is_plain b ≡ true → key_text_of (b ∷ rest) ≡ key_in 0 (text_of (b ∷ rest))
+    plain : (b : ℕ) (rest : List ℕ) → is_plain b ≡ true → key_text_of (b ∷ rest) ≡ key_in_space 0 (word_text (b ∷ rest))
     plain b [] is = refl
     plain b (s ∷ text) is =
         let other : (b == 92) ≡ false = grind (arith, nat_tests) in
-        ap (λ x. if x && (s == 115) then key_at_colon text (position (λ c. c == 58) text) else key_in 0 (text_of (b ∷ s ∷ text))) other
+        ap (λ x. if x && (s == 115) then key_at_colon text (position (λ c. c == 58) text) else key_in_space 0 (word_text (b ∷ s ∷ text))) other
 
     byte : (x : Bool) (b : ℕ) (rest : List ℕ) → is_plain b ≡ x
-        → key_text_of ((if x then b ∷ [] else 92 ∷ 120 ∷ digit_char (b / 16) ∷ digit_char (b % 16) ∷ []) ++ rest) ≡ key_in 0 (text_of ((if x then b ∷ [] else 92 ∷ 120 ∷ digit_char (b / 16) ∷ digit_char (b % 16) ∷ []) ++ rest))
+        → key_text_of ((if x then b ∷ [] else 92 ∷ 120 ∷ digit_char (b / 16) ∷ digit_char (b % 16) ∷ []) ++ rest) ≡ key_in_space 0 (word_text ((if x then b ∷ [] else 92 ∷ 120 ∷ digit_char (b / 16) ∷ digit_char (b % 16) ∷ []) ++ rest))
     byte true b rest is = plain b rest is
     byte false b rest is = refl
 
     alone : (x : Bool) (b : ℕ) (bytes : List ℕ)
-        → key_text_of (if x then 92 ∷ 120 ∷ 50 ∷ 100 ∷ [] else flat_map printed_byte (b ∷ bytes)) ≡ key_in 0 (text_of (if x then 92 ∷ 120 ∷ 50 ∷ 100 ∷ [] else flat_map printed_byte (b ∷ bytes)))
+        → key_text_of (if x then 92 ∷ 120 ∷ 50 ∷ 100 ∷ [] else flat_map printed_byte (b ∷ bytes)) ≡ key_in_space 0 (word_text (if x then 92 ∷ 120 ∷ 50 ∷ 100 ∷ [] else flat_map printed_byte (b ∷ bytes)))
     alone true b bytes = refl
     alone false b bytes = byte (is_plain b) b (flat_map printed_byte bytes) refl
 
-    form : (own : List ℕ) → key_text_of (printed own) ≡ key_in 0 (text_of (printed own))
+    form : (own : List ℕ) → key_text_of (printed own) ≡ key_in_space 0 (word_text (printed own))
     form [] = refl
     form (b ∷ bytes) = alone (bytes_eq (b ∷ bytes) (45 ∷ [])) b bytes
 
@@ -277,9 +277,9 @@ spaced_again (suc n) own small fit =
     let text : (ds ++ 58 ∷ []) ++ printed own ≡ ds ++ 58 ∷ printed own = append_assoc ds (58 ∷ []) (printed own) in
     ap (λ t. key_at_colon t (position (λ c. c == 58) t)) text
     ∙ ap (key_at_colon (ds ++ 58 ∷ printed own)) (found_at (λ c. c == 58) ds 58 (printed own) (not_colon ds digits) refl)
-    ∙ ap (λ t. key_behind (space_in t) (drop (length ds + 1) (ds ++ 58 ∷ printed own))) (taken ds (58 ∷ printed own))
-    ∙ ap (λ t. key_behind t (drop (length ds + 1) (ds ++ 58 ∷ printed own))) (digits_again (suc n) (omega arith) small)
-    ∙ ap (key_behind (Some (suc n))) (dropped ds 58 (printed own))
+    ∙ ap (λ t. key_of_own_word (space_in t) (drop (length ds + 1) (ds ++ 58 ∷ printed own))) (taken ds (58 ∷ printed own))
+    ∙ ap (λ t. key_of_own_word t (drop (length ds + 1) (ds ++ 58 ∷ printed own))) (digits_again (suc n) (omega arith) small)
+    ∙ ap (key_of_own_word (Some (suc n))) (dropped ds 58 (printed own))
     ∙ behind_again (suc n) own fit
 
 pub key_parts : (key : List ℕ) → IsBytes key → 2 ≤ length key → (space_of key < 65536) × (key_of (space_of key) (own_bytes key) ≡ key) × IsBytes (own_bytes key)

@@ -36,13 +36,13 @@ abbrev pub chosen : Choice → List (List ℕ × List ℕ) → List (List ℕ ×
 chosen choice pairs = filter (is_chosen choice) pairs
 
 -- the line of a pair, without its end: its key and its value as they are printed, with a space between them; or its object of JSON
-abbrev pub line_of : Form → List ℕ × List ℕ → List ℕ
-line_of form.Words pair = printed_key pair.0 ++ (32 ∷ printed pair.1)
-line_of form.Json pair = json_text (space_of pair.0) (own_bytes pair.0) pair.1
+abbrev pub pair_line : Form → List ℕ × List ℕ → List ℕ
+pair_line form.Words pair = printed_key pair.0 ++ (32 ∷ printed pair.1)
+pair_line form.Json pair = json_text (space_of pair.0) (own_bytes pair.0) pair.1
 
 -- the same with its end
 abbrev pub line_text : Form → List ℕ × List ℕ → List ℕ
-line_text form pair = line_of form pair ++ (10 ∷ [])
+line_text form pair = pair_line form pair ++ (10 ∷ [])
 
 -- the lines of these pairs
 abbrev pub pair_lines : Form → List (List ℕ × List ℕ) → List ℕ
@@ -57,18 +57,18 @@ abbrev pub PutsWhole : {T : Type 0} → (T → Option (List ℕ)) → Tally T �
 PutsWhole contents old new text = Appends (contents (inner_of old)) (contents (inner_of new)) text × (failures_of new ≡ failures_of old)
 
 -- a beginning of a text went out
-abbrev pub Begins : {T : Type 0} → (T → Option (List ℕ)) → Tally T → Tally T → List ℕ → Type 0
-Begins contents old new text = AppendsBeginning (contents (inner_of old)) (contents (inner_of new)) text
+abbrev pub SendsBeginning : {T : Type 0} → (T → Option (List ℕ)) → Tally T → Tally T → List ℕ → Type 0
+SendsBeginning contents old new text = AppendsBeginning (contents (inner_of old)) (contents (inner_of new)) text
 
 -- why not all of a text went out, of which a beginning did: the device failed, which was counted, or memory ran out
 abbrev pub IsPutInPart : {T : Type 0} → (T → Option (List ℕ)) → Tally T → Tally T → List ℕ → Refusal → Type 0
-IsPutInPart contents old new text why = Begins contents old new text × (((why ≡ Device) × HasRisen (failures_of old) (failures_of new)) ⊎ (why ≡ OutOfMemory))
+IsPutInPart contents old new text why = SendsBeginning contents old new text × (((why ≡ Device) × HasRisen (failures_of old) (failures_of new)) ⊎ (why ≡ OutOfMemory))
 
 -- a text went out; or a beginning of it, until the device failed, which was counted, or until memory ran out, where nothing failed
 abbrev pub PutsUntil : {T : Type 0} → (T → Option (List ℕ)) → Tally T → Tally T → Result (Unit {0}) Refusal → List ℕ → Type 0
 PutsUntil contents old new (Ok u) text = PutsWhole contents old new text
 PutsUntil contents old new (Err why) text =
-    Begins contents old new text × (((why ≡ Device) × HasRisen (failures_of old) (failures_of new)) ⊎ ((why ≡ OutOfMemory) × (failures_of new ≡ failures_of old)))
+    SendsBeginning contents old new text × (((why ≡ Device) × HasRisen (failures_of old) (failures_of new)) ⊎ ((why ≡ OutOfMemory) × (failures_of new ≡ failures_of old)))
 
 -- what is recovered of the folder was written: the lines of its chosen pairs. The folder isn't damaged, or damage is accepted, and what
 -- is damaged was reported. Said where the files' bytes are known.
@@ -80,7 +80,7 @@ Dumps remaining contents reported folder choice accepts_damage old new told_old 
 -- the same of a beginning of the lines
 abbrev pub DumpsInPart : {R T : Type 0} → (R → Option (List ℕ)) → (T → Option (List ℕ)) → Folder R → Choice → Tally T → Tally T → Type 0
 DumpsInPart remaining contents folder choice old new = (base : List ℕ) (names parts : List (List ℕ)) (log : List ℕ) → HoldsAll remaining folder base names parts log →
-    (found : Recovery) × (recovery base parts log ≡ Ok found) × Begins contents old new (dump_text choice found.pairs)
+    (found : Recovery) × (recovery base parts log ≡ Ok found) × SendsBeginning contents old new (dump_text choice found.pairs)
 
 -- Why not all lines were written: the output failed, which was counted, and a beginning of them went out, or memory ran out for a
 -- line of JSON, and a beginning did; or no base is made of the folder, and nothing went out.

@@ -8,7 +8,7 @@ use Rattle.pc_model.specs.Files.{BaseFile}
 use Rattle.pc_model.specs.Maps.{empty, get, insert, len}
 use Rattle.pc_model.specs.Database.{Database}
 use Rattle.pc_lines.specs.Lines.{is_key, is_value, lines_in}
-use Rattle.pc_lines.specs.Words.{key_text_of, text_of}
+use Rattle.pc_lines.specs.Words.{key_text_of, word_text}
 use Rattle.pc_json.specs.JsonLines.{Pair, json_pair}
 use Rattle.pc_types.specs.Keys.{key_of}
 use Rattle.pc_pairs.specs.declared.form.Form.{Form}
@@ -35,7 +35,7 @@ pair_of key value = line.Bad fault.Malformed
 -- the pair of a line whose first space is at this place: the key's word is before it, the value's word behind it
 abbrev pub pair_around : List ℕ → Option ℕ → PairLine
 pair_around text None = line.Bad fault.Malformed
-pair_around text (Some at) = pair_of (key_text_of (take at text)) (text_of (drop (at + 1) text))
+pair_around text (Some at) = pair_of (key_text_of (take at text)) (word_text (drop (at + 1) text))
 
 -- the pair of a line of words
 abbrev pub words_pair : List ℕ → PairLine

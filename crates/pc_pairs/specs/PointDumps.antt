@@ -11,7 +11,7 @@ use Rattle.pc_restore.specs.declared.recovery.Folder.{Folder}
 use Rattle.pc_restore.specs.declared.recovery.Lost.TheVariants as lost
 use Rattle.pc_points.specs.Folders.{IsPointLost}
 use Rattle.pc_points.specs.Points.{point_state}
-use Rattle.pc_pairs.specs.Dumps.{Begins, Dumps, IsUndumped, dump_text}
+use Rattle.pc_pairs.specs.Dumps.{SendsBeginning, Dumps, IsUndumped, dump_text}
 use Rattle.pc_pairs.specs.declared.choice.Choice.{Choice}
 use Rattle.pc_pairs.specs.declared.dumping.Undumped.{Undumped}
 use Rattle.pc_pairs.specs.declared.dumping.Undumped.TheVariants as undumped
@@ -24,7 +24,7 @@ DumpsPoint remaining contents folder n choice old new = (base : List ℕ) (names
 -- the same of a beginning of the lines
 abbrev pub DumpsPointInPart : {R T : Type 0} → (R → Option (List ℕ)) → (T → Option (List ℕ)) → Folder R → ℕ → Choice → Tally T → Tally T → Type 0
 DumpsPointInPart remaining contents folder n choice old new = (base : List ℕ) (names parts : List (List ℕ)) (log : List ℕ) → HoldsAll remaining folder base names parts log →
-    (db : Database) × (point_state n base parts log ≡ Ok (Some db)) × Begins contents old new (dump_text choice db)
+    (db : Database) × (point_state n base parts log ≡ Ok (Some db)) × SendsBeginning contents old new (dump_text choice db)
 
 -- every file of the folder was opened, and they have no state of the point n
 abbrev pub LacksPoint : {R : Type 0} → (R → Option (List ℕ)) → Folder R → ℕ → Type 0

@@ -1,7 +1,7 @@
 //! A line, and the pair that it spells.
 ghost use Rattle.std.specs.Prelude.{◌≡◌, ◌==◌, ◌<◌, length, IfOk, IfErr, IfSome, Some};
 ghost use Rattle.std.specs.List.{position};
-ghost use Rattle.pc_lines.specs.Words.{key_text_of, text_of};
+ghost use Rattle.pc_lines.specs.Words.{key_text_of, word_text};
 ghost use Rattle.pc_pairs.specs.Loads.{fault_name, pair_around, pair_in, pair_of, words_pair};
 
 use crate::form::Form;
@@ -74,7 +74,7 @@ fn space(text: &[u8]) -> Option<usize>
 }
 
 fn pair_of_words(alloc: Global, first: &[u8], second: &[u8]) -> Result<PairLine, Refusal>
-    ensures line { IfOk result (λ line. line ≡ pair_of (key_text_of first.now) (text_of second.now)) }
+    ensures line { IfOk result (λ line. line ≡ pair_of (key_text_of first.now) (word_text second.now)) }
     ensures refusals { IfErr result (λ why. why ≡ Refusal.OutOfMemory) }
 {
     let key = key_text_of(alloc, first)?;

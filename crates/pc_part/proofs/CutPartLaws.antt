@@ -11,7 +11,7 @@ use Rattle.pc_types.specs.declared.Triple.{Triple}
 use Rattle.pc_io.specs.declared.formats.Format.{Format}
 use Rattle.pc_part.specs.declared.ranges.Range.{Range}
 use Rattle.pc_part.specs.Lawful.{IsPartFile, HasPart}
-use Rattle.pc_part.specs.Reading.{next_key_at, next_entry_at, entries_from, entries_at, header_at, PartFields, part_fields_at, part_of_fields, part_at}
+use Rattle.pc_part.specs.Reading.{next_key_at, next_entry_at, entries_from, part_entries_at, part_header_at, PartFields, part_fields_at, part_of_fields, part_at}
 use Rattle.pc_part.specs.Texts.{part_text_in}
 use Rattle.pc_part.proofs.LocalSteps.{local_next_key, next_entry_local, header_local, local_cut}
 use Rattle.pc_part.proofs.PartFileLaws.{part_again}
@@ -19,15 +19,15 @@ use Rattle.pc_part.proofs.PartFileLaws.{part_again}
 pub next_key_cut : (format : Format) (last : List ℕ) (count : ℕ) (bytes more : List ℕ) → IsCut (ReadsAlike more) (next_key_at format last count (bytes ++ more)) (next_key_at format last count bytes)
 next_key_cut format last count bytes more = local_cut (next_key_at format last count) (local_next_key format last count) bytes more
 
-entries_behind_cut : (format : Format) (turns fewer : ℕ) (ranges : List Range) (more : List ℕ) → ((last bytes : List ℕ) → IsCut (ReadsAlike more) (entries_at format turns ranges last (bytes ++ more)) (entries_at format fewer ranges last bytes))
-    → (next : Option Triple) (rest : List ℕ) → IsCut (ReadsAlike more) (entries_from (entries_at format turns ranges) next (rest ++ more)) (entries_from (entries_at format fewer ranges) next rest)
+entries_behind_cut : (format : Format) (turns fewer : ℕ) (ranges : List Range) (more : List ℕ) → ((last bytes : List ℕ) → IsCut (ReadsAlike more) (part_entries_at format turns ranges last (bytes ++ more)) (part_entries_at format fewer ranges last bytes))
+    → (next : Option Triple) (rest : List ℕ) → IsCut (ReadsAlike more) (entries_from (part_entries_at format turns ranges) next (rest ++ more)) (entries_from (part_entries_at format fewer ranges) next rest)
 entries_behind_cut format turns fewer ranges more again None rest = (refl, refl)
 entries_behind_cut format turns fewer ranges more again (Some entry) rest = cut_then _ _ _ _ _ _ (again entry.key rest) (λ others end. (refl, refl))
 
 -- a prefix is read in fewer turns
-entries_cut : (format : Format) (turns fewer : ℕ) (ranges : List Range) (last bytes more : List ℕ) → fewer ≤ turns → IsCut (ReadsAlike more) (entries_at format turns ranges last (bytes ++ more)) (entries_at format fewer ranges last bytes)
-unfolding entries_at
-entries_cut format turns zero ranges last bytes more le = short_is_cut (ReadsAlike more) (entries_at format turns ranges last (bytes ++ more))
+entries_cut : (format : Format) (turns fewer : ℕ) (ranges : List Range) (last bytes more : List ℕ) → fewer ≤ turns → IsCut (ReadsAlike more) (part_entries_at format turns ranges last (bytes ++ more)) (part_entries_at format fewer ranges last bytes)
+unfolding part_entries_at
+entries_cut format turns zero ranges last bytes more le = short_is_cut (ReadsAlike more) (part_entries_at format turns ranges last (bytes ++ more))
 entries_cut format zero (suc fewer) ranges last bytes more le = absurd (omega arith)
 entries_cut format (suc turns) (suc fewer) ranges last bytes more le =
     cut_then _ _ _ _ _ _ (local_cut (next_entry_at format ranges last) (next_entry_local format ranges last) bytes more) (entries_behind_cut format turns fewer ranges more (λ key left. entries_cut format turns fewer ranges key left more (omega arith)))
@@ -36,7 +36,7 @@ fields_cut : (bytes : List ℕ) (byte : ℕ) (rest : List ℕ) → IsCut (Never 
 unfolding part_fields_at
 fields_cut bytes byte rest =
     let more = byte ∷ rest in
-    cut_then _ _ _ _ _ _ (local_cut header_at header_local bytes more) (λ header r3.
+    cut_then _ _ _ _ _ _ (local_cut part_header_at header_local bytes more) (λ header r3.
     cut_then _ _ _ _ _ _ (entries_cut header.0 (length (r3 ++ more)) (length r3) header.1.1 [] r3 more (omega (arith, length-append r3 more))) (λ entries r4.
     cut_then _ _ _ _ _ _ (number_cut w32 r4 more) (λ total r5.
     cut_where _ (total == length entries) BadLength (r5 ++ more) r5 _ _ (

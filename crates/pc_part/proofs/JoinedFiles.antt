@@ -19,7 +19,7 @@ use Rattle.pc_model.specs.Sets.{Set, number_order}
 use Rattle.pc_model.specs.Database.{key_cmp, key_order, same_bytes, KeysRise}
 use Rattle.pc_model.specs.Points.{AtPoint, newer, later, joined}
 use Rattle.pc_model.specs.Files.{differs, conflict}
-use Rattle.pc_model.specs.TripleLists.{entries_of, triples_of}
+use Rattle.pc_model.specs.TripleLists.{map_entries, triples_of}
 use Rattle.pc_model.specs.Replies.{is_empty}
 use Rattle.pc_model.proofs.MapLaws.{get-from_list, same_map}
 use Rattle.pc_model.proofs.PairMapLaws as pair_maps
@@ -34,21 +34,21 @@ use Rattle.pc_model.proofs.RisingLaws.{both, none_below, Below, Rise}
 use Rattle.pc_model.proofs.MergeItemLaws.{items}
 use Rattle.pc_part.proofs.JoinedLists.{joins, clashes}
 
-module _ (a b : List Triple) (rise_a : KeysRise (entries_of a)) (rise_b : KeysRise (entries_of b)) where
-  the_join : Merges later (entries_of a) (entries_of b) (joins a b)
-  the_join = merges later refl (entries_of a) (entries_of b) rise_a rise_b
+module _ (a b : List Triple) (rise_a : KeysRise (map_entries a)) (rise_b : KeysRise (map_entries b)) where
+  the_join : Merges later (map_entries a) (map_entries b) (joins a b)
+  the_join = merges later refl (map_entries a) (map_entries b) rise_a rise_b
 
   pub join_rises : KeysRise (joins a b)
   join_rises = the_join.rise
 
   join_map : map_of.from_list {o = key_order} (joins a b) ≡ joined (triples_of a) (triples_of b)
   join_map = same_map _ _ (λ q. get-from_list key_order (joins a b) q ∙ the_join.finds q
-      ∙ ap (λ x. later x (find key_cmp q (entries_of b))) (sym (get-from_list key_order (entries_of a) q))
-      ∙ ap (later (map_of.get (triples_of a) q)) (sym (get-from_list key_order (entries_of b) q))
+      ∙ ap (λ x. later x (find key_cmp q (map_entries b))) (sym (get-from_list key_order (map_entries a) q))
+      ∙ ap (later (map_of.get (triples_of a) q)) (sym (get-from_list key_order (map_entries b) q))
       ∙ sym (get-joined (triples_of a) (triples_of b) q))
 
   -- a list of the merged entries is the join
-  pub joined_list : (out : List Triple) → entries_of out ≡ joins a b → triples_of out ≡ joined (triples_of a) (triples_of b)
+  pub joined_list : (out : List Triple) → map_entries out ≡ joins a b → triples_of out ≡ joined (triples_of a) (triples_of b)
   joined_list out is = ap (map_of.from_list {o = key_order}) is ∙ join_map
 
   pub join_len : length (joins a b) ≡ map_of.len (joined (triples_of a) (triples_of b))
@@ -101,29 +101,29 @@ module _ (there : List ℕ → Option AtPoint) where
       by false same h again = ap (λ t. differs e.1 (there e.0) || t) (again h) ∙ or_true (differs e.1 (there e.0))
 
 -- two files conflict if and only if something clashes
-pub conflict_is : (a b : List Triple) → KeysRise (entries_of a) → KeysRise (entries_of b) → conflict (triples_of a) (triples_of b) ≡ not (is_empty (clashes a b))
+pub conflict_is : (a b : List Triple) → KeysRise (map_entries a) → KeysRise (map_entries b) → conflict (triples_of a) (triples_of b) ≡ not (is_empty (clashes a b))
 conflict_is a b rise_a rise_b =
-    ap (list_any (λ e. differs e.1 (map_of.get (triples_of b) e.0))) (pair_maps.entries_of (entries_of a) rise_a) ∙ by (clashes a b) (merges clash_at refl (entries_of a) (entries_of b) rise_a rise_b)
+    ap (list_any (λ e. differs e.1 (map_of.get (triples_of b) e.0))) (pair_maps.entries_of (map_entries a) rise_a) ∙ by (clashes a b) (merges clash_at refl (map_entries a) (map_entries b) rise_a rise_b)
   where
-    by : (m : List (List ℕ × ⊤)) → Merges clash_at (entries_of a) (entries_of b) m → list_any (λ e. differs e.1 (map_of.get (triples_of b) e.0)) (entries_of a) ≡ not (is_empty m)
-    by [] h = none_differs (map_of.get (triples_of b)) (entries_of a) rise_a (λ q. ap (clash_at (find key_cmp q (entries_of a))) (get-from_list key_order (entries_of b) q) ∙ sym (h.finds q))
-    by (e ∷ m) h = some_differs (map_of.get (triples_of b)) (entries_of a) e.0 (ap (clash_at (find key_cmp e.0 (entries_of a))) (get-from_list key_order (entries_of b) e.0) ∙ sym (h.finds e.0) ∙ find_first e m)
+    by : (m : List (List ℕ × ⊤)) → Merges clash_at (map_entries a) (map_entries b) m → list_any (λ e. differs e.1 (map_of.get (triples_of b) e.0)) (map_entries a) ≡ not (is_empty m)
+    by [] h = none_differs (map_of.get (triples_of b)) (map_entries a) rise_a (λ q. ap (clash_at (find key_cmp q (map_entries a))) (get-from_list key_order (map_entries b) q) ∙ sym (h.finds q))
+    by (e ∷ m) h = some_differs (map_of.get (triples_of b)) (map_entries a) e.0 (ap (clash_at (find key_cmp e.0 (map_entries a))) (get-from_list key_order (map_entries b) e.0) ∙ sym (h.finds e.0) ∙ find_first e m)
 
 -- each entry is of one of the points
 abbrev Covers : Set number_order → List (List ℕ × AtPoint) → Type 0
 Covers points [] = Unit {0}
 Covers points (e ∷ es) = IsTrue (set.contains points e.1.point) × Covers points es
 
-covered_entries : (points : Set number_order) (ts : List Triple) → AreCovered points ts → Covers points (entries_of ts)
+covered_entries : (points : Set number_order) (ts : List Triple) → AreCovered points ts → Covers points (map_entries ts)
 covered_entries points [] covered = tt
 covered_entries points (t ∷ ts) covered = (covered 0 t (omega arith), covered_entries points ts (All-tail (λ t. IsTrue (set.contains points t.point)) t ts covered))
 
-covered_triples : (points : Set number_order) (ts : List Triple) → Covers points (entries_of ts) → AreCovered points ts
+covered_triples : (points : Set number_order) (ts : List Triple) → Covers points (map_entries ts) → AreCovered points ts
 covered_triples points [] covered = All-nil (λ t. IsTrue (set.contains points t.point))
 covered_triples points (t ∷ ts) covered = All-cons (λ t. IsTrue (set.contains points t.point)) t ts covered.0 (covered_triples points ts covered.1)
 
 abbrev CoversTriples : Set number_order → List Triple → Type 0
-CoversTriples points ts = Covers points (entries_of ts)
+CoversTriples points ts = Covers points (map_entries ts)
 
 module _ (points : Set number_order) where
   newer_covered : (x y : AtPoint) → IsTrue (set.contains points x.point) → IsTrue (set.contains points y.point) → IsTrue (set.contains points (newer (Some x) y).point)
@@ -153,10 +153,10 @@ module _ (points : Set number_order) where
   items_covered (x ∷ xs) ys ca cb = covered_with x xs (λ ys. items_covered xs ys) ys ca cb
 
   joins_covered : (a b : List Triple) → CoversTriples points a → CoversTriples points b → Covers points (joins a b)
-  joins_covered a b ca cb = subst (Covers points) (merged_items later (entries_of a) (entries_of b)) (items_covered (entries_of a) (entries_of b) ca cb)
+  joins_covered a b ca cb = subst (Covers points) (merged_items later (map_entries a) (map_entries b)) (items_covered (map_entries a) (map_entries b) ca cb)
 
   -- the join of covered triples is covered
-  pub joined_covered : (a b out : List Triple) → AreCovered points a → AreCovered points b → entries_of out ≡ joins a b → AreCovered points out
+  pub joined_covered : (a b out : List Triple) → AreCovered points a → AreCovered points b → map_entries out ≡ joins a b → AreCovered points out
   joined_covered a b out ca cb is = covered_triples points out (subst (Covers points) (sym is) (joins_covered a b (covered_entries points a ca) (covered_entries points b cb)))
 
 -- Why triples can't be joined, by what was counted.
@@ -169,7 +169,7 @@ refusing e = Err e
 abbrev giving : ℕ → Result ℕ Refusal
 giving n = Ok n
 
-module _ (a b : List Triple) (rise_a : KeysRise (entries_of a)) (rise_b : KeysRise (entries_of b)) where
+module _ (a b : List Triple) (rise_a : KeysRise (map_entries a)) (rise_b : KeysRise (map_entries b)) where
   due : Option Refusal
   due = first_cause (triples_causes (triples_of a) (triples_of b))
 

@@ -6,7 +6,7 @@ use Rattle.std.proofs.lemmas.List.Elements.{All-map, All-from_recursion}
 use Rattle.pc_model.specs.Sets as set
 use Rattle.pc_model.specs.Sets.{Set, number_order}
 use Rattle.pc_model.specs.Files.{File}
-use Rattle.pc_model.specs.TripleLists.{entry_of, entries_of}
+use Rattle.pc_model.specs.TripleLists.{entry_of, map_entries}
 use Rattle.pc_types.specs.declared.Triple.{Triple}
 use Rattle.pc_part.specs.declared.ranges.Range.{Range}
 use Rattle.pc_part.specs.Parts.{IsWithinLimit, points_from, points_in, points_of, RangesFrom, AreRanges, AreCovered}
@@ -34,7 +34,7 @@ some_point (r ∷ ranges) h =
     let many : r.high + 1 - r.low ≡ suc (r.high - r.low) = omega arith in
     subst (λ n. 1 ≤ length (points_from r.low n ++ points_in ranges)) (sym many) (omega arith)
 
-pub part_lawful : (file : File) (run : ℕ) (ranges : List Range) (triples : List Triple) → run ≡ file.run → points_of ranges ≡ file.points → entries_of triples ≡ file.triples.entries
+pub part_lawful : (file : File) (run : ℕ) (ranges : List Range) (triples : List Triple) → run ≡ file.run → points_of ranges ≡ file.points → map_entries triples ≡ file.triples.entries
     → run < 2 ^ 64 → AreRanges ranges → AreCovered file.points triples → IsWithinLimit triples → All HasLimits triples → IsPartFile file
 part_lawful file run ranges triples same_run same_points same_entries run_fits apart covered limit fit =
     let items : set.items file.points ≡ points_in ranges = ap set.items (sym same_points) ∙ items-points_of ranges apart in

@@ -17,7 +17,7 @@ use Rattle.pc_model.specs.Points.{AtPoint}
 use Rattle.pc_types.specs.declared.Triple.{Triple}
 use Rattle.pc_part.specs.declared.ranges.Range.{Range}
 use Rattle.pc_part.specs.Parts.{covers}
-use Rattle.pc_part.specs.Reading.{items_at, range_at, ranges_at, next_key_at, point_at, entry_at, next_entry_at, header_at}
+use Rattle.pc_part.specs.Reading.{items_at, range_at, ranges_at, next_key_at, point_at, part_entry_at, next_entry_at, part_header_at}
 use Rattle.pc_part.specs.RoundTrips.{IsLocal, StepsAreLocal}
 use Rattle.pc_part.specs.Texts.{part_magic}
 
@@ -156,8 +156,8 @@ local_content = record { back = back; ok = ok; err = err }
 abbrev at_point : ℕ → Option (List ℕ) → AtPoint
 at_point point content = record { point = point; content = content }
 
-local_entry : (ranges : List Range) → IsLocal (entry_at ranges)
-unfolding entry_at
+local_entry : (ranges : List Range) → IsLocal (part_entry_at ranges)
+unfolding part_entry_at
 local_entry ranges = local_bind (point_at ranges) (λ point bytes. content_at Short bytes >>= λ content. Ok (at_point point content.0, content.1)) (local_point ranges)
     (λ point. local_bind (content_at Short) (λ content bytes. Ok (at_point point content, bytes)) local_content (λ content. local_ok (at_point point content)))
 
@@ -167,13 +167,13 @@ triple key there = record { key = key; point = there.point; content = there.cont
 pub next_entry_local : (format : Format) (ranges : List Range) (last : List ℕ) → IsLocal (next_entry_at format ranges last)
 unfolding next_entry_at
 next_entry_local format ranges last = local_bind (number_at Short w16)
-    (λ count bytes. cond (eqb count 0) (Ok (None, bytes)) (next_key_at format last count bytes >>= λ key. entry_at ranges key.1 >>= λ there. Ok (Some (triple key.0 there.0), there.1)))
+    (λ count bytes. cond (eqb count 0) (Ok (None, bytes)) (next_key_at format last count bytes >>= λ key. part_entry_at ranges key.1 >>= λ there. Ok (Some (triple key.0 there.0), there.1)))
     (local_number w16) (λ count. by (eqb count 0) count)
   where
-    by : (t : Bool) (count : ℕ) → IsLocal (λ bytes. cond t (Ok (None, bytes)) (next_key_at format last count bytes >>= λ key. entry_at ranges key.1 >>= λ there. Ok (Some (triple key.0 there.0), there.1)))
+    by : (t : Bool) (count : ℕ) → IsLocal (λ bytes. cond t (Ok (None, bytes)) (next_key_at format last count bytes >>= λ key. part_entry_at ranges key.1 >>= λ there. Ok (Some (triple key.0 there.0), there.1)))
     by true count = local_ok None
-    by false count = local_bind (next_key_at format last count) (λ key bytes. entry_at ranges bytes >>= λ there. Ok (Some (triple key there.0), there.1)) (local_next_key format last count)
-        (λ key. local_bind (entry_at ranges) (λ there bytes. Ok (Some (triple key there), bytes)) (local_entry ranges) (λ there. local_ok (Some (triple key there))))
+    by false count = local_bind (next_key_at format last count) (λ key bytes. part_entry_at ranges bytes >>= λ there. Ok (Some (triple key there.0), there.1)) (local_next_key format last count)
+        (λ key. local_bind (part_entry_at ranges) (λ there bytes. Ok (Some (triple key there), bytes)) (local_entry ranges) (λ there. local_ok (Some (triple key there))))
 
 -- ---- the header
 
@@ -206,8 +206,8 @@ local_magic first second = local_bind (bytes_at Short 8) (λ magic bytes. format
 abbrev header : Format → ℕ → List Range → Format × (ℕ × List Range)
 header format run ranges = (format, (run, ranges))
 
-pub header_local : IsLocal header_at
-unfolding header_at
+pub header_local : IsLocal part_header_at
+unfolding part_header_at
 header_local = local_bind (magic_at (part_magic First) (part_magic Second))
     (λ format bytes. number_at Short w64 bytes >>= λ run. number_at Short w32 run.1 >>= λ count. where_true (nat_lt 0 count.0) BadRanges count.0 >>= λ some. ranges_at some 1 count.1 >>= λ ranges. Ok (header format run.0 ranges.0, ranges.1))
     (local_magic (part_magic First) (part_magic Second))

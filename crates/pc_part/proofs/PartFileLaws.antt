@@ -14,7 +14,7 @@ use Rattle.pc_model.specs.Maps as map_of
 use Rattle.pc_model.specs.Sets as set
 use Rattle.pc_model.specs.Database.{KeysRise}
 use Rattle.pc_model.specs.Files.{File}
-use Rattle.pc_model.specs.TripleLists.{entry_of, entries_of, triples_of}
+use Rattle.pc_model.specs.TripleLists.{entry_of, map_entries, triples_of}
 use Rattle.pc_model.specs.Points.{AtPoint}
 use Rattle.pc_model.specs.Ranges.{ranges_of}
 use Rattle.pc_types.specs.declared.Triple.{Triple}
@@ -35,7 +35,7 @@ use Rattle.pc_part.proofs.RisingKeyLaws.{RisesFrom, keys_rise, rises_from_empty}
 
 -- ---- the file of the fields
 
-entries_rise : (format : Format) (ranges : List Range) (last : List ℕ) (triples : List Triple) → EntriesFrom format ranges last triples → RisesFrom last (entries_of triples)
+entries_rise : (format : Format) (ranges : List Range) (last : List ℕ) (triples : List Triple) → EntriesFrom format ranges last triples → RisesFrom last (map_entries triples)
 entries_rise format ranges last [] h = tt
 entries_rise format ranges last (t ∷ triples) h = (h.0, entries_rise format ranges t.key triples h.4)
 
@@ -47,13 +47,13 @@ entries_fit : (format : Format) (ranges : List Range) (last : List ℕ) (triples
 entries_fit format ranges last [] h = tt
 entries_fit format ranges last (t ∷ triples) h = (h.1, entries_fit format ranges t.key triples h.4)
 
-entries_have : (format : Format) (ranges : List Range) (last : List ℕ) (triples : List Triple) → EntriesFrom format ranges last triples → AllByRecursion (λ entry. HasKey format entry.0) (entries_of triples)
+entries_have : (format : Format) (ranges : List Range) (last : List ℕ) (triples : List Triple) → EntriesFrom format ranges last triples → AllByRecursion (λ entry. HasKey format entry.0) (map_entries triples)
 entries_have format ranges last [] h = tt
 entries_have format ranges last (t ∷ triples) h = (h.3, entries_have format ranges t.key triples h.4)
 
 module _ (format : Format) (x : PartFields) (lawful : IsPartFields format x) where
-  pub fields_rise : KeysRise (entries_of x.entries)
-  fields_rise = keys_rise [] (entries_of x.entries) (entries_rise format x.ranges [] x.entries lawful.entries)
+  pub fields_rise : KeysRise (map_entries x.entries)
+  fields_rise = keys_rise [] (map_entries x.entries) (entries_rise format x.ranges [] x.entries lawful.entries)
 
   pub fields_covered : AreCovered (points_of x.ranges) x.entries
   fields_covered = All-from_recursion (λ triple. IsTrue (set.contains (points_of x.ranges) triple.point)) x.entries (entries_covered format x.ranges [] x.entries lawful.entries)
@@ -61,14 +61,14 @@ module _ (format : Format) (x : PartFields) (lawful : IsPartFields format x) whe
   fields_fit : All HasLimits x.entries
   fields_fit = All-from_recursion HasLimits x.entries (entries_fit format x.ranges [] x.entries lawful.entries)
 
-  entries_are : entries_of x.entries ≡ (part_of_fields x).triples.entries
-  entries_are = sym (pairs_of.entries_of (entries_of x.entries) fields_rise)
+  entries_are : map_entries x.entries ≡ (part_of_fields x).triples.entries
+  entries_are = sym (pairs_of.entries_of (map_entries x.entries) fields_rise)
 
   file_lawful : IsPartFile (part_of_fields x)
   file_lawful = part_lawful (part_of_fields x) x.run x.ranges x.entries refl refl entries_are lawful.run lawful.apart fields_covered lawful.limit fields_fit
 
   file_has : HasPart format (part_of_fields x)
-  file_has = subst (All (λ (entry : List ℕ × AtPoint). HasKey format entry.0)) entries_are (All-from_recursion (λ (entry : List ℕ × AtPoint). HasKey format entry.0) (entries_of x.entries) (entries_have format x.ranges [] x.entries lawful.entries))
+  file_has = subst (All (λ (entry : List ℕ × AtPoint). HasKey format entry.0)) entries_are (All-from_recursion (λ (entry : List ℕ × AtPoint). HasKey format entry.0) (map_entries x.entries) (entries_have format x.ranges [] x.entries lawful.entries))
 
   file_text : fields_text format x ≡ part_text_in format (part_of_fields x)
   file_text = text_parts_in format (part_of_fields x) x.run x.ranges x.entries refl (sym (ranges_of-points_of x.ranges lawful.apart)) entries_are
@@ -79,7 +79,7 @@ abbrev triples_by : List (List ℕ × AtPoint) → List Triple
 triples_by [] = []
 triples_by (e ∷ es) = record { key = e.0; point = e.1.point; content = e.1.content } ∷ triples_by es
 
-entries_back : (es : List (List ℕ × AtPoint)) → entries_of (triples_by es) ≡ es
+entries_back : (es : List (List ℕ × AtPoint)) → map_entries (triples_by es) ≡ es
 entries_back [] = refl
 entries_back (e ∷ es) = ap (λ (rest : List (List ℕ × AtPoint)). e ∷ rest) (entries_back es)
 

@@ -12,7 +12,7 @@ use Rattle.std.proofs.lemmas.List.Folds.{list_any-append}
 use Rattle.pc_model.specs.Maps as map_of
 use Rattle.pc_model.specs.Sets as set
 use Rattle.pc_model.specs.Sets.{Set, number_order}
-use Rattle.pc_model.specs.Ranges.{with_range, ranges_of}
+use Rattle.pc_model.specs.Ranges.{with_range_before, ranges_of}
 use Rattle.pc_model.proofs.MapLaws.{get-entries, get-from_list}
 use Rattle.pc_model.proofs.SetLaws.{contains-from_list}
 use Rattle.pc_part.specs.declared.ranges.Range.{Range}
@@ -69,11 +69,11 @@ items_of ks rise =
     firsts (k ∷ ks) = ap (λ rest. k ∷ rest) (firsts ks)
 
 -- points in order are one range
-pub one_range : (p n : ℕ) (rest : List ℕ) → ranges_of (points_from p (suc n) ++ rest) ≡ with_range p (p + n) (ranges_of rest)
-one_range p zero rest = ap (λ high. with_range p high (ranges_of rest)) (omega arith)
-one_range p (suc n) rest = ap (with_range p p) (one_range (p + 1) n rest) ∙ wider (ranges_of rest)
+pub one_range : (p n : ℕ) (rest : List ℕ) → ranges_of (points_from p (suc n) ++ rest) ≡ with_range_before p (p + n) (ranges_of rest)
+one_range p zero rest = ap (λ high. with_range_before p high (ranges_of rest)) (omega arith)
+one_range p (suc n) rest = ap (with_range_before p p) (one_range (p + 1) n rest) ∙ wider (ranges_of rest)
   where
-    wider : (ranges : List (ℕ × ℕ)) → with_range p p (with_range (p + 1) ((p + 1) + n) ranges) ≡ with_range p (p + suc n) ranges
+    wider : (ranges : List (ℕ × ℕ)) → with_range_before p p (with_range_before (p + 1) ((p + 1) + n) ranges) ≡ with_range_before p (p + suc n) ranges
     wider [] = grind (arith, nat_tests)
     wider (r ∷ ranges) = grind (arith, nat_tests)
 
@@ -86,11 +86,11 @@ ranges_back least (r ∷ ranges) h =
     let last : r.low + (r.high - r.low) ≡ r.high = omega arith in
     ap (λ n. ranges_of (points_from r.low n ++ points_in ranges)) many
     ∙ one_range r.low (r.high - r.low) (points_in ranges)
-    ∙ ap (λ high. with_range r.low high (ranges_of (points_in ranges))) last
-    ∙ ap (with_range r.low r.high) (ranges_back (r.high + 2) ranges h.3)
+    ∙ ap (λ high. with_range_before r.low high (ranges_of (points_in ranges))) last
+    ∙ ap (with_range_before r.low r.high) (ranges_back (r.high + 2) ranges h.3)
     ∙ apart ranges h.3
   where
-    apart : (ranges : List Range) → RangesFrom (r.high + 2) ranges → with_range r.low r.high (bounds_of ranges) ≡ (r.low, r.high) ∷ bounds_of ranges
+    apart : (ranges : List Range) → RangesFrom (r.high + 2) ranges → with_range_before r.low r.high (bounds_of ranges) ≡ (r.low, r.high) ∷ bounds_of ranges
     apart [] h = refl
     apart (s ∷ ranges) h = let gap : r.high + 2 ≤ s.low = h.0 in grind (arith, nat_tests)
 

@@ -12,7 +12,7 @@ use Rattle.pc_model.proofs.SetLaws.{same_set}
 use Rattle.pc_part.specs.declared.ranges.Range.{Range}
 use Rattle.pc_types.specs.declared.Triple.{Triple}
 use Rattle.pc_part.specs.Parts.{points_of, AreCovered, RangesFrom, AreRanges}
-use Rattle.pc_part.specs.Unions.{meets, widened, with_range}
+use Rattle.pc_part.specs.Unions.{meets, widened, with_range_after}
 use Rattle.itertools.specs.List.{merge_by}
 use Rattle.itertools.specs.Adaptor.{EachRunBehindBoth, EndsWithBoth, GivesOfBoth}
 use Rattle.itertools.proofs.TwoLemmas.{YieldsList-from_gives_of_both_refs}
@@ -101,7 +101,7 @@ record IsWith (least : ℕ) (ranges : List Range) (range : Range) (all : List Ra
   lows : last_low least all ≤ range.low
   has : (q : ℕ) → have_point all q ≡ (have_point ranges q || has_point range q)
 
-with_one : (least : ℕ) (last range : Range) → least ≤ last.low → last.low ≤ last.high → last.high ≤ 65535 → last.low ≤ range.low → range.low ≤ range.high → range.high ≤ 65535 → IsWith least (last ∷ []) range (with_range (last ∷ []) range)
+with_one : (least : ℕ) (last range : Range) → least ≤ last.low → last.low ≤ last.high → last.high ≤ 65535 → last.low ≤ range.low → range.low ≤ range.high → range.high ≤ 65535 → IsWith least (last ∷ []) range (with_range_after (last ∷ []) range)
 with_one least last range from ends limit after range_ends range_limit = by (meets last range) refl
   where
     as_one : (q : ℕ) → meets last range ≡ true → has_point (widened last range) q ≡ (has_point last q || has_point range q)
@@ -111,18 +111,18 @@ with_one least last range from ends limit after range_ends range_limit = by (mee
     by true is = record { rise = (from, omega arith, omega arith, tt); lows = after; has = λ q. or_false (has_point (widened last range) q) ∙ as_one q is ∙ ap (λ t. t || has_point range q) (sym (or_false (has_point last q))) }
     by false is = record { rise = (from, ends, limit, (grind (arith, nat_tests, is), range_ends, range_limit, tt)); lows = omega arith; has = λ q. ap (λ t. has_point last q || t) (or_false (has_point range q)) ∙ ap (λ t. t || has_point range q) (sym (or_false (has_point last q))) }
 
-with_more : (least : ℕ) (ranges : List Range) (range : Range) → RangesFrom least ranges → last_low least ranges ≤ range.low → range.low ≤ range.high → range.high ≤ 65535 → IsWith least ranges range (with_range ranges range)
+with_more : (least : ℕ) (ranges : List Range) (range : Range) → RangesFrom least ranges → last_low least ranges ≤ range.low → range.low ≤ range.high → range.high ≤ 65535 → IsWith least ranges range (with_range_after ranges range)
 with_more least [] range rise after ends limit = record { rise = (after, ends, limit, tt); lows = omega arith; has = λ q. or_false (has_point range q) }
 with_more least (last ∷ []) range rise after ends limit = with_one least last range rise.0 rise.1 rise.2 after ends limit
 with_more least (first ∷ second ∷ ranges) range rise after ends limit =
     let rest = with_more (first.high + 2) (second ∷ ranges) range rise.3 after ends limit in
     record {
       rise = (rise.0, rise.1, rise.2, rest.rise);
-      lows = lows_of (with_range (second ∷ ranges) range) (some ranges) rest.lows;
+      lows = lows_of (with_range_after (second ∷ ranges) range) (some ranges) rest.lows;
       has = λ q. ap (λ t. has_point first q || t) (rest.has q) ∙ sym (or_assoc (has_point first q) (have_point (second ∷ ranges) q) (has_point range q));
     }
   where
-    some : (ranges : List Range) → ¬ (with_range (second ∷ ranges) range ≡ [])
+    some : (ranges : List Range) → ¬ (with_range_after (second ∷ ranges) range ≡ [])
     some [] none = by (meets second range) none
       where
         by : (b : Bool) → (if b then widened second range ∷ [] else second ∷ range ∷ []) ≡ [] → ⊥
@@ -144,7 +144,7 @@ pub record Uniting (a b out rest : List Range) : Type 0 where
 pub none_united : (a b : List Range) → AreRanges a → AreRanges b → Uniting a b [] (by_low a b)
 none_united a b in_a in_b = record { rise = tt; from = begin_by_low a b 1 (begins 1 a in_a.1) (begins 1 b in_b.1); same = λ q. have_by_low q a b }
 
-pub one_united : (a b out rest : List Range) (range : Range) (new : List Range) → Uniting a b out (range ∷ rest) → new ≡ with_range out range → Uniting a b new rest
+pub one_united : (a b out rest : List Range) (range : Range) (new : List Range) → Uniting a b out (range ∷ rest) → new ≡ with_range_after out range → Uniting a b new rest
 one_united a b out rest range new before is = rw is (
     let next = with_more 1 out range before.rise before.from.0 before.from.1 before.from.2 in
     record {
@@ -193,14 +193,14 @@ all_united a b out in_a before = ((some a out in_a before.same, before.rise), is
     some (r ∷ rs) (o ∷ out) in_a same = omega arith
 
 -- what is added after the last range
-with_last : (front : List Range) (last range : Range) → with_range (front ++ last ∷ []) range ≡ front ++ (if meets last range then widened last range ∷ [] else last ∷ range ∷ [])
+with_last : (front : List Range) (last range : Range) → with_range_after (front ++ last ∷ []) range ≡ front ++ (if meets last range then widened last range ∷ [] else last ∷ range ∷ [])
 with_last [] last range = refl
 with_last (f ∷ []) last range = refl
 with_last (f ∷ g ∷ front) last range = ap (λ rs. f ∷ rs) (with_last (g ∷ front) last range)
 
 module _ (old front new : List Range) (last range : Range) (parted : old ≡ front ++ last ∷ []) where
   -- the last range is widened
-  pub widens : (wide : Range) → meets last range ≡ true → wide.low ≡ last.low → wide.high ≡ max last.high range.high → new ≡ front ++ wide ∷ [] → new ≡ with_range old range
+  pub widens : (wide : Range) → meets last range ≡ true → wide.low ≡ last.low → wide.high ≡ max last.high range.high → new ≡ front ++ wide ∷ [] → new ≡ with_range_after old range
   widens wide met low high put = rw (put, parted, with_last front last range, met) (ap (λ r. front ++ r ∷ []) (same wide (widened last range) low high))
     where
       range_of : ℕ → ℕ → Range
@@ -210,7 +210,7 @@ module _ (old front new : List Range) (last range : Range) (parted : old ≡ fro
       same r s low high = ap (λ l. range_of l r.high) low ∙ ap (range_of s.low) high
 
   -- the range comes after it
-  pub stands_behind : (all : List Range) → meets last range ≡ false → all ≡ front ++ last ∷ [] → new ≡ all ++ range ∷ [] → new ≡ with_range old range
+  pub stands_behind : (all : List Range) → meets last range ≡ false → all ≡ front ++ last ∷ [] → new ≡ all ++ range ∷ [] → new ≡ with_range_after old range
   stands_behind all met put put_too = rw (put_too, put, parted, with_last front last range, met) (append_assoc front (last ∷ []) (range ∷ []))
 
 -- an iterator over both lists by the first points gives the ranges, in order

@@ -12,7 +12,7 @@ use Rattle.std.proofs.lemmas.Bool.Decides.{nat_tests}
 use Rattle.std.proofs.lemmas.List.{length-map}
 use Rattle.pc_model.specs.Sets as set
 use Rattle.pc_model.specs.Sets.{Set, number_order}
-use Rattle.pc_model.specs.Ranges.{with_range, ranges_of}
+use Rattle.pc_model.specs.Ranges.{with_range_before, ranges_of}
 use Rattle.pc_model.proofs.MapLaws.{get-entries}
 use Rattle.pc_model.proofs.SetLaws.{contains-from_list, same_set}
 use Rattle.pc_part.specs.declared.ranges.Range.{Range}
@@ -49,7 +49,7 @@ one_point p rest = let one : p + 1 - p ≡ 1 = omega arith in ap (λ n. points_f
 
 -- one more point before ranges
 joins : (least p : ℕ) (ranges : List (ℕ × ℕ)) (points : List ℕ) → least ≤ p → p ≤ 65535 → RangesFrom (p + 1) (as_ranges ranges) → points_in (as_ranges ranges) ≡ points
-    → RangesFrom least (as_ranges (with_range p p ranges)) × (points_in (as_ranges (with_range p p ranges)) ≡ p ∷ points)
+    → RangesFrom least (as_ranges (with_range_before p p ranges)) × (points_in (as_ranges (with_range_before p p ranges)) ≡ p ∷ points)
 joins least p [] points from limit h is = ((from, omega arith, limit, tt), one_point p [] ∙ ap (λ (ps : List ℕ). p ∷ ps) is)
 joins least p (r ∷ ranges) points from limit h is =
     let low : p + 1 ≤ r.0 = h.0 in

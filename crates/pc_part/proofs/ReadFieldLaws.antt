@@ -21,7 +21,7 @@ use Rattle.pc_types.specs.declared.Triple.{Triple}
 use Rattle.pc_part.specs.declared.ranges.Range.{Range}
 use Rattle.pc_part.specs.Lawful.{HasLimits}
 use Rattle.pc_part.specs.Parts.{RangesFrom, covers}
-use Rattle.pc_part.specs.Reading.{range_at, ranges_at, next_key_at, point_at, entry_at, next_entry_at, entries_from, entries_at}
+use Rattle.pc_part.specs.Reading.{range_at, ranges_at, next_key_at, point_at, part_entry_at, next_entry_at, entries_from, part_entries_at}
 use Rattle.pc_part.specs.Texts.{bounds_text, triple_text_in}
 use Rattle.pc_part.proofs.ItemLaws.{items_take, items_again}
 use Rattle.pc_part.proofs.ReadLists.{range_steps, covered_fits}
@@ -57,8 +57,8 @@ ranges_again = items_again _ _ bounds_text RangesFrom (λ least r ranges rest h.
 abbrev there_text : AtPoint → List ℕ
 there_text there = to_be_bytes w32 there.point ++ content_text there.content
 
-entry_takes : (ranges : List Range) (bytes : List ℕ) (x : AtPoint × List ℕ) → IsBytes bytes → entry_at ranges bytes ≡ Ok x → TakesText bytes (there_text x.0) x.1 × (covers ranges x.0.point ≡ true) × IfSome x.0.content IsValue
-unfolding entry_at point_at
+entry_takes : (ranges : List Range) (bytes : List ℕ) (x : AtPoint × List ℕ) → IsBytes bytes → part_entry_at ranges bytes ≡ Ok x → TakesText bytes (there_text x.0) x.1 × (covers ranges x.0.point ≡ true) × IfSome x.0.content IsValue
+unfolding part_entry_at point_at
 entry_takes ranges bytes x fits e =
     let a = bind_ok (point_at ranges bytes) (λ point. content_at Short point.1 >>= λ content. Ok (record { point = point.0; content = content.0 }, content.1)) x e in
     let b = bind_ok (content_at Short a.0.1) (λ content. Ok (record { point = a.0.0; content = content.0 }, content.1)) x a.2 in
@@ -71,8 +71,8 @@ entry_takes ranges bytes x fits e =
     subst (λ (y : AtPoint × List ℕ). TakesText bytes (there_text y.0) y.1 × (covers ranges y.0.point ≡ true) × IfSome y.0.content IsValue) {x = made} (ok_is made x b.2)
     (TakesText-then bytes (to_be_bytes w32 a.0.0) a.0.1 (content_text b.0.0) b.0.1 point.0 content.0, point.1, content.1)
 
-entry_again : (ranges : List Range) (there : AtPoint) (rest : List ℕ) → there.point ≤ 65535 → covers ranges there.point ≡ true → IfSome there.content IsValue → entry_at ranges (there_text there ++ rest) ≡ Ok (there, rest)
-unfolding entry_at point_at
+entry_again : (ranges : List Range) (there : AtPoint) (rest : List ℕ) → there.point ≤ 65535 → covers ranges there.point ≡ true → IfSome there.content IsValue → part_entry_at ranges (there_text there ++ rest) ≡ Ok (there, rest)
+unfolding part_entry_at point_at
 entry_again ranges there rest limit covered is_value =
     let parts : there_text there ++ rest ≡ to_be_bytes w32 there.point ++ (content_text there.content ++ rest) = append_assoc (to_be_bytes w32 there.point) (content_text there.content) rest in
     let point : number_at Short w32 (there_text there ++ rest) ≡ Ok (there.point, content_text there.content ++ rest) = ap (number_at Short w32) parts ∙ number_again Short w32 (2 ^ 32) wide32 there.point (content_text there.content ++ rest) (omega arith) in
@@ -96,18 +96,18 @@ pub next_entry_takes : (format : Format) (ranges : List Range) (last bytes : Lis
 unfolding next_entry_at
 next_entry_takes format ranges last bytes x fits e =
     let a = bind_ok (number_at Short w16 bytes) (λ count. cond (eqb count.0 0) (Ok (None, count.1))
-    (next_key_at format last count.0 count.1 >>= λ key. entry_at ranges key.1 >>= λ there. Ok (Some (record { key = key.0; point = there.0.point; content = there.0.content }), there.1))) x e in
+    (next_key_at format last count.0 count.1 >>= λ key. part_entry_at ranges key.1 >>= λ there. Ok (Some (record { key = key.0; point = there.0.point; content = there.0.content }), there.1))) x e in
     let len = number_takes Short w16 (2 ^ 16) wide16 bytes a.0.0 a.0.1 fits a.1 in
     elim (eqb a.0.0 0) as (λ b. eqb a.0.0 0 ≡ b → cond b (Ok (None, a.0.1))
-    (next_key_at format last a.0.0 a.0.1 >>= λ key. entry_at ranges key.1 >>= λ there. Ok (Some (record { key = key.0; point = there.0.point; content = there.0.content }), there.1)) ≡ Ok x
+    (next_key_at format last a.0.0 a.0.1 >>= λ key. part_entry_at ranges key.1 >>= λ there. Ok (Some (record { key = key.0; point = there.0.point; content = there.0.content }), there.1)) ≡ Ok x
     → NextTakes format ranges last bytes x.0 x.1) [
       | true ↦ λ none is.
           let made : Option Triple × List ℕ = (None, a.0.1) in
           subst (λ (y : Option Triple × List ℕ). NextTakes format ranges last bytes y.0 y.1) {x = made} (ok_is made x is)
           (subst (λ (n : ℕ). TakesText bytes (to_be_bytes w16 n) a.0.1) (eqb-true _ _ none) len.0)
       | false ↦ λ some is.
-          let k = bind_ok (next_key_at format last a.0.0 a.0.1) (λ key. entry_at ranges key.1 >>= λ there. Ok (Some (record { key = key.0; point = there.0.point; content = there.0.content }), there.1)) x is in
-          let t = bind_ok (entry_at ranges k.0.1) (λ there. Ok (Some (record { key = k.0.0; point = there.0.point; content = there.0.content }), there.1)) x k.2 in
+          let k = bind_ok (next_key_at format last a.0.0 a.0.1) (λ key. part_entry_at ranges key.1 >>= λ there. Ok (Some (record { key = key.0; point = there.0.point; content = there.0.content }), there.1)) x is in
+          let t = bind_ok (part_entry_at ranges k.0.1) (λ there. Ok (Some (record { key = k.0.0; point = there.0.point; content = there.0.content }), there.1)) x k.2 in
           let key = key_takes format last a.0.0 a.0.1 k.0 len.0.rest_fits k.1 in
           let there = entry_takes ranges k.0.1 t.0 key.0.rest_fits t.1 in
           let entry : Triple = record { key = k.0.0; point = t.0.0.point; content = t.0.0.content } in
@@ -121,13 +121,13 @@ abbrev pub EntriesTake : Format → List Range → List ℕ → List ℕ → Lis
 EntriesTake format ranges last bytes x = TakesText bytes (flat_map (triple_text_in format) x.0 ++ end_mark) x.1 × EntriesFrom format ranges last x.0
 
 entries_behind : (format : Format) (turns : ℕ) (ranges : List Range) (last bytes : List ℕ) (x : List Triple × List ℕ)
-    → ((last bytes : List ℕ) (x : List Triple × List ℕ) → IsBytes bytes → entries_at format turns ranges last bytes ≡ Ok x → EntriesTake format ranges last bytes x)
-    → (next : Option Triple) (rest : List ℕ) → NextTakes format ranges last bytes next rest → entries_from (entries_at format turns ranges) next rest ≡ Ok x → EntriesTake format ranges last bytes x
+    → ((last bytes : List ℕ) (x : List Triple × List ℕ) → IsBytes bytes → part_entries_at format turns ranges last bytes ≡ Ok x → EntriesTake format ranges last bytes x)
+    → (next : Option Triple) (rest : List ℕ) → NextTakes format ranges last bytes next rest → entries_from (part_entries_at format turns ranges) next rest ≡ Ok x → EntriesTake format ranges last bytes x
 entries_behind format turns ranges last bytes x again None rest takes is =
     let made : List Triple × List ℕ = ([], rest) in
     subst (EntriesTake format ranges last bytes) {x = made} (ok_is made x is) (takes, tt)
 entries_behind format turns ranges last bytes x again (Some entry) rest takes is =
-    let o = bind_ok (entries_at format turns ranges entry.key rest) (λ others. Ok (entry ∷ others.0, others.1)) x is in
+    let o = bind_ok (part_entries_at format turns ranges entry.key rest) (λ others. Ok (entry ∷ others.0, others.1)) x is in
     let others = again entry.key rest o.0 takes.0.rest_fits o.1 in
     let made : List Triple × List ℕ = (entry ∷ o.0.0, o.0.1) in
     let all = TakesText-then bytes (triple_text_in format entry) rest (flat_map (triple_text_in format) o.0.0 ++ end_mark) o.0.1 takes.0 others.0 in
@@ -135,11 +135,11 @@ entries_behind format turns ranges last bytes x again (Some entry) rest takes is
     sym (append_assoc (triple_text_in format entry) (flat_map (triple_text_in format) o.0.0) end_mark) ∙ ap (λ (s : List ℕ). s ++ end_mark) (sym (flat_map-cons (triple_text_in format) entry o.0.0)) in
     subst (EntriesTake format ranges last bytes) {x = made} (ok_is made x o.2) (subst (λ (s : List ℕ). TakesText bytes s o.0.1) text all, (takes.1, takes.2, takes.3, takes.4, others.1))
 
-pub entries_take : (format : Format) (turns : ℕ) (ranges : List Range) (last bytes : List ℕ) (x : List Triple × List ℕ) → IsBytes bytes → entries_at format turns ranges last bytes ≡ Ok x → EntriesTake format ranges last bytes x
-unfolding entries_at
+pub entries_take : (format : Format) (turns : ℕ) (ranges : List Range) (last bytes : List ℕ) (x : List Triple × List ℕ) → IsBytes bytes → part_entries_at format turns ranges last bytes ≡ Ok x → EntriesTake format ranges last bytes x
+unfolding part_entries_at
 entries_take format zero ranges last bytes x fits e = absurd cc
 entries_take format (suc turns) ranges last bytes x fits e =
-    let a = bind_ok (next_entry_at format ranges last bytes) (λ next. entries_from (entries_at format turns ranges) next.0 next.1) x e in
+    let a = bind_ok (next_entry_at format ranges last bytes) (λ next. entries_from (part_entries_at format turns ranges) next.0 next.1) x e in
     entries_behind format turns ranges last bytes x (entries_take format turns ranges) a.0.0 a.0.1 (next_entry_takes format ranges last bytes a.0 fits a.1) a.2
 
 -- an entry takes at least a byte
@@ -170,15 +170,15 @@ unfolding next_entry_at
 end_mark_again format ranges last rest = rw (number_again Short w16 (2 ^ 16) wide16 0 rest (omega arith)) refl
 
 pub entries_again : (format : Format) (turns least : ℕ) (ranges : List Range) → RangesFrom least ranges → (last : List ℕ) (triples : List Triple) (rest : List ℕ) → EntriesFrom format ranges last triples → length triples < turns
-    → entries_at format turns ranges last ((flat_map (triple_text_in format) triples ++ end_mark) ++ rest) ≡ Ok (triples, rest)
-unfolding entries_at
+    → part_entries_at format turns ranges last ((flat_map (triple_text_in format) triples ++ end_mark) ++ rest) ≡ Ok (triples, rest)
+unfolding part_entries_at
 entries_again format zero least ranges apart last triples rest h more = absurd (omega (arith, more))
 entries_again format (suc turns) least ranges apart last [] rest h more = rw (end_mark_again format ranges last rest) refl
 entries_again format (suc turns) least ranges apart last (t ∷ triples) rest h more =
     let after : List ℕ = (flat_map (triple_text_in format) triples ++ end_mark) ++ rest in
     let text : (flat_map (triple_text_in format) (t ∷ triples) ++ end_mark) ++ rest ≡ triple_text_in format t ++ after =
     ap (λ (s : List ℕ). (s ++ end_mark) ++ rest) (flat_map-cons (triple_text_in format) t triples) ∙ regrouped (triple_text_in format t) (flat_map (triple_text_in format) triples) end_mark rest in
-    ap (entries_at format (suc turns) ranges last) text
+    ap (part_entries_at format (suc turns) ranges last) text
     ∙ rw (next_entry_again format least ranges apart last t after h.0 h.1 h.2 h.3, entries_again format turns least ranges apart t.key triples rest h.4 (omega arith)) refl
   where
     regrouped : (first others mark rest : List ℕ) → (((first ++ others) ++ mark) ++ rest) ≡ first ++ ((others ++ mark) ++ rest)

@@ -11,7 +11,7 @@ use Rattle.pc_io.proofs.FieldLaws.{bind_ok, where_ok}
 use Rattle.pc_types.specs.declared.Triple.{Triple}
 use Rattle.pc_part.specs.declared.ranges.Range.{Range}
 use Rattle.pc_part.specs.Parts.{RangesFrom, covers}
-use Rattle.pc_part.specs.Reading.{range_at, next_entry_at, key_or_empty, last_key, entries_at}
+use Rattle.pc_part.specs.Reading.{range_at, next_entry_at, key_or_empty, last_key, part_entries_at}
 use Rattle.pc_part.proofs.ItemLaws.{with_front, regroup}
 use Rattle.pc_part.proofs.ListLaws.{added_last}
 
@@ -32,30 +32,30 @@ last_key_is entries entry =
     ap (λ (n : ℕ). key_or_empty (slice_get (entries ++ entry ∷ []) n)) before ∙ ap key_or_empty (added_last entries entry)
 
 -- one turn of reading entries: nothing at the end mark, else an entry
-module _ (format : Format) (front : List Triple) (count i : ℕ) (ranges : List Range) (last bytes : List ℕ) (total : Result (List Triple × List ℕ) Refusal) (so_far : with_front front (entries_at format (count - i) ranges last bytes) ≡ total) where
+module _ (format : Format) (front : List Triple) (count i : ℕ) (ranges : List Range) (last bytes : List ℕ) (total : Result (List Triple × List ℕ) Refusal) (so_far : with_front front (part_entries_at format (count - i) ranges last bytes) ≡ total) where
   module _ (more : i < count) where
     turns_left : count - i ≡ suc (count - (i + 1))
     turns_left = omega arith
 
     pub no_entry : (e : Refusal) → next_entry_at format ranges last bytes ≡ Err e → total ≡ Err e
-    unfolding entries_at
-    no_entry e h = let one : with_front front (entries_at format (count - i) ranges last bytes) ≡ Err e = rw (turns_left, h) refl in sym so_far ∙ one
+    unfolding part_entries_at
+    no_entry e h = let one : with_front front (part_entries_at format (count - i) ranges last bytes) ≡ Err e = rw (turns_left, h) refl in sym so_far ∙ one
 
     pub entries_end : (after : List ℕ) → next_entry_at format ranges last bytes ≡ Ok (None, after) → total ≡ Ok (front, after)
-    unfolding entries_at
-    entries_end after h = let one : with_front front (entries_at format (count - i) ranges last bytes) ≡ Ok (front, after) = rw (turns_left, h) (ap (λ (es : List Triple). Ok (es, after)) (append-nil front)) in sym so_far ∙ one
+    unfolding part_entries_at
+    entries_end after h = let one : with_front front (part_entries_at format (count - i) ranges last bytes) ≡ Ok (front, after) = rw (turns_left, h) (ap (λ (es : List Triple). Ok (es, after)) (append-nil front)) in sym so_far ∙ one
 
     pub entry_goes_on : (entry : Triple) (after : List ℕ) → next_entry_at format ranges last bytes ≡ Ok (Some entry, after)
-        → with_front (front ++ entry ∷ []) (entries_at format (count - (i + 1)) ranges entry.key after) ≡ total
-    unfolding entries_at
+        → with_front (front ++ entry ∷ []) (part_entries_at format (count - (i + 1)) ranges entry.key after) ≡ total
+    unfolding part_entries_at
     entry_goes_on entry after h =
-        let one : with_front front (entries_at format (count - i) ranges last bytes) ≡ with_front (front ++ entry ∷ []) (entries_at format (count - (i + 1)) ranges entry.key after) = rw (turns_left, h) (regroup front entry (entries_at format (count - (i + 1)) ranges entry.key after)) in sym one ∙ so_far
+        let one : with_front front (part_entries_at format (count - i) ranges last bytes) ≡ with_front (front ++ entry ∷ []) (part_entries_at format (count - (i + 1)) ranges entry.key after) = rw (turns_left, h) (regroup front entry (part_entries_at format (count - (i + 1)) ranges entry.key after)) in sym one ∙ so_far
 
   pub entries_out : count ≤ i → total ≡ Err Short
-  unfolding entries_at
+  unfolding part_entries_at
   entries_out le =
       let k : count - i ≡ 0 = omega arith in
-      let one : with_front front (entries_at format (count - i) ranges last bytes) ≡ Err Short = rw k refl in
+      let one : with_front front (part_entries_at format (count - i) ranges last bytes) ≡ Err Short = rw k refl in
       sym so_far ∙ one
 
 -- ---- what was read

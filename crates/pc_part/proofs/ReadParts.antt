@@ -16,7 +16,7 @@ use Rattle.pc_io.specs.FieldForms.{TakesText}
 use Rattle.pc_types.specs.declared.Triple.{Triple}
 use Rattle.pc_part.specs.declared.ranges.Range.{Range}
 use Rattle.pc_part.specs.Parts.{IsWithinLimit, AreRanges}
-use Rattle.pc_part.specs.Reading.{ranges_at, entries_at, header_at, PartFields, part_fields_at}
+use Rattle.pc_part.specs.Reading.{ranges_at, part_entries_at, part_header_at, PartFields, part_fields_at}
 use Rattle.pc_part.specs.Texts.{part_magic, head_text_in, bounds_text, triple_text_in, end_text}
 use Rattle.pc_part.proofs.Magics.{part_magic_takes, part_magic_again}
 use Rattle.pc_part.proofs.PartTexts.{few_ranges}
@@ -49,7 +49,7 @@ abbrev Header : Type 0
 Header = (Format × (ℕ × List Range)) × List ℕ
 
 abbrev after_header : Header → Result PartFields Refusal
-after_header header = entries_at header.0.0 (length header.1) header.0.1.1 [] header.1 >>= after_entries header.0.1.0 header.0.1.1
+after_header header = part_entries_at header.0.0 (length header.1) header.0.1.1 [] header.1 >>= after_entries header.0.1.0 header.0.1.1
 
 -- ---- the steps of reading a header, from the last
 
@@ -72,8 +72,8 @@ after_magic start = number_at Short w64 start.1 >>= after_run start.0
 abbrev pub header_text : Format × (ℕ × List Range) → List ℕ
 header_text header = head_text_in header.0 header.1.0 (length header.1.1) ++ flat_map bounds_text header.1.1
 
-pub header_takes : (bytes : List ℕ) (x : Header) → IsBytes bytes → header_at bytes ≡ Ok x → TakesText bytes (header_text x.0) x.1 × (x.0.1.0 < 2 ^ 64) × AreRanges x.0.1.1
-unfolding header_at
+pub header_takes : (bytes : List ℕ) (x : Header) → IsBytes bytes → part_header_at bytes ≡ Ok x → TakesText bytes (header_text x.0) x.1 × (x.0.1.0 < 2 ^ 64) × AreRanges x.0.1.1
+unfolding part_header_at
 header_takes bytes x fits e =
     let a = bind_ok (magic_at (part_magic First) (part_magic Second) bytes) after_magic x e in
     let format : Format = a.0.0 in
@@ -96,15 +96,15 @@ header_takes bytes x fits e =
     subst (λ (y : Header). TakesText bytes (header_text y.0) y.1 × (y.0.1.0 < 2 ^ 64) × AreRanges y.0.1.1) {x = made} (ok_is made x r.2)
     (all, run.1, (omega (arith, many, positive), ranges.2))
 
-pub header_again : (format : Format) (run : ℕ) (ranges : List Range) (rest : List ℕ) → run < 2 ^ 64 → AreRanges ranges → header_at (header_text (format, (run, ranges)) ++ rest) ≡ Ok ((format, (run, ranges)), rest)
-unfolding header_at
+pub header_again : (format : Format) (run : ℕ) (ranges : List Range) (rest : List ℕ) → run < 2 ^ 64 → AreRanges ranges → part_header_at (header_text (format, (run, ranges)) ++ rest) ≡ Ok ((format, (run, ranges)), rest)
+unfolding part_header_at
 header_again format run ranges rest fits apart =
     let from_ranges = flat_map bounds_text ranges ++ rest in
     let from_count = to_be_bytes w32 (length ranges) ++ from_ranges in
     let from_run = to_be_bytes w64 run ++ from_count in
     let few = few_ranges 1 ranges apart.1 in
     let some : nat_lt 0 (length ranges) ≡ true = grind (arith, apart.0, nat_tests) in
-    ap header_at (grouped (part_magic format) (to_be_bytes w64 run) (to_be_bytes w32 (length ranges)) (flat_map bounds_text ranges) rest)
+    ap part_header_at (grouped (part_magic format) (to_be_bytes w64 run) (to_be_bytes w32 (length ranges)) (flat_map bounds_text ranges) rest)
     ∙ rw (
       part_magic_again format from_run,
       number_again Short w64 (2 ^ 64) wide64 run from_count fits,
@@ -138,9 +138,9 @@ IsFieldsText bytes x = (format : Format) × IsPartFields format x × (bytes ≡ 
 pub fields_take : (bytes : List ℕ) (x : PartFields) → IsBytes bytes → part_fields_at bytes ≡ Ok x → IsFieldsText bytes x
 unfolding part_fields_at
 fields_take bytes x fits e =
-    let h = bind_ok (header_at bytes) after_header x e in
+    let h = bind_ok (part_header_at bytes) after_header x e in
     let format : Format = h.0.0.0 in
-    let s = bind_ok (entries_at format (length h.0.1) h.0.0.1.1 [] h.0.1) (after_entries h.0.0.1.0 h.0.0.1.1) x h.2 in
+    let s = bind_ok (part_entries_at format (length h.0.1) h.0.0.1.1 [] h.0.1) (after_entries h.0.0.1.0 h.0.0.1.1) x h.2 in
     let n = bind_ok (number_at Short w32 s.0.1) (after_total h.0.0.1.0 h.0.0.1.1 s.0.0) x s.2 in
     let k = bind_ok (where_true (eqb n.0.0 (length s.0.0)) BadLength n.0.1) (after_rest h.0.0.1.0 h.0.0.1.1 s.0.0) x n.2 in
     let made : PartFields = record { run = h.0.0.1.0; ranges = h.0.0.1.1; entries = s.0.0 } in

@@ -12,7 +12,7 @@ use Rattle.pc_model.specs.Sets as set
 use Rattle.pc_model.specs.Sets.{Set, number_order}
 use Rattle.pc_model.specs.Database.{key_cmp, KeysRise}
 use Rattle.pc_model.specs.Files.{triples_taken}
-use Rattle.pc_model.specs.TripleLists.{entries_of, triple_at, triples_of}
+use Rattle.pc_model.specs.TripleLists.{map_entries, triple_at, triples_of}
 use Rattle.pc_model.specs.Points.{Triples}
 use Rattle.pc_types.specs.declared.Triple.{Triple}
 use Rattle.pc_model.proofs.PairMapLaws as pairs
@@ -23,16 +23,16 @@ use Rattle.pc_part.proofs.RangePointLaws.{contains-points_of}
 abbrev Taken : Type 0
 Taken = List (List ℕ × Option (List ℕ))
 
-below_same : (point : ℕ) (key : List ℕ) (taken : Taken) → below_all key_cmp key (entries_of (map (triple_at point) taken)) ≡ below_all key_cmp key taken
+below_same : (point : ℕ) (key : List ℕ) (taken : Taken) → below_all key_cmp key (map_entries (map (triple_at point) taken)) ≡ below_all key_cmp key taken
 below_same point key [] = refl
 below_same point key (t ∷ taken) = ap (λ b. is_lt (key_cmp key t.0) && b) (below_same point key taken)
 
-rise_same : (point : ℕ) (taken : Taken) → is_sorted key_cmp (entries_of (map (triple_at point) taken)) ≡ is_sorted key_cmp taken
+rise_same : (point : ℕ) (taken : Taken) → is_sorted key_cmp (map_entries (map (triple_at point) taken)) ≡ is_sorted key_cmp taken
 rise_same point [] = refl
-rise_same point (t ∷ taken) = ap (λ b. b && is_sorted key_cmp (entries_of (map (triple_at point) taken))) (below_same point t.0 taken) ∙ ap (λ b. below_all key_cmp t.0 taken && b) (rise_same point taken)
+rise_same point (t ∷ taken) = ap (λ b. b && is_sorted key_cmp (map_entries (map (triple_at point) taken))) (below_same point t.0 taken) ∙ ap (λ b. below_all key_cmp t.0 taken && b) (rise_same point taken)
 
 -- the keys ascend as they did before
-pub taken_rise : (point : ℕ) (taken : Taken) (triples : List Triple) → triples ≡ map (triple_at point) taken → KeysRise taken → KeysRise (entries_of triples)
+pub taken_rise : (point : ℕ) (taken : Taken) (triples : List Triple) → triples ≡ map (triple_at point) taken → KeysRise taken → KeysRise (map_entries triples)
 taken_rise point taken triples is rise = rw is (rise_same point taken ∙ rise)
 
 -- the points of one range of one point
@@ -60,5 +60,5 @@ pub taken_triples : (point : ℕ) (taken : Taken) (triples : List Triple) → tr
 taken_triples point taken triples is = rw is (triples_same point taken)
 
 -- ascending triples are the entries of their map
-pub entries_known : (inside given : List Triple) (triples : Triples) → KeysRise (entries_of inside) → triples_of inside ≡ triples → given ≡ inside → entries_of given ≡ triples.entries
-entries_known inside given triples rise is same = ap entries_of same ∙ sym (pairs.entries_of (entries_of inside) rise) ∙ ap (λ m. m.entries) is
+pub entries_known : (inside given : List Triple) (triples : Triples) → KeysRise (map_entries inside) → triples_of inside ≡ triples → given ≡ inside → map_entries given ≡ triples.entries
+entries_known inside given triples rise is same = ap map_entries same ∙ sym (pairs.entries_of (map_entries inside) rise) ∙ ap (λ m. m.entries) is

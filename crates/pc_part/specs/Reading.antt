@@ -50,8 +50,8 @@ point_at ranges bytes = do
   where_true (covers ranges point.0) NotCovered point
 
 -- what a key has in an entry: a point, and what the key had there
-unfoldable pub entry_at : List Range → List ℕ → Result (AtPoint × List ℕ) Refusal
-entry_at ranges bytes = do
+unfoldable pub part_entry_at : List Range → List ℕ → Result (AtPoint × List ℕ) Refusal
+part_entry_at ranges bytes = do
   point ← point_at ranges bytes
   content ← content_at Short point.1
   Ok (record { point = point.0; content = content.0 }, content.1)
@@ -60,7 +60,7 @@ entry_at ranges bytes = do
 unfoldable pub next_entry_at : Format → List Range → List ℕ → List ℕ → Result (Option Triple × List ℕ) Refusal
 next_entry_at format ranges last bytes =
     number_at Short w16 bytes >>= λ count. if count.0 == 0 then Ok (None, count.1) else
-    (next_key_at format last count.0 count.1 >>= λ key. entry_at ranges key.1 >>= λ there.
+    (next_key_at format last count.0 count.1 >>= λ key. part_entry_at ranges key.1 >>= λ there.
     Ok (Some (record { key = key.0; point = there.0.point; content = there.0.content }), there.1))
 
 -- none at the end mark, else the entry and those that are read after its key
@@ -78,13 +78,13 @@ last_key entries = key_or_empty (slice_get entries (length entries - 1))
 
 -- The entries up to the end mark. Keys ascend, the first above this one. Each entry takes more than one of the bytes, so that no
 -- more turns are needed than there are bytes.
-unfoldable pub entries_at : Format → ℕ → List Range → List ℕ → List ℕ → Result (List Triple × List ℕ) Refusal
-entries_at format zero ranges last bytes = Err Short
-entries_at format (suc turns) ranges last bytes = next_entry_at format ranges last bytes >>= λ next. entries_from (entries_at format turns ranges) next.0 next.1
+unfoldable pub part_entries_at : Format → ℕ → List Range → List ℕ → List ℕ → Result (List Triple × List ℕ) Refusal
+part_entries_at format zero ranges last bytes = Err Short
+part_entries_at format (suc turns) ranges last bytes = next_entry_at format ranges last bytes >>= λ next. entries_from (part_entries_at format turns ranges) next.0 next.1
 
 -- the header before the entries: the format, and the run and the ranges
-unfoldable pub header_at : List ℕ → Result ((Format × (ℕ × List Range)) × List ℕ) Refusal
-header_at bytes = do
+unfoldable pub part_header_at : List ℕ → Result ((Format × (ℕ × List Range)) × List ℕ) Refusal
+part_header_at bytes = do
   start ← magic_at (part_magic First) (part_magic Second) bytes
   run ← number_at Short w64 start.1
   count ← number_at Short w32 run.1
@@ -101,8 +101,8 @@ pub record PartFields : Type 0 where
 -- the fields of a part file whose text is all of the bytes
 unfoldable pub part_fields_at : List ℕ → Result PartFields Refusal
 part_fields_at bytes = do
-  header ← header_at bytes
-  entries ← entries_at header.0.0 (length header.1) header.0.1.1 [] header.1
+  header ← part_header_at bytes
+  entries ← part_entries_at header.0.0 (length header.1) header.0.1.1 [] header.1
   total ← number_at Short w32 entries.1
   rest ← where_true (total.0 == length entries.0) BadLength total.1
   where_true (length rest == 0) Trailing (record { run = header.0.1.0; ranges = header.0.1.1; entries = entries.0 })

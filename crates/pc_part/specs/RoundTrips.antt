@@ -7,7 +7,7 @@ use Rattle.pc_io.specs.declared.formats.Format.{Format}
 use Rattle.pc_model.specs.Files.{File}
 use Rattle.pc_part.specs.declared.ranges.Range.{Range}
 use Rattle.pc_part.specs.Lawful.{IsPartFile, HasPart, IsPartText}
-use Rattle.pc_part.specs.Reading.{next_entry_at, header_at, part_at}
+use Rattle.pc_part.specs.Reading.{next_entry_at, part_header_at, part_at}
 use Rattle.pc_part.specs.Texts.{part_text_in}
 
 -- The text of a part file in either format is read as the file.
@@ -31,4 +31,4 @@ pub record IsLocal {X : Type 0} (read : List ℕ → Result (X × List ℕ) Refu
 
 -- A part's header and its next entry are read so.
 abbrev pub StepsAreLocal : Type 0
-StepsAreLocal = IsLocal header_at × ((format : Format) (ranges : List Range) (last : List ℕ) → IsLocal (next_entry_at format ranges last))
+StepsAreLocal = IsLocal part_header_at × ((format : Format) (ranges : List Range) (last : List ℕ) → IsLocal (next_entry_at format ranges last))

@@ -30,24 +30,24 @@ abbrev pub head_text : ℕ → ℕ → List ℕ
 head_text run count = head_text_in Second run count
 
 -- a range: its first and its last point
-abbrev pub range_text : ℕ × ℕ → List ℕ
-range_text bounds = to_be_bytes w32 bounds.0 ++ to_be_bytes w32 bounds.1
+abbrev pub part_range_text : ℕ × ℕ → List ℕ
+part_range_text bounds = to_be_bytes w32 bounds.0 ++ to_be_bytes w32 bounds.1
 
 -- the same of a range of a part
 abbrev pub bounds_text : Range → List ℕ
-bounds_text range = range_text (bounds range)
+bounds_text range = part_range_text (bounds range)
 
 -- an entry: its key with the length before it, its point, and what the key had there
-abbrev pub entry_text_in : Format → List ℕ × AtPoint → List ℕ
-entry_text_in format entry = key_text_in format entry.0 ++ (to_be_bytes w32 entry.1.point ++ content_text entry.1.content)
+abbrev pub part_entry_text_in : Format → List ℕ × AtPoint → List ℕ
+part_entry_text_in format entry = key_text_in format entry.0 ++ (to_be_bytes w32 entry.1.point ++ content_text entry.1.content)
 
 -- the same as it is written
-abbrev pub entry_text : List ℕ × AtPoint → List ℕ
-entry_text entry = entry_text_in Second entry
+abbrev pub part_entry_text : List ℕ × AtPoint → List ℕ
+part_entry_text entry = part_entry_text_in Second entry
 
 -- the same of a triple of a part
 abbrev pub triple_text_in : Format → Triple → List ℕ
-triple_text_in format triple = entry_text_in format (entry_of triple)
+triple_text_in format triple = part_entry_text_in format (entry_of triple)
 
 -- the same as it is written
 abbrev pub triple_text : Triple → List ℕ
@@ -59,11 +59,11 @@ end_text count = to_be_bytes w16 0 ++ to_be_bytes w32 count
 
 -- the text of some ranges and some triples
 abbrev pub text_of_in : Format → ℕ → List (ℕ × ℕ) → Triples → List ℕ
-text_of_in format run ranges triples = head_text_in format run (length ranges) ++ (flat_map range_text ranges ++ (flat_map (entry_text_in format) triples.entries ++ end_text (map.len triples)))
+text_of_in format run ranges triples = head_text_in format run (length ranges) ++ (flat_map part_range_text ranges ++ (flat_map (part_entry_text_in format) triples.entries ++ end_text (map.len triples)))
 
 -- the same as it is written
-abbrev pub text_of : ℕ → List (ℕ × ℕ) → Triples → List ℕ
-text_of run ranges triples = text_of_in Second run ranges triples
+abbrev pub part_file_text : ℕ → List (ℕ × ℕ) → Triples → List ℕ
+part_file_text run ranges triples = text_of_in Second run ranges triples
 
 -- the one text of a file in a format
 unfoldable pub part_text_in : Format → File → List ℕ

@@ -11,7 +11,7 @@ abbrev pub widened : Range → Range → Range
 widened last next = record { low = last.low; high = max last.high next.high }
 
 -- the ranges with one more after them, by which the last one is widened if they meet
-abbrev pub with_range : List Range → Range → List Range
-with_range [] range = range ∷ []
-with_range (last ∷ []) range = if meets last range then widened last range ∷ [] else last ∷ range ∷ []
-with_range (first ∷ second ∷ ranges) range = first ∷ with_range (second ∷ ranges) range
+abbrev pub with_range_after : List Range → Range → List Range
+with_range_after [] range = range ∷ []
+with_range_after (last ∷ []) range = if meets last range then widened last range ∷ [] else last ∷ range ∷ []
+with_range_after (first ∷ second ∷ ranges) range = first ∷ with_range_after (second ∷ ranges) range

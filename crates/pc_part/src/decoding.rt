@@ -7,7 +7,7 @@ ghost use Rattle.pc_model.specs.Database.{key_cmp};
 ghost use Rattle.pc_model.specs.Files.{File};
 ghost use Rattle.pc_part.specs.Lawful.{IsPartFile, IsPartText};
 ghost use Rattle.pc_part.specs.Parts.{AreRanges, RangesFrom, covers};
-ghost use Rattle.pc_part.specs.Reading.{range_at, ranges_at, next_key_at, point_at, entry_at, last_key, next_entry_at, entries_at, header_at, part_fields_at, part_at};
+ghost use Rattle.pc_part.specs.Reading.{range_at, ranges_at, next_key_at, point_at, part_entry_at, last_key, next_entry_at, part_entries_at, part_header_at, part_fields_at, part_at};
 
 use crate::part::Part;
 use crate::ranges::Range;
@@ -97,9 +97,9 @@ pub struct PartHeader {
 
 /// The header at the front of a part's text, and the bytes after it. It allocates memory for the ranges alone. Refuses with
 /// `OutOfMemory` only if an allocation failed, else with `Short`, `BadMagic` or `BadRanges`, the first fault from the left.
-#[tactic(auto, unfolding(crate::specs::Reading::header_at))]
+#[tactic(auto, unfolding(crate::specs::Reading::part_header_at))]
 pub fn read_header(alloc: Global, bytes: &[u8]) -> Result<(PartHeader, &[u8]), Refusal>
-    ensures read { Gives (λ x. ((x.0.format, (x.0.run, x.0.ranges.items)), x.1.now)) result (header_at bytes.now) }
+    ensures read { Gives (λ x. ((x.0.format, (x.0.run, x.0.ranges.items)), x.1.now)) result (part_header_at bytes.now) }
     ensures apart { IfOk result (λ x. AreRanges x.0.ranges.items) }
 {
     let (format, start) = read_magic(bytes, &FIRST, &SECOND)?;
@@ -156,7 +156,7 @@ fn read_entries<'a>(
     bytes: &'a [u8],
 ) -> Result<(Vec<Triple>, &'a [u8]), Refusal>
     requires { RangesFrom 1 ranges.now }
-    ensures { Gives (λ x. (x.0.items, x.1.now)) result (entries_at format (length bytes.now) ranges.now [] bytes.now) }
+    ensures { Gives (λ x. (x.0.items, x.1.now)) result (part_entries_at format (length bytes.now) ranges.now [] bytes.now) }
 {
     let mut entries = Vec::new(alloc);
     let mut rest = bytes;
@@ -240,14 +240,14 @@ fn comes_after(key: &Key, last: &[u8]) -> bool
 }
 
 // The point of a key's entry, and what the key had there.
-#[tactic(auto, unfolding(crate::specs::Reading::entry_at))]
+#[tactic(auto, unfolding(crate::specs::Reading::part_entry_at))]
 fn read_entry<'a>(
     alloc: Global,
     ranges: &[Range],
     bytes: &'a [u8],
 ) -> Result<(u16, Option<Value>, &'a [u8]), Refusal>
     requires { RangesFrom 1 ranges.now }
-    ensures { Gives (λ x. (record { point = x.0; content = x.1 }, x.2.now)) result (entry_at ranges.now bytes.now) }
+    ensures { Gives (λ x. (record { point = x.0; content = x.1 }, x.2.now)) result (part_entry_at ranges.now bytes.now) }
 {
     let (point, rest) = read_point(ranges, bytes)?;
     let (content, rest) = read_content(alloc, rest, Refusal::Short)?;

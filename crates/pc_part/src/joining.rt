@@ -1,7 +1,7 @@
 //! The join of two files: of each key the triple of the greatest point.
 ghost use Rattle.std.specs.Prelude.{◌≡◌, ◌≤◌, length, IfOk, Some, Ok, Err, if◌then◌else◌};
 ghost use Rattle.pc_model.specs.Files.{joined_file};
-ghost use Rattle.pc_model.specs.TripleLists.{entries_of, triples_of};
+ghost use Rattle.pc_model.specs.TripleLists.{map_entries, triples_of};
 ghost use Rattle.pc_model.specs.Database.{KeysRise};
 ghost use Rattle.pc_model.specs.Points.{later, joined};
 ghost use Rattle.pc_model.specs.Sets.{Set, number_order};
@@ -37,10 +37,10 @@ pub fn join(alloc: Global, a: &Part, b: &Part) -> Result<Part, Refusal>
 
 // The triples of both, of each key that of the greater point, if no two conflict and they are not too many.
 fn merge_entries(alloc: Global, a: &Entries, b: &Entries) -> Result<Vec<Triple>, Refusal>
-    requires left { KeysRise (entries_of a.now) }
-    requires right { KeysRise (entries_of b.now) }
+    requires left { KeysRise (map_entries a.now) }
+    requires right { KeysRise (map_entries b.now) }
     requires limits { IsWithinLimit a.now × IsWithinLimit b.now }
-    ensures rise { IfOk result (λ out. KeysRise (entries_of out.items)) }
+    ensures rise { IfOk result (λ out. KeysRise (map_entries out.items)) }
     ensures limit { IfOk result (λ out. IsWithinLimit out.items) }
     ensures covered { (points : Set number_order) → AreCovered points a.now → AreCovered points b.now → IfOk result (λ out. AreCovered points out.items) }
     ensures joined { IfOk result (λ out. triples_of out.items ≡ joined (triples_of a.now) (triples_of b.now)) }
@@ -57,7 +57,7 @@ fn merge_entries(alloc: Global, a: &Entries, b: &Entries) -> Result<Vec<Triple>,
 // The number of keys that both have together; `Conflict` if two triples of one key clash.
 fn joined_len(a: &Entries, b: &Entries) -> Result<usize, Refusal>
     requires { IsWithinLimit a.now × IsWithinLimit b.now }
-    ensures { result ≡ (if is_empty (merged clash_at (entries_of a.now) (entries_of b.now)) then Ok (length (merged later (entries_of a.now) (entries_of b.now))) else Err Refusal.Conflict) }
+    ensures { result ≡ (if is_empty (merged clash_at (map_entries a.now) (map_entries b.now)) then Ok (length (merged later (map_entries a.now) (map_entries b.now))) else Err Refusal.Conflict) }
 {
     let mut len = 0usize;
     let (mut first, mut second) = (a.pass(), b.pass());
@@ -73,7 +73,7 @@ fn joined_len(a: &Entries, b: &Entries) -> Result<usize, Refusal>
 
 // The triples of both, of each key the newer one; they ascend by key, as those of both do.
 fn merge(alloc: Global, a: &Entries, b: &Entries) -> Result<Vec<Triple>, AllocError>
-    ensures { IfOk result (λ out. entries_of out.items ≡ merged later (entries_of a.now) (entries_of b.now)) }
+    ensures { IfOk result (λ out. map_entries out.items ≡ merged later (map_entries a.now) (map_entries b.now)) }
 {
     let mut out = Vec::new(alloc);
     let (mut first, mut second) = (a.pass(), b.pass());

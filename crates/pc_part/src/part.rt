@@ -2,7 +2,7 @@
 ghost use Rattle.std.specs.Prelude.{◌≡◌, ◌≤◌, ℕ, map, IfOk, IfErr, IsTrue, MatchOption};
 ghost use Rattle.pc_model.specs.Database.{KeysRise};
 ghost use Rattle.pc_model.specs.Files.{triples_taken};
-ghost use Rattle.pc_model.specs.TripleLists.{entries_of, triple_at, triples_of};
+ghost use Rattle.pc_model.specs.TripleLists.{map_entries, triple_at, triples_of};
 ghost use Rattle.pc_model.specs.Ranges.{ranges_of};
 ghost use Rattle.pc_model.specs.Maps as map_of;
 ghost use Rattle.pc_model.specs.Sets as set;
@@ -27,7 +27,7 @@ pub struct Part {
 impl Model for Part {
     ghost use Rattle.pc_model.specs.Database.{KeysRise};
     ghost use Rattle.pc_model.specs.Files.{File};
-    ghost use Rattle.pc_model.specs.TripleLists.{entries_of, triples_of};
+    ghost use Rattle.pc_model.specs.TripleLists.{map_entries, triples_of};
     ghost use Rattle.pc_part.specs.Parts.{IsWithinLimit, AreCovered, AreRanges, file_code, points_of};
 
     ghost Value = { File };
@@ -36,7 +36,7 @@ impl Model for Part {
 
     ghost view = { λ p. record { run = p.run; points = points_of p.ranges.items; triples = triples_of p.entries } };
 
-    ghost invariant = { λ p. AreRanges p.ranges.items × KeysRise (entries_of p.entries) × AreCovered (points_of p.ranges.items) p.entries × IsWithinLimit p.entries };
+    ghost invariant = { λ p. AreRanges p.ranges.items × KeysRise (map_entries p.entries) × AreCovered (points_of p.ranges.items) p.entries × IsWithinLimit p.entries };
 }
 
 impl Part {
@@ -85,7 +85,7 @@ impl Part {
     /// than a file may have, 4,294,967,295.
     pub fn from_lists(run: u64, ranges: Vec<Range>, entries: Vec<Triple>) -> Part
         requires ranges { AreRanges ranges.items }
-        requires rise { KeysRise (entries_of entries.items) }
+        requires rise { KeysRise (map_entries entries.items) }
         requires covered { AreCovered (points_of ranges.items) entries.items }
         requires limit { IsWithinLimit entries.items }
         ensures { result ≡ record { run = run; points = points_of ranges.items; triples = triples_of entries.items } }
@@ -144,10 +144,10 @@ impl Part {
 
     /// A pass over the entries, ascending strictly by key, each of one of its points; at most 4,294,967,295.
     pub fn entries(&self) -> Pass<'_>
-        ensures rise { KeysRise (entries_of result) }
+        ensures rise { KeysRise (map_entries result) }
         ensures covered { AreCovered self.now.points result }
         ensures limit { IsWithinLimit result }
-        ensures entries { entries_of result ≡ self.now.triples.entries }
+        ensures entries { map_entries result ≡ self.now.triples.entries }
         ensures triples { triples_of result ≡ self.now.triples }
     {
         self.entries.pass()
@@ -155,10 +155,10 @@ impl Part {
 
     /// The entries, over which passes go: they ascend strictly by key, each of one of its points; at most 4,294,967,295.
     pub fn kept(&self) -> &Entries
-        ensures rise { KeysRise (entries_of result.now) }
+        ensures rise { KeysRise (map_entries result.now) }
         ensures covered { AreCovered self.now.points result.now }
         ensures limit { IsWithinLimit result.now }
-        ensures entries { entries_of result.now ≡ self.now.triples.entries }
+        ensures entries { map_entries result.now ≡ self.now.triples.entries }
         ensures triples { triples_of result.now ≡ self.now.triples }
     {
         &self.entries

@@ -2,7 +2,7 @@
 ghost use Rattle.std.specs.Prelude.{◌≡◌, ◌+◌, max, nat_le, IfOk, OnOk};
 ghost use Rattle.pc_model.specs.Sets as set;
 ghost use Rattle.pc_part.specs.Parts.{AreRanges, points_of};
-ghost use Rattle.pc_part.specs.Unions.{meets, with_range};
+ghost use Rattle.pc_part.specs.Unions.{meets, with_range_after};
 
 use crate::ranges::Range;
 use itertools::Itertools;
@@ -24,7 +24,7 @@ pub fn union_ranges(alloc: Global, a: &[Range], b: &[Range]) -> Result<Vec<Range
 
 // Adds the range after the others; if no point is left out before it, the last one is widened by it instead.
 fn add_range(ranges: &mut Vec<Range>, range: Range) -> Result<(), AllocError>
-    ensures { OnOk result (ranges.new.items ≡ with_range ranges.old.items range) }
+    ensures { OnOk result (ranges.new.items ≡ with_range_after ranges.old.items range) }
 {
     let Some(last) = ranges.pop() else {
         ranges.push(range)?;

@@ -6,11 +6,11 @@ use Rattle.pc_types.specs.declared.Class.TheVariants.{Before, During, After}
 use Rattle.pc_types.specs.declared.Reply.{Reply}
 use Rattle.pc_types.specs.declared.Refusal.{Refusal}
 use Rattle.pc_types.specs.declared.Refusal.TheVariants as why
-use Rattle.pc_model.specs.Replies.{first_refusal, or_else, closed_set, active_in, is_in, log_is_full}
+use Rattle.pc_model.specs.Replies.{first_refusal, or_else, closed_set, active_in_class, is_in_phase, log_is_full}
 use Rattle.pc_model.specs.History.{point_of}
 use Rattle.pc_phase.specs.declared.change.Change.TheVariants as change
 use Rattle.pc_phase.specs.declared.change.Held.TheVariants.{WrongPhase, PointsFull}
-use Rattle.pc_phase.specs.Phases.{Phases, active_of, advanced, some_left}
+use Rattle.pc_phase.specs.Phases.{Phases, active_count, advanced, some_left}
 use Rattle.pc_phase.specs.declared.change.Change.{Change}
 use Rattle.pc_types.specs.declared.Class.{Class}
 use Rattle.pc_types.specs.declared.Event.TheVariants as asked
@@ -26,18 +26,18 @@ point_agrees true false later = refl
 
 pub held_back_is_certain : HeldBackIsCertain
 held_back_is_certain st history phases change.StartPoint are =
-    rw (are.phase, are.point) (point_agrees (is_in phase.Rest history) (point_of history == 65535) ((log_is_full history, why.LogFull) ∷ []))
+    rw (are.phase, are.point) (point_agrees (is_in_phase phase.Rest history) (point_of history == 65535) ((log_is_full history, why.LogFull) ∷ []))
 held_back_is_certain st history phases change.Seal are =
-    rw (are.phase, are.active Before) (count_agrees (is_in phase.Prepare history) (active_in st Before history) (first_refusal (later_causes st change.Seal history)))
+    rw (are.phase, are.active Before) (count_agrees (is_in_phase phase.Prepare history) (active_in_class st Before history) (first_refusal (later_causes st change.Seal history)))
 held_back_is_certain st history phases change.OpenCapture are =
-    rw (are.phase, are.active During) (count_agrees (is_in phase.Resolve history) (active_in st During history) (first_refusal (later_causes st change.OpenCapture history)))
+    rw (are.phase, are.active During) (count_agrees (is_in_phase phase.Resolve history) (active_in_class st During history) (first_refusal (later_causes st change.OpenCapture history)))
 held_back_is_certain st history phases change.Done are =
-    rw are.phase (count_agrees (is_in phase.Capture history) (length (closed_set history)) (first_refusal (later_causes st change.Done history)))
+    rw are.phase (count_agrees (is_in_phase phase.Capture history) (length (closed_set history)) (first_refusal (later_causes st change.Done history)))
 held_back_is_certain st history phases change.Rest are =
-    rw (are.phase, are.active After) (count_agrees (is_in phase.Complete history) (active_in st After history) (first_refusal (later_causes st change.Rest history)))
+    rw (are.phase, are.active After) (count_agrees (is_in_phase phase.Complete history) (active_in_class st After history) (first_refusal (later_causes st change.Rest history)))
 
 -- a change leaves the counts alone
-counts_stay : (phases : Phases) (change : Change) (class : Class) → active_of (advanced phases change) class ≡ active_of phases class
+counts_stay : (phases : Phases) (change : Change) (class : Class) → active_count (advanced phases change) class ≡ active_count phases class
 counts_stay phases change Before = refl
 counts_stay phases change During = refl
 counts_stay phases change After = refl

@@ -11,9 +11,9 @@ use Rattle.pc_model.specs.History.{History, Effect, effect, is_open, open_by, cl
 use Rattle.pc_model.specs.History.Effect.{Begins, Reads, Writes, Adds, Waits, Dies, Commits, Aborts, Moves, Takes, Shelves, Joins, Nothing}
 use Rattle.pc_types.specs.declared.Phase.{Phase}
 use Rattle.pc_types.specs.declared.Phase.TheVariants as phase
-use Rattle.pc_model.specs.Replies.{Setting, active_in, no_session}
+use Rattle.pc_model.specs.Replies.{Setting, active_in_class, no_session}
 use Rattle.pc_types.specs.Phases.{same_class}
-use Rattle.pc_phase.specs.Phases.{Phases, active_of, entered, left}
+use Rattle.pc_phase.specs.Phases.{Phases, active_count, entered, left}
 use Rattle.pc_phase.specs.Agreement.{AreOf, BeginsStayOf, EndsStayOf, StartsOf, OthersStayOf, is_other}
 use Rattle.pc_phase.proofs.PhaseLaws.{phase_stays, point_stays}
 
@@ -61,7 +61,7 @@ module _ (p q : ℕ → Bool) (s : ℕ) (others : (t : ℕ) → eqb s t ≡ fals
           let last : one_if (q (suc n)) ≡ one_if (p (suc n)) = ap (λ b. one_if b) (others (suc n) e) in
           omega (arith, behind le, push_counts q (numbers_to n) (suc n), push_counts p (numbers_to n) (suc n), last)
 
-entered_counts : (phases : Phases) (own class : Class) → active_of (entered phases own) class ≡ active_of phases class + one_if (same_class own class)
+entered_counts : (phases : Phases) (own class : Class) → active_count (entered phases own) class ≡ active_count phases class + one_if (same_class own class)
 entered_counts phases Before Before = refl
 entered_counts phases Before During = omega arith
 entered_counts phases Before After = omega arith
@@ -72,7 +72,7 @@ entered_counts phases After Before = omega arith
 entered_counts phases After During = omega arith
 entered_counts phases After After = refl
 
-left_counts : (phases : Phases) (own class : Class) → active_of (left phases own) class ≡ active_of phases class - one_if (same_class own class)
+left_counts : (phases : Phases) (own class : Class) → active_count (left phases own) class ≡ active_count phases class - one_if (same_class own class)
 left_counts phases Before Before = refl
 left_counts phases Before During = omega arith
 left_counts phases Before After = omega arith
@@ -103,9 +103,9 @@ abbrev ended_of : History → Class → ℕ → ℕ → Bool
 ended_of history class s t = cond (eqb s t) false (is_open t history) && same_class (class_of t history) class
 
 pub begins_stay_of : BeginsStayOf
-begins_stay_of st history phases s number are there closed = record { phase = phase_stays phases (class_in phases.phase) (active_of phases (class_in phases.phase) + 1) ∙ are.phase; point = point_stays phases (class_in phases.phase) (active_of phases (class_in phases.phase) + 1) ∙ are.point; active = active }
+begins_stay_of st history phases s number are there closed = record { phase = phase_stays phases (class_in phases.phase) (active_count phases (class_in phases.phase) + 1) ∙ are.phase; point = point_stays phases (class_in phases.phase) (active_count phases (class_in phases.phase) + 1) ∙ are.point; active = active }
   where
-    active : (class : Class) → active_of (entered phases (class_in phases.phase)) class ≡ active_in st class (record { event = asked.Begin s; reply = told.Begun number } ∷ history)
+    active : (class : Class) → active_count (entered phases (class_in phases.phase)) class ≡ active_in_class st class (record { event = asked.Begin s; reply = told.Begun number } ∷ history)
     active class =
         let range = in_range st s there in
         let own : class_in phases.phase ≡ class_in (phase_of history) = ap class_in are.phase in
@@ -118,7 +118,7 @@ begins_stay_of st history phases s number are there closed = record { phase = ph
 
 -- the counts once a transaction ended
 ended_counts : (st : Setting) (history : History) (phases : Phases) (s : ℕ) → AreOf st history phases → no_session st s ≡ false → is_open s history ≡ true →
-    (class : Class) → active_of (left phases (class_of s history)) class ≡ count (ended_of history class s) st.sessions
+    (class : Class) → active_count (left phases (class_of s history)) class ≡ count (ended_of history class s) st.sessions
 ended_counts st history phases s are there opened class =
     let range = in_range st s there in
     let was : is_of history class s ≡ same_class (class_of s history) class = ap (λ b. b && same_class (class_of s history) class) opened in
@@ -130,8 +130,8 @@ ended_counts st history phases s are there opened class =
 
 pub ends_stay_of : EndsStayOf
 ends_stay_of st history phases s lsn = (
-  λ are there opened. record { phase = phase_stays phases (class_of s history) (active_of phases (class_of s history) - 1) ∙ are.phase; point = point_stays phases (class_of s history) (active_of phases (class_of s history) - 1) ∙ are.point; active = ended_counts st history phases s are there opened },
-  λ are there opened. record { phase = phase_stays phases (class_of s history) (active_of phases (class_of s history) - 1) ∙ are.phase; point = point_stays phases (class_of s history) (active_of phases (class_of s history) - 1) ∙ are.point; active = ended_counts st history phases s are there opened },
+  λ are there opened. record { phase = phase_stays phases (class_of s history) (active_count phases (class_of s history) - 1) ∙ are.phase; point = point_stays phases (class_of s history) (active_count phases (class_of s history) - 1) ∙ are.point; active = ended_counts st history phases s are there opened },
+  λ are there opened. record { phase = phase_stays phases (class_of s history) (active_count phases (class_of s history) - 1) ∙ are.phase; point = point_stays phases (class_of s history) (active_count phases (class_of s history) - 1) ∙ are.point; active = ended_counts st history phases s are there opened },
 )
 
 -- tests that say the same count the same
@@ -144,7 +144,7 @@ none_count : (n : ℕ) → count (λ t. false) n ≡ 0
 none_count zero = refl
 none_count (suc n) = push_counts (λ t. false) (numbers_to n) (suc n) ∙ ap (λ m. m + 0) (none_count n)
 
-none_active : (class : Class) → 0 ≡ active_of (record { phase = phase.Rest; point = 0; before = 0; during = 0; after = 0 }) class
+none_active : (class : Class) → 0 ≡ active_count (record { phase = phase.Rest; point = 0; before = 0; during = 0; after = 0 }) class
 none_active Before = refl
 none_active During = refl
 none_active After = refl

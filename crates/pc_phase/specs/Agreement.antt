@@ -13,20 +13,20 @@ use Rattle.pc_model.specs.History.Effect.{Begins, Commits, Aborts, Moves, Shelve
 use Rattle.pc_types.specs.declared.Phase.TheVariants as phase
 use Rattle.pc_types.specs.declared.limits.TheConstants.{MOST_FILES}
 use Rattle.pc_model.specs.Files.{shelf}
-use Rattle.pc_model.specs.Replies.{Setting, active_in, closed_set, log_is_full, first_refusal, or_else, certain, Answers, no_session}
+use Rattle.pc_model.specs.Replies.{Setting, active_in_class, closed_set, log_is_full, first_refusal, or_else, certain, Answers, no_session}
 use Rattle.pc_phase.specs.declared.change.Change.{Change}
 use Rattle.pc_phase.specs.declared.change.Change.TheVariants as change
 use Rattle.pc_phase.specs.declared.change.Held.{Held}
 use Rattle.pc_phase.specs.declared.change.Held.TheVariants.{WrongPhase, PointsFull, NotYet}
-use Rattle.pc_phase.specs.Phases.{Phases, active_of, held_back, advanced, entered, left}
+use Rattle.pc_phase.specs.Phases.{Phases, active_count, held_back, advanced, entered, left}
 
 -- the event that asks for the change
-abbrev pub event_of : Change → Event
-event_of change.StartPoint = asked.StartPoint
-event_of change.Seal = asked.Seal
-event_of change.OpenCapture = asked.OpenCapture
-event_of change.Done = asked.Done
-event_of change.Rest = asked.Rest
+abbrev pub change_event : Change → Event
+change_event change.StartPoint = asked.StartPoint
+change_event change.Seal = asked.Seal
+change_event change.OpenCapture = asked.OpenCapture
+change_event change.Done = asked.Done
+change_event change.Rest = asked.Rest
 
 -- how the cause that holds a change back is returned
 abbrev pub reply_of : Held → Reply
@@ -38,7 +38,7 @@ reply_of (NotYet count) = told.NotYet count
 pub record AreOf (st : Setting) (history : History) (phases : Phases) : Type 0 where
   pub phase : phases.phase ≡ phase_of history
   pub point : phases.point ≡ point_of history
-  pub active : (class : Class) → active_of phases class ≡ active_in st class history
+  pub active : (class : Class) → active_count phases class ≡ active_in_class st class history
 
 -- the causes that are asked for if nothing holds the change back: at Done the shelf's, and then the log's
 abbrev pub later_causes : Setting → Change → History → List (Bool × Refusal)
@@ -49,13 +49,13 @@ later_causes st other history = (log_is_full history, why.LogFull) ∷ []
 abbrev pub HeldBackIsCertain : Type 0
 HeldBackIsCertain =
     (st : Setting) (history : History) (phases : Phases) (change : Change) → AreOf st history phases →
-    certain st history (event_of change) ≡ or_else (option_map reply_of (held_back phases change (length (closed_set history)))) (first_refusal (later_causes st change history))
+    certain st history (change_event change) ≡ or_else (option_map reply_of (held_back phases change (length (closed_set history)))) (first_refusal (later_causes st change history))
 
 -- once a change was answered by the rules, the phase, the point and the counts are still those of the history
 abbrev pub ChangesStayOf : Type 0
 ChangesStayOf =
-    (st : Setting) (history : History) (phases : Phases) (change : Change) (reply : Reply) → AreOf st history phases → Answers st history (event_of change) reply →
-    AreOf st (record { event = event_of change; reply = reply } ∷ history) (advanced phases change)
+    (st : Setting) (history : History) (phases : Phases) (change : Change) (reply : Reply) → AreOf st history phases → Answers st history (change_event change) reply →
+    AreOf st (record { event = change_event change; reply = reply } ∷ history) (advanced phases change)
 
 -- a begin that was answered by the rules enters its transaction
 abbrev pub BeginsStayOf : Type 0

@@ -20,10 +20,10 @@ pub record Phases : Type 0 where
   pub after : ℕ
 
 -- how many transactions of the class are active
-abbrev pub active_of : Phases → Class → ℕ
-active_of phases Before = phases.before
-active_of phases During = phases.during
-active_of phases After = phases.after
+abbrev pub active_count : Phases → Class → ℕ
+active_count phases Before = phases.before
+active_count phases During = phases.during
+active_count phases After = phases.after
 
 -- the same, but with that many active of the class
 abbrev pub with_active : Phases → Class → ℕ → Phases
@@ -33,11 +33,11 @@ with_active phases After count = record phases { after = count }
 
 -- one more of the class is active
 abbrev pub entered : Phases → Class → Phases
-entered phases class = with_active phases class (active_of phases class + 1)
+entered phases class = with_active phases class (active_count phases class + 1)
 
 -- one less of the class is active
 abbrev pub left : Phases → Class → Phases
-left phases class = with_active phases class (active_of phases class - 1)
+left phases class = with_active phases class (active_count phases class - 1)
 
 -- the phase in which the change is allowed
 abbrev pub from_of : Change → Phase
@@ -56,12 +56,12 @@ to_of change.Done = phase.Complete
 to_of change.Rest = phase.Rest
 
 -- the number of obstacles to the change: active transactions, or, at Done, keys that are left to take
-abbrev pub count_of : Change → Phases → ℕ → ℕ
-count_of change.StartPoint phases left = 0
-count_of change.Seal phases left = phases.before
-count_of change.OpenCapture phases left = phases.during
-count_of change.Done phases left = left
-count_of change.Rest phases left = phases.after
+abbrev pub obstacle_count : Change → Phases → ℕ → ℕ
+obstacle_count change.StartPoint phases left = 0
+obstacle_count change.Seal phases left = phases.before
+obstacle_count change.OpenCapture phases left = phases.during
+obstacle_count change.Done phases left = left
+obstacle_count change.Rest phases left = phases.after
 
 -- the change begins a point, and there is none after this one
 abbrev pub lacks_point : Change → ℕ → Bool
@@ -81,7 +81,7 @@ some_left count = if count == 0 then None else Some (NotYet count)
 -- left, or else the obstacles
 abbrev pub held_back : Phases → Change → ℕ → Option Held
 held_back phases change left =
-    if same_phase phases.phase (from_of change) then (if lacks_point change phases.point then Some PointsFull else some_left (count_of change phases left)) else Some WrongPhase
+    if same_phase phases.phase (from_of change) then (if lacks_point change phases.point then Some PointsFull else some_left (obstacle_count change phases left)) else Some WrongPhase
 
 -- after the change
 abbrev pub advanced : Phases → Change → Phases

@@ -3,7 +3,7 @@ ghost use Rattle.std.specs.Prelude.{◌≡◌, ◌<◌, ◌↔◌, ◌+◌, ◌-
 ghost use Rattle.pc_types.specs.declared.Phase.TheVariants.{Rest};
 ghost use Rattle.pc_model.specs.History.{class_in};
 ghost use Rattle.pc_types.specs.Phases.{same_phase};
-ghost use Rattle.pc_phase.specs.Phases.{active_of, entered, left, count_of, held_back, advanced, some_left, ArePhasesSound};
+ghost use Rattle.pc_phase.specs.Phases.{active_count, entered, left, obstacle_count, held_back, advanced, some_left, ArePhasesSound};
 
 use crate::change::{Change, Held};
 use pc_types::{Class, Phase, Point};
@@ -64,7 +64,7 @@ impl Phases {
 
     /// The number of active transactions of the class.
     pub fn active(&self, class: Class) -> u32
-        ensures { result ≡ active_of self.now class }
+        ensures { result ≡ active_count self.now class }
     {
         match class {
             Class::Before => self.before,
@@ -76,7 +76,7 @@ impl Phases {
     /// A transaction begins, and is active in the class of the phase. It is given its class, by which it leaves. Fewer than
     /// 4,294,967,295 of that class may be active before.
     pub fn enter(&mut self) -> Class
-        requires { active_of self.old (class_in self.old.phase) < 2 ^ 32 - 1 }
+        requires { active_count self.old (class_in self.old.phase) < 2 ^ 32 - 1 }
         ensures class { result ≡ class_in self.old.phase }
         ensures entered { self.new ≡ entered self.old (class_in self.old.phase) }
         ensures sound { ArePhasesSound self.new }
@@ -92,7 +92,7 @@ impl Phases {
 
     /// A transaction of the class, of which one is active, ends.
     pub fn leave(&mut self, class: Class)
-        requires { 0 < active_of self.old class }
+        requires { 0 < active_count self.old class }
         ensures left { self.new ≡ left self.old class }
         ensures sound { ArePhasesSound self.new }
     {
@@ -105,7 +105,7 @@ impl Phases {
 
     // The number of obstacles to the change, if that many keys of the point are left to take.
     fn count(&self, change: Change, left: u32) -> u32
-        ensures { result ≡ count_of change self.now left }
+        ensures { result ≡ obstacle_count change self.now left }
     {
         match change {
             Change::StartPoint => 0,

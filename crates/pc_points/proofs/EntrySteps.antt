@@ -5,7 +5,7 @@ use Rattle.pc_types.specs.declared.Entry.{Entry}
 use Rattle.pc_io.specs.declared.Format.{Format}
 use Rattle.pc_types.specs.declared.Entry.TheVariants.{Commit, Token}
 use Rattle.pc_model.specs.Database.{Database}
-use Rattle.pc_model.specs.Log.{after, behind}
+use Rattle.pc_model.specs.Log.{after, log_after_point}
 use Rattle.pc_log.specs.declared.order.LastToken.{LastToken}
 use Rattle.pc_log.specs.Orders.{token_after}
 use Rattle.pc_log.specs.Reading.{entry_at, entries_at, all_at, LogReading}
@@ -15,11 +15,11 @@ use Rattle.pc_points.specs.Points.{state_before}
 
 -- ---- one entry
 
-behind_here : (point : ℕ) (entry : Entry) (entries : List Entry) → is_point_token point entry ≡ true → behind point (entry ∷ entries) ≡ entries
+behind_here : (point : ℕ) (entry : Entry) (entries : List Entry) → is_point_token point entry ≡ true → log_after_point point (entry ∷ entries) ≡ entries
 behind_here point (Commit session writes) entries is = absurd cc
 behind_here point (Token phase m) entries is = rw is refl
 
-behind_later : (point : ℕ) (entry : Entry) (entries : List Entry) → is_point_token point entry ≡ false → behind point (entry ∷ entries) ≡ behind point entries
+behind_later : (point : ℕ) (entry : Entry) (entries : List Entry) → is_point_token point entry ≡ false → log_after_point point (entry ∷ entries) ≡ log_after_point point entries
 behind_later point (Commit session writes) entries is = refl
 behind_later point (Token phase m) entries is = rw is refl
 
@@ -46,11 +46,11 @@ module _ (format : Format) (last : LastToken) (bytes : List ℕ) where
     one_there : (all_at format last bytes).entries ≡ entry ∷ (all_at format (token_after last entry) rest).entries
     one_there = ap (λ (found : LogReading). found.entries) (all_go_on format last bytes entry rest read)
 
-    pub skips_to_token : (point : ℕ) (total : List Entry) → behind point (all_at format last bytes).entries ≡ total → is_point_token point entry ≡ true → (all_at format (token_after last entry) rest).entries ≡ total
-    skips_to_token point total so_far is = sym (ap (behind point) one_there ∙ behind_here point entry _ is) ∙ so_far
+    pub skips_to_token : (point : ℕ) (total : List Entry) → log_after_point point (all_at format last bytes).entries ≡ total → is_point_token point entry ≡ true → (all_at format (token_after last entry) rest).entries ≡ total
+    skips_to_token point total so_far is = sym (ap (log_after_point point) one_there ∙ behind_here point entry _ is) ∙ so_far
 
-    pub skips_entry : (point : ℕ) (total : List Entry) → behind point (all_at format last bytes).entries ≡ total → is_point_token point entry ≡ false → behind point (all_at format (token_after last entry) rest).entries ≡ total
-    skips_entry point total so_far is = sym (ap (behind point) one_there ∙ behind_later point entry _ is) ∙ so_far
+    pub skips_entry : (point : ℕ) (total : List Entry) → log_after_point point (all_at format last bytes).entries ≡ total → is_point_token point entry ≡ false → log_after_point point (all_at format (token_after last entry) rest).entries ≡ total
+    skips_entry point total so_far is = sym (ap (log_after_point point) one_there ∙ behind_later point entry _ is) ∙ so_far
 
     pub comes_to_token : (point : ℕ) (db : Database) (total : Option Database) → state_before point db (all_at format last bytes).entries ≡ total → is_point_token point entry ≡ true → total ≡ Some db
     comes_to_token point db total so_far is = sym so_far ∙ ap (state_before point db) one_there ∙ before_here point db entry _ is
@@ -61,8 +61,8 @@ module _ (format : Format) (last : LastToken) (bytes : List ℕ) where
         ap (λ (d : Database). state_before point d (all_at format (token_after last entry) rest).entries) made ∙ sym (ap (state_before point db) one_there ∙ before_later point db entry _ is) ∙ so_far
 
   -- no entry more can be read
-  pub skips_none : (point : ℕ) (total : List Entry) → behind point (all_at format last bytes).entries ≡ total → (all_at format last bytes).entries ≡ [] → total ≡ []
-  skips_none point total so_far none = sym so_far ∙ ap (behind point) none
+  pub skips_none : (point : ℕ) (total : List Entry) → log_after_point point (all_at format last bytes).entries ≡ total → (all_at format last bytes).entries ≡ [] → total ≡ []
+  skips_none point total so_far none = sym so_far ∙ ap (log_after_point point) none
 
   pub applies_none : (point : ℕ) (db : Database) (total : Option Database) → state_before point db (all_at format last bytes).entries ≡ total → (all_at format last bytes).entries ≡ [] → total ≡ None
   applies_none point db total so_far none = sym so_far ∙ ap (state_before point db) none

@@ -6,7 +6,7 @@ use Rattle.pc_io.specs.Fields.{◌>>=◌}
 use Rattle.pc_model.specs.Database.{Database}
 use Rattle.pc_model.specs.Files.{BaseFile}
 use Rattle.pc_bases.specs.Reading.{base_at}
-use Rattle.pc_recover.specs.Recovery.{Recovery, IsOfRun, recovery, recovery_on, files_of}
+use Rattle.pc_recover.specs.Recovery.{Recovery, IsOfRun, recovery, recovery_on, decoded_files}
 use Rattle.pc_points.specs.Points.{log_state, parts_to, point_state, state_from}
 
 module _ (n : ℕ) (base : List ℕ) (parts : List (List ℕ)) (log : List ℕ) where
@@ -16,7 +16,7 @@ module _ (n : ℕ) (base : List ℕ) (parts : List (List ℕ)) (log : List ℕ) 
 
   base_refused : (e : Refusal) → base_at base ≡ Err e → recovery base (parts_to n parts) [] ≡ Err e
   unfolding recovery
-  base_refused e is = ap (λ r. r >>= λ b. recovery_on b (files_of b.run (parts_to n parts)) []) is
+  base_refused e is = ap (λ r. r >>= λ b. recovery_on b (decoded_files b.run (parts_to n parts)) []) is
 
   -- what recovery refuses is refused
   pub refused : (e : Refusal) → recovery base (parts_to n parts) [] ≡ Err e → point_state n base parts log ≡ Err e

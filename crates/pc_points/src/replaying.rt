@@ -1,7 +1,7 @@
 //! What the log has up to a point's token, read and applied entry by entry.
 ghost use Rattle.std.specs.Prelude.{◌≡◌, ◌≢◌, [], false, IfOk, IfErr, MatchOption, Ok};
 ghost use Rattle.pc_io.specs.Fields.{Gives};
-ghost use Rattle.pc_model.specs.Log.{behind};
+ghost use Rattle.pc_model.specs.Log.{log_after_point};
 ghost use Rattle.pc_log.specs.Orders.{no_token};
 ghost use Rattle.pc_log.specs.Reading.{all_at};
 ghost use Rattle.pc_recover.specs.Recovery.{entries_after};
@@ -88,7 +88,7 @@ fn skip_to_token<'a>(
     point: Point,
     bytes: &'a [u8],
 ) -> Result<Option<Behind<'a>>, Refusal>
-    ensures found { IfOk result (λ found. MatchOption found (behind point (all_at format no_token bytes.now).entries ≡ []) (λ place. (all_at format place.last place.rest.now).entries ≡ behind point (all_at format no_token bytes.now).entries)) }
+    ensures found { IfOk result (λ found. MatchOption found (log_after_point point (all_at format no_token bytes.now).entries ≡ []) (λ place. (all_at format place.last place.rest.now).entries ≡ log_after_point point (all_at format no_token bytes.now).entries)) }
     ensures memory { IfErr result (λ e. e ≡ Refusal.OutOfMemory) }
 {
     let mut last = LastToken::none();

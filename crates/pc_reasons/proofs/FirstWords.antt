@@ -3,7 +3,7 @@ use Rattle.std.proofs.Common.{◌≡◌, ℕ, false, List, [], ◌∷◌, take, 
 use Rattle.std.specs.Prelude.{None, if◌then◌else◌}
 use Rattle.pc_lines.specs.declared.lines.TheConstants.{MOST_WORDS}
 use Rattle.pc_lines.specs.Lines.{is_comment, words_of}
-use Rattle.pc_reasons.specs.LineFaults.{told_of}
+use Rattle.pc_reasons.specs.LineFaults.{reported_fault}
 use Rattle.pc_reasons.specs.Scripts.{script_fault, words_fault}
 use Rattle.pc_reasons.specs.Workloads.{role_of, told_role, words_role}
 use Rattle.pc_reasons.specs.declared.workloads.LineRole.TheVariants.{Silent}
@@ -25,8 +25,8 @@ first_role (a ∷ b ∷ c ∷ d ∷ []) = refl
 first_role (a ∷ b ∷ c ∷ d ∷ e ∷ words) = refl
 
 -- what is wrong with a line without a comment
-pub fault_of_first : (text : List ℕ) (first : List (List ℕ)) → is_comment text ≡ false → first ≡ take MOST_WORDS (words_of text) → told_of text (words_fault first) ≡ script_fault text
-fault_of_first text first h e = ap (λ words. told_of text (words_fault words)) e ∙ ap (told_of text) (first_fault (words_of text)) ∙ sym (ap (λ x. if x then None else told_of text (words_fault (words_of text))) h)
+pub fault_of_first : (text : List ℕ) (first : List (List ℕ)) → is_comment text ≡ false → first ≡ take MOST_WORDS (words_of text) → reported_fault text (words_fault first) ≡ script_fault text
+fault_of_first text first h e = ap (λ words. reported_fault text (words_fault words)) e ∙ ap (reported_fault text) (first_fault (words_of text)) ∙ sym (ap (λ x. if x then None else reported_fault text (words_fault (words_of text))) h)
 
 -- what a line without a comment is
 pub role_of_first : (text : List ℕ) (first : List (List ℕ)) → is_comment text ≡ false → first ≡ take MOST_WORDS (words_of text) → told_role text (words_role first) ≡ role_of text

@@ -9,13 +9,13 @@ use Rattle.pc_lines.specs.Lines.{words_of, is_comment}
 use Rattle.pc_jobs.specs.declared.phrases.Phrase.{Phrase}
 use Rattle.pc_jobs.specs.declared.phrases.Phrase.TheVariants as phrase
 use Rattle.pc_jobs.specs.declared.phrases.TheConstants.{MOST_FILL, MOST_RUN_POINTS}
-use Rattle.pc_jobs.specs.Phrases.{key_of, value_of, prefix_of, number_within, points_line, client_line, get_line, del_line, put_line, add_line, fill_line, spelled_by, spelled}
+use Rattle.pc_jobs.specs.Phrases.{spelled_key, spelled_value, prefix_of, number_within, points_line, client_line, get_op_line, del_op_line, put_op_line, add_op_line, fill_line, phrase_of_words, spelled_phrase}
 use Rattle.pc_jobs.specs.Workloads.{is_client}
 use Rattle.pc_reasons.specs.declared.faults.LineFault.{LineFault}
 use Rattle.pc_reasons.specs.declared.faults.LineFault.TheVariants.{NoCommand, CarriageReturn}
 use Rattle.pc_reasons.specs.declared.workloads.LineRole.{LineRole}
 use Rattle.pc_reasons.specs.declared.workloads.LineRole.TheVariants as role
-use Rattle.pc_reasons.specs.LineFaults.{first_of, ends_with_cr}
+use Rattle.pc_reasons.specs.LineFaults.{earlier_fault, ends_with_cr}
 use Rattle.pc_reasons.specs.Workloads.{role_with, verb_role, words_role, told_role, role_of, is_client_role, is_client_line}
 use Rattle.pc_reasons.proofs.WordLemmas.{either}
 
@@ -32,7 +32,7 @@ Agrees phrase.Malformed its = (fault : LineFault) × (its ≡ role.Wrong fault)
 
 -- the role of a line that begins with this word
 abbrev pub AgreesAt : List (List ℕ) → List ℕ → Type 0
-AgreesAt words verb = Agrees (spelled_by (verb ∷ words)) (verb_role verb words)
+AgreesAt words verb = Agrees (phrase_of_words (verb ∷ words)) (verb_role verb words)
 
 abbrev fault_unless : Bool → LineFault → Option LineFault
 fault_unless b fault = if b then None else Some fault
@@ -45,25 +45,25 @@ client_told : (f : LineFault) (o : Option ℕ) → Agrees (client_line o) (role_
 client_told f None = (f, refl)
 client_told f (Some n) = refl
 
-get_told : (f : LineFault) (k : Option (List ℕ)) → Agrees (get_line k) (role_with role.Inside (fault_unless (is_some k) f))
+get_told : (f : LineFault) (k : Option (List ℕ)) → Agrees (get_op_line k) (role_with role.Inside (fault_unless (is_some k) f))
 get_told f None = (f, refl)
 get_told f (Some k) = refl
 
-del_told : (f : LineFault) (k : Option (List ℕ)) → Agrees (del_line k) (role_with role.Inside (fault_unless (is_some k) f))
+del_told : (f : LineFault) (k : Option (List ℕ)) → Agrees (del_op_line k) (role_with role.Inside (fault_unless (is_some k) f))
 del_told f None = (f, refl)
 del_told f (Some k) = refl
 
-put_told : (f g : LineFault) (k v : Option (List ℕ)) → Agrees (put_line k v) (role_with role.Inside (first_of (fault_unless (is_some k) f) (fault_unless (is_some v) g)))
+put_told : (f g : LineFault) (k v : Option (List ℕ)) → Agrees (put_op_line k v) (role_with role.Inside (earlier_fault (fault_unless (is_some k) f) (fault_unless (is_some v) g)))
 put_told f g None v = (f, refl)
 put_told f g (Some k) None = (g, refl)
 put_told f g (Some k) (Some v) = refl
 
-add_told : (f g : LineFault) (k : Option (List ℕ)) (d : Option ℤ) → Agrees (add_line k d) (role_with role.Inside (first_of (fault_unless (is_some k) f) (fault_unless (is_some d) g)))
+add_told : (f g : LineFault) (k : Option (List ℕ)) (d : Option ℤ) → Agrees (add_op_line k d) (role_with role.Inside (earlier_fault (fault_unless (is_some k) f) (fault_unless (is_some d) g)))
 add_told f g None d = (f, refl)
 add_told f g (Some k) None = (g, refl)
 add_told f g (Some k) (Some d) = refl
 
-fill_told : (f g h : LineFault) (p : Option (List ℕ)) (n : Option ℕ) (v : Option (List ℕ)) → Agrees (fill_line p n v) (role_with role.Fill (first_of (first_of (fault_unless (is_some p) f) (fault_unless (is_some n) g)) (fault_unless (is_some v) h)))
+fill_told : (f g h : LineFault) (p : Option (List ℕ)) (n : Option ℕ) (v : Option (List ℕ)) → Agrees (fill_line p n v) (role_with role.Fill (earlier_fault (earlier_fault (fault_unless (is_some p) f) (fault_unless (is_some n) g)) (fault_unless (is_some v) h)))
 fill_told f g h None n v = (f, refl)
 fill_told f g h (Some p) None v = (g, refl)
 fill_told f g h (Some p) (Some n) None = (h, refl)
@@ -95,7 +95,7 @@ at_fill : (words : List (List ℕ)) → AgreesAt words (codes "fill")
 at_fill [] = (_, refl)
 at_fill (a ∷ []) = (_, refl)
 at_fill (a ∷ b ∷ []) = (_, refl)
-at_fill (a ∷ b ∷ c ∷ []) = fill_told _ _ _ (prefix_of a) (number_within 1 MOST_FILL b) (value_of c)
+at_fill (a ∷ b ∷ c ∷ []) = fill_told _ _ _ (prefix_of a) (number_within 1 MOST_FILL b) (spelled_value c)
 at_fill (a ∷ b ∷ c ∷ d ∷ words) = (_, refl)
 
 at_end : (words : List (List ℕ)) → AgreesAt words (codes "end")
@@ -107,14 +107,14 @@ at_end (a ∷ b ∷ c ∷ d ∷ words) = (_, refl)
 
 at_get : (words : List (List ℕ)) → AgreesAt words (codes "get")
 at_get [] = (_, refl)
-at_get (a ∷ []) = get_told _ (key_of a)
+at_get (a ∷ []) = get_told _ (spelled_key a)
 at_get (a ∷ b ∷ []) = (_, refl)
 at_get (a ∷ b ∷ c ∷ []) = (_, refl)
 at_get (a ∷ b ∷ c ∷ d ∷ words) = (_, refl)
 
 at_del : (words : List (List ℕ)) → AgreesAt words (codes "del")
 at_del [] = (_, refl)
-at_del (a ∷ []) = del_told _ (key_of a)
+at_del (a ∷ []) = del_told _ (spelled_key a)
 at_del (a ∷ b ∷ []) = (_, refl)
 at_del (a ∷ b ∷ c ∷ []) = (_, refl)
 at_del (a ∷ b ∷ c ∷ d ∷ words) = (_, refl)
@@ -122,14 +122,14 @@ at_del (a ∷ b ∷ c ∷ d ∷ words) = (_, refl)
 at_put : (words : List (List ℕ)) → AgreesAt words (codes "put")
 at_put [] = (_, refl)
 at_put (a ∷ []) = (_, refl)
-at_put (a ∷ b ∷ []) = put_told _ _ (key_of a) (value_of b)
+at_put (a ∷ b ∷ []) = put_told _ _ (spelled_key a) (spelled_value b)
 at_put (a ∷ b ∷ c ∷ []) = (_, refl)
 at_put (a ∷ b ∷ c ∷ d ∷ words) = (_, refl)
 
 at_add : (words : List (List ℕ)) → AgreesAt words (codes "add")
 at_add [] = (_, refl)
 at_add (a ∷ []) = (_, refl)
-at_add (a ∷ b ∷ []) = add_told _ _ (key_of a) (signed_number_of b)
+at_add (a ∷ b ∷ []) = add_told _ _ (spelled_key a) (signed_number_of b)
 at_add (a ∷ b ∷ c ∷ []) = (_, refl)
 at_add (a ∷ b ∷ c ∷ d ∷ words) = (_, refl)
 
@@ -148,7 +148,7 @@ module _ (verb : List ℕ)
     unknown : (words : List (List ℕ)) → verb_role verb words ≡ role.Wrong NoCommand
     unknown words = rw (e0, e1, e2, e3, e4, e5, e6, e7, e8) refl
 
-    other_bad : (words : List (List ℕ)) → spelled_by (verb ∷ words) ≡ phrase.Malformed
+    other_bad : (words : List (List ℕ)) → phrase_of_words (verb ∷ words) ≡ phrase.Malformed
     other_bad [] = rw (e2, e4) refl
     other_bad (a ∷ []) = rw (e0, e1, e5, e6) refl
     other_bad (a ∷ b ∷ []) = rw (e7, e8) refl
@@ -171,7 +171,7 @@ by_command words verb =
     either (AgreesAt words) (codes "add") verb (at_add words) (λ e8.
     at_other verb e0 e1 e2 e3 e4 e5 e6 e7 e8 words)))))))))
 
-words_told : (words : List (List ℕ)) → Agrees (spelled_by words) (words_role words)
+words_told : (words : List (List ℕ)) → Agrees (phrase_of_words words) (words_role words)
 words_told [] = refl
 words_told (verb ∷ words) = by_command words verb
 
@@ -191,12 +191,12 @@ cr_told phrase.Malformed its text (fault, e) = by (ends_with_cr text) refl
     by false r = (fault, ap (told_role text) e ∙ ap (λ (x : Bool). if x then role.Wrong CarriageReturn else role.Wrong fault) r)
 
 -- the role of a line is that of what it spells
-pub role_told : (text : List ℕ) → Agrees (spelled text) (role_of text)
+pub role_told : (text : List ℕ) → Agrees (spelled_phrase text) (role_of text)
 role_told text = by (is_comment text)
   where
-    by : (b : Bool) → Agrees (if b then phrase.Silent else spelled_by (words_of text)) (if b then role.Silent else told_role text (words_role (words_of text)))
+    by : (b : Bool) → Agrees (if b then phrase.Silent else phrase_of_words (words_of text)) (if b then role.Silent else told_role text (words_role (words_of text)))
     by true = refl
-    by false = cr_told (spelled_by (words_of text)) (words_role (words_of text)) text (words_told (words_of text))
+    by false = cr_told (phrase_of_words (words_of text)) (words_role (words_of text)) text (words_told (words_of text))
 
 client_role : (line : Phrase) (its : LineRole) → Agrees line its → is_client_role its ≡ is_client line
 client_role phrase.Silent its e = ap is_client_role e
@@ -209,8 +209,8 @@ client_role (phrase.Fill fill) its e = ap is_client_role e
 client_role phrase.Malformed its (fault, e) = ap is_client_role e
 
 -- so is whether some line is a client's
-pub any_client_told : (lines : List (List ℕ)) → list_any is_client_line lines ≡ list_any is_client (map spelled lines)
+pub any_client_told : (lines : List (List ℕ)) → list_any is_client_line lines ≡ list_any is_client (map spelled_phrase lines)
 any_client_told [] = refl
 any_client_told (line ∷ lines) =
-    ap (λ (x : Bool). x || list_any is_client_line lines) (client_role (spelled line) (role_of line) (role_told line))
-    ∙ ap (λ (x : Bool). is_client (spelled line) || x) (any_client_told lines)
+    ap (λ (x : Bool). x || list_any is_client_line lines) (client_role (spelled_phrase line) (role_of line) (role_told line))
+    ∙ ap (λ (x : Bool). is_client (spelled_phrase line) || x) (any_client_told lines)

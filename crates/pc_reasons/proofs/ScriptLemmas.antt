@@ -3,14 +3,14 @@ use Rattle.std.proofs.Common.{◌≡◌, ℕ, ℤ, ◌+◌, ◌<◌, Bool, true,
 use Rattle.std.proofs.lemmas.List.{drop_more}
 use Rattle.std.specs.Prelude.{Option, Some, None, is_some, IsSome, IfOk, ◌↔◌, if◌then◌else◌, codes}
 use Rattle.std.specs.Str.{bytes_eq}
-use Rattle.pc_lines.specs.Words.{number_of, signed_number_of, text_of, key_text_of}
+use Rattle.pc_lines.specs.Words.{parsed_number, signed_number_of, word_text, key_text_of}
 use Rattle.pc_lines.specs.Lines.{words_of, is_comment, is_key, is_value, base_line, get_line, del_line, put_line, add_line, join_line, numbered, spelled_by, spelled}
 use Rattle.pc_lines.specs.declared.lines.Line.{Line}
 use Rattle.pc_lines.specs.declared.lines.Line.TheVariants as line
 use Rattle.pc_reasons.specs.declared.faults.LineFault.{LineFault}
 use Rattle.pc_reasons.specs.declared.faults.LineFault.TheVariants.{CarriageReturn}
 use Rattle.pc_reasons.specs.declared.told_lines.BadLine.{BadLine}
-use Rattle.pc_reasons.specs.LineFaults.{first_of, ends_with_cr, told_of}
+use Rattle.pc_reasons.specs.LineFaults.{earlier_fault, ends_with_cr, reported_fault}
 use Rattle.pc_reasons.specs.Scripts.{command_fault, words_fault, script_fault, with_bad_line, bad_lines, is_malformed}
 use Rattle.pc_reasons.proofs.WordLemmas.{either}
 
@@ -27,12 +27,12 @@ sound false x y e f = sym f
 abbrev fault_unless : Bool → LineFault → Option LineFault
 fault_unless b f = if b then None else Some f
 
-get_told : (f g : LineFault) (s : Option ℕ) (k : Option (List ℕ)) → is_some (first_of (fault_unless (is_some s) f) (fault_unless (is_some k) g)) ≡ is_malformed (get_line s k)
+get_told : (f g : LineFault) (s : Option ℕ) (k : Option (List ℕ)) → is_some (earlier_fault (fault_unless (is_some s) f) (fault_unless (is_some k) g)) ≡ is_malformed (get_line s k)
 get_told f g None k = refl
 get_told f g (Some s) None = refl
 get_told f g (Some s) (Some k) = sound (is_key k) _ _ refl refl
 
-del_told : (f g : LineFault) (s : Option ℕ) (k : Option (List ℕ)) → is_some (first_of (fault_unless (is_some s) f) (fault_unless (is_some k) g)) ≡ is_malformed (del_line s k)
+del_told : (f g : LineFault) (s : Option ℕ) (k : Option (List ℕ)) → is_some (earlier_fault (fault_unless (is_some s) f) (fault_unless (is_some k) g)) ≡ is_malformed (del_line s k)
 del_told f g None k = refl
 del_told f g (Some s) None = refl
 del_told f g (Some s) (Some k) = sound (is_key k) _ _ refl refl
@@ -42,23 +42,23 @@ lengths true true x y z e f g = sym e
 lengths true false x y z e f g = sym f
 lengths false c x y z e f g = sym g
 
-base_told : (f g : LineFault) (k v : Option (List ℕ)) → is_some (first_of (fault_unless (is_some k) f) (fault_unless (is_some v) g)) ≡ is_malformed (base_line k v)
+base_told : (f g : LineFault) (k v : Option (List ℕ)) → is_some (earlier_fault (fault_unless (is_some k) f) (fault_unless (is_some v) g)) ≡ is_malformed (base_line k v)
 base_told f g None v = refl
 base_told f g (Some k) None = refl
 base_told f g (Some k) (Some v) = lengths (is_key k) (is_value v) _ _ _ refl refl refl
 
-join_told : (f g : LineFault) (m n : Option ℕ) → is_some (first_of (fault_unless (is_some m) f) (fault_unless (is_some n) g)) ≡ is_malformed (join_line m n)
+join_told : (f g : LineFault) (m n : Option ℕ) → is_some (earlier_fault (fault_unless (is_some m) f) (fault_unless (is_some n) g)) ≡ is_malformed (join_line m n)
 join_told f g None n = refl
 join_told f g (Some m) None = refl
 join_told f g (Some m) (Some n) = refl
 
-put_told : (f g h : LineFault) (s : Option ℕ) (k v : Option (List ℕ)) → is_some (first_of (first_of (fault_unless (is_some s) f) (fault_unless (is_some k) g)) (fault_unless (is_some v) h)) ≡ is_malformed (put_line s k v)
+put_told : (f g h : LineFault) (s : Option ℕ) (k v : Option (List ℕ)) → is_some (earlier_fault (earlier_fault (fault_unless (is_some s) f) (fault_unless (is_some k) g)) (fault_unless (is_some v) h)) ≡ is_malformed (put_line s k v)
 put_told f g h None k v = refl
 put_told f g h (Some s) None v = refl
 put_told f g h (Some s) (Some k) None = refl
 put_told f g h (Some s) (Some k) (Some v) = lengths (is_key k) (is_value v) _ _ _ refl refl refl
 
-add_told : (f g h : LineFault) (s : Option ℕ) (k : Option (List ℕ)) (d : Option ℤ) → is_some (first_of (first_of (fault_unless (is_some s) f) (fault_unless (is_some k) g)) (fault_unless (is_some d) h)) ≡ is_malformed (add_line s k d)
+add_told : (f g h : LineFault) (s : Option ℕ) (k : Option (List ℕ)) (d : Option ℤ) → is_some (earlier_fault (earlier_fault (fault_unless (is_some s) f) (fault_unless (is_some k) g)) (fault_unless (is_some d) h)) ≡ is_malformed (add_line s k d)
 add_told f g h None k d = refl
 add_told f g h (Some s) None d = refl
 add_told f g h (Some s) (Some k) None = refl
@@ -71,7 +71,7 @@ un_point (Some n) = refl
 
 at_point : (words : List (List ℕ)) → Agrees words (codes "point")
 at_point [] = refl
-at_point (a ∷ []) = un_point (number_of a)
+at_point (a ∷ []) = un_point (parsed_number a)
 at_point (a ∷ b ∷ []) = refl
 at_point (a ∷ b ∷ c ∷ []) = refl
 at_point (a ∷ b ∷ c ∷ d ∷ words) = refl
@@ -82,7 +82,7 @@ un_seal (Some n) = refl
 
 at_seal : (words : List (List ℕ)) → Agrees words (codes "seal")
 at_seal [] = refl
-at_seal (a ∷ []) = un_seal (number_of a)
+at_seal (a ∷ []) = un_seal (parsed_number a)
 at_seal (a ∷ b ∷ []) = refl
 at_seal (a ∷ b ∷ c ∷ []) = refl
 at_seal (a ∷ b ∷ c ∷ d ∷ words) = refl
@@ -93,7 +93,7 @@ un_capture (Some n) = refl
 
 at_capture : (words : List (List ℕ)) → Agrees words (codes "capture")
 at_capture [] = refl
-at_capture (a ∷ []) = un_capture (number_of a)
+at_capture (a ∷ []) = un_capture (parsed_number a)
 at_capture (a ∷ b ∷ []) = refl
 at_capture (a ∷ b ∷ c ∷ []) = refl
 at_capture (a ∷ b ∷ c ∷ d ∷ words) = refl
@@ -104,7 +104,7 @@ un_take (Some n) = refl
 
 at_take : (words : List (List ℕ)) → Agrees words (codes "take")
 at_take [] = refl
-at_take (a ∷ []) = un_take (number_of a)
+at_take (a ∷ []) = un_take (parsed_number a)
 at_take (a ∷ b ∷ []) = refl
 at_take (a ∷ b ∷ c ∷ []) = refl
 at_take (a ∷ b ∷ c ∷ d ∷ words) = refl
@@ -115,7 +115,7 @@ un_done (Some n) = refl
 
 at_done : (words : List (List ℕ)) → Agrees words (codes "done")
 at_done [] = refl
-at_done (a ∷ []) = un_done (number_of a)
+at_done (a ∷ []) = un_done (parsed_number a)
 at_done (a ∷ b ∷ []) = refl
 at_done (a ∷ b ∷ c ∷ []) = refl
 at_done (a ∷ b ∷ c ∷ d ∷ words) = refl
@@ -126,7 +126,7 @@ un_rest (Some n) = refl
 
 at_rest : (words : List (List ℕ)) → Agrees words (codes "rest")
 at_rest [] = refl
-at_rest (a ∷ []) = un_rest (number_of a)
+at_rest (a ∷ []) = un_rest (parsed_number a)
 at_rest (a ∷ b ∷ []) = refl
 at_rest (a ∷ b ∷ c ∷ []) = refl
 at_rest (a ∷ b ∷ c ∷ d ∷ words) = refl
@@ -137,7 +137,7 @@ un_check (Some n) = refl
 
 at_check : (words : List (List ℕ)) → Agrees words (codes "check")
 at_check [] = refl
-at_check (a ∷ []) = un_check (number_of a)
+at_check (a ∷ []) = un_check (parsed_number a)
 at_check (a ∷ b ∷ []) = refl
 at_check (a ∷ b ∷ c ∷ []) = refl
 at_check (a ∷ b ∷ c ∷ d ∷ words) = refl
@@ -148,7 +148,7 @@ by_begin (Some n) f = refl
 
 at_begin : (words : List (List ℕ)) → Agrees words (codes "begin")
 at_begin [] = refl
-at_begin (a ∷ []) = by_begin (number_of a) _
+at_begin (a ∷ []) = by_begin (parsed_number a) _
 at_begin (a ∷ b ∷ []) = refl
 at_begin (a ∷ b ∷ c ∷ []) = refl
 at_begin (a ∷ b ∷ c ∷ d ∷ words) = refl
@@ -159,7 +159,7 @@ by_commit (Some n) f = refl
 
 at_commit : (words : List (List ℕ)) → Agrees words (codes "commit")
 at_commit [] = refl
-at_commit (a ∷ []) = by_commit (number_of a) _
+at_commit (a ∷ []) = by_commit (parsed_number a) _
 at_commit (a ∷ b ∷ []) = refl
 at_commit (a ∷ b ∷ c ∷ []) = refl
 at_commit (a ∷ b ∷ c ∷ d ∷ words) = refl
@@ -170,7 +170,7 @@ by_abort (Some n) f = refl
 
 at_abort : (words : List (List ℕ)) → Agrees words (codes "abort")
 at_abort [] = refl
-at_abort (a ∷ []) = by_abort (number_of a) _
+at_abort (a ∷ []) = by_abort (parsed_number a) _
 at_abort (a ∷ b ∷ []) = refl
 at_abort (a ∷ b ∷ c ∷ []) = refl
 at_abort (a ∷ b ∷ c ∷ d ∷ words) = refl
@@ -181,7 +181,7 @@ by_state (Some n) f = refl
 
 at_state : (words : List (List ℕ)) → Agrees words (codes "state")
 at_state [] = refl
-at_state (a ∷ []) = by_state (number_of a) _
+at_state (a ∷ []) = by_state (parsed_number a) _
 at_state (a ∷ b ∷ []) = refl
 at_state (a ∷ b ∷ c ∷ []) = refl
 at_state (a ∷ b ∷ c ∷ d ∷ words) = refl
@@ -192,7 +192,7 @@ by_text (Some n) f = refl
 
 at_text : (words : List (List ℕ)) → Agrees words (codes "text")
 at_text [] = refl
-at_text (a ∷ []) = by_text (number_of a) _
+at_text (a ∷ []) = by_text (parsed_number a) _
 at_text (a ∷ b ∷ []) = refl
 at_text (a ∷ b ∷ c ∷ []) = refl
 at_text (a ∷ b ∷ c ∷ d ∷ words) = refl
@@ -203,8 +203,8 @@ un_get (Some n) = refl
 
 at_get : (words : List (List ℕ)) → Agrees words (codes "get")
 at_get [] = refl
-at_get (a ∷ []) = un_get (number_of a)
-at_get (a ∷ b ∷ []) = get_told _ _ (number_of a) (key_text_of b)
+at_get (a ∷ []) = un_get (parsed_number a)
+at_get (a ∷ b ∷ []) = get_told _ _ (parsed_number a) (key_text_of b)
 at_get (a ∷ b ∷ c ∷ []) = refl
 at_get (a ∷ b ∷ c ∷ d ∷ words) = refl
 
@@ -214,8 +214,8 @@ un_del (Some n) = refl
 
 at_del : (words : List (List ℕ)) → Agrees words (codes "del")
 at_del [] = refl
-at_del (a ∷ []) = un_del (number_of a)
-at_del (a ∷ b ∷ []) = del_told _ _ (number_of a) (key_text_of b)
+at_del (a ∷ []) = un_del (parsed_number a)
+at_del (a ∷ b ∷ []) = del_told _ _ (parsed_number a) (key_text_of b)
 at_del (a ∷ b ∷ c ∷ []) = refl
 at_del (a ∷ b ∷ c ∷ d ∷ words) = refl
 
@@ -225,8 +225,8 @@ un_base (Some n) = refl
 
 at_base : (words : List (List ℕ)) → Agrees words (codes "base")
 at_base [] = refl
-at_base (a ∷ []) = un_base (number_of a)
-at_base (a ∷ b ∷ []) = base_told _ _ (key_text_of a) (text_of b)
+at_base (a ∷ []) = un_base (parsed_number a)
+at_base (a ∷ b ∷ []) = base_told _ _ (key_text_of a) (word_text b)
 at_base (a ∷ b ∷ c ∷ []) = refl
 at_base (a ∷ b ∷ c ∷ d ∷ words) = refl
 
@@ -236,8 +236,8 @@ un_join (Some n) = refl
 
 at_join : (words : List (List ℕ)) → Agrees words (codes "join")
 at_join [] = refl
-at_join (a ∷ []) = un_join (number_of a)
-at_join (a ∷ b ∷ []) = join_told _ _ (number_of a) (number_of b)
+at_join (a ∷ []) = un_join (parsed_number a)
+at_join (a ∷ b ∷ []) = join_told _ _ (parsed_number a) (parsed_number b)
 at_join (a ∷ b ∷ c ∷ []) = refl
 at_join (a ∷ b ∷ c ∷ d ∷ words) = refl
 
@@ -247,9 +247,9 @@ un_put (Some n) = refl
 
 at_put : (words : List (List ℕ)) → Agrees words (codes "put")
 at_put [] = refl
-at_put (a ∷ []) = un_put (number_of a)
+at_put (a ∷ []) = un_put (parsed_number a)
 at_put (a ∷ b ∷ []) = refl
-at_put (a ∷ b ∷ c ∷ []) = put_told _ _ _ (number_of a) (key_text_of b) (text_of c)
+at_put (a ∷ b ∷ c ∷ []) = put_told _ _ _ (parsed_number a) (key_text_of b) (word_text c)
 at_put (a ∷ b ∷ c ∷ d ∷ words) = refl
 
 un_add : (o : Option ℕ) → true ≡ is_malformed (numbered (codes "add") o)
@@ -258,9 +258,9 @@ un_add (Some n) = refl
 
 at_add : (words : List (List ℕ)) → Agrees words (codes "add")
 at_add [] = refl
-at_add (a ∷ []) = un_add (number_of a)
+at_add (a ∷ []) = un_add (parsed_number a)
 at_add (a ∷ b ∷ []) = refl
-at_add (a ∷ b ∷ c ∷ []) = add_told _ _ _ (number_of a) (key_text_of b) (signed_number_of c)
+at_add (a ∷ b ∷ c ∷ []) = add_told _ _ _ (parsed_number a) (key_text_of b) (signed_number_of c)
 at_add (a ∷ b ∷ c ∷ d ∷ words) = refl
 
 -- no command
@@ -293,7 +293,7 @@ module _ (verb : List ℕ)
 
     other_bad : (words : List (List ℕ)) → true ≡ is_malformed (spelled_by (verb ∷ words))
     other_bad [] = rw (e0, e1, e2, e3, e4, e5, e6) refl
-    other_bad (a ∷ []) = other_numbered (number_of a)
+    other_bad (a ∷ []) = other_numbered (parsed_number a)
     other_bad (a ∷ b ∷ []) = rw (e12, e13, e14, e15) refl
     other_bad (a ∷ b ∷ c ∷ []) = rw (e16, e17) refl
     other_bad (a ∷ b ∷ c ∷ d ∷ words) = refl
@@ -327,7 +327,7 @@ words_told : (words : List (List ℕ)) → is_some (words_fault words) ≡ is_ma
 words_told [] = refl
 words_told (verb ∷ words) = by_command words verb
 
-told_some : (text : List ℕ) (fault : Option LineFault) → is_some (told_of text fault) ≡ is_some fault
+told_some : (text : List ℕ) (fault : Option LineFault) → is_some (reported_fault text fault) ≡ is_some fault
 told_some text None = refl
 told_some text (Some fault) = by (ends_with_cr text)
   where
@@ -338,7 +338,7 @@ told_some text (Some fault) = by (ends_with_cr text)
 script_told : (text : List ℕ) → is_some (script_fault text) ≡ is_malformed (spelled text)
 script_told text = by (is_comment text)
   where
-    by : (b : Bool) → is_some (if b then None else told_of text (words_fault (words_of text))) ≡ is_malformed (if b then line.Silent else spelled_by (words_of text))
+    by : (b : Bool) → is_some (if b then None else reported_fault text (words_fault (words_of text))) ≡ is_malformed (if b then line.Silent else spelled_by (words_of text))
     by true = refl
     by false = told_some text (words_fault (words_of text)) ∙ words_told (words_of text)
 

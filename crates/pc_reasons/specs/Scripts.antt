@@ -8,7 +8,7 @@ use Rattle.pc_reasons.specs.declared.faults.LineFault.{LineFault}
 use Rattle.pc_reasons.specs.declared.faults.LineFault.TheVariants.{NoCommand}
 use Rattle.pc_reasons.specs.declared.faults.WordKind.TheVariants as kind
 use Rattle.pc_reasons.specs.declared.told_lines.BadLine.{BadLine}
-use Rattle.pc_reasons.specs.LineFaults.{no_word, one_word, two_words, three_words, told_of}
+use Rattle.pc_reasons.specs.LineFaults.{no_word, one_word_fault, two_word_fault, three_word_fault, reported_fault}
 
 -- a command of one word
 abbrev pub is_lone : List ℕ → Bool
@@ -32,13 +32,13 @@ is_of_key verb = bytes_eq verb (codes "get") || bytes_eq verb (codes "del")
 abbrev pub command_fault : List ℕ → List (List ℕ) → Option LineFault
 command_fault verb words =
     if is_lone verb then no_word words
-    else (if is_of_session verb then one_word kind.SessionNumber words
-    else (if is_of_file verb then one_word kind.FileNumber words
-    else (if is_of_key verb then two_words kind.SessionNumber kind.KeyWord words
-    else (if bytes_eq verb (codes "base") then two_words kind.KeyWord kind.ValueWord words
-    else (if bytes_eq verb (codes "join") then two_words kind.FileNumber kind.FileNumber words
-    else (if bytes_eq verb (codes "put") then three_words kind.SessionNumber kind.KeyWord kind.ValueWord words
-    else (if bytes_eq verb (codes "add") then three_words kind.SessionNumber kind.KeyWord kind.Addend words else Some NoCommand)))))))
+    else (if is_of_session verb then one_word_fault kind.SessionNumber words
+    else (if is_of_file verb then one_word_fault kind.FileNumber words
+    else (if is_of_key verb then two_word_fault kind.SessionNumber kind.KeyWord words
+    else (if bytes_eq verb (codes "base") then two_word_fault kind.KeyWord kind.ValueWord words
+    else (if bytes_eq verb (codes "join") then two_word_fault kind.FileNumber kind.FileNumber words
+    else (if bytes_eq verb (codes "put") then three_word_fault kind.SessionNumber kind.KeyWord kind.ValueWord words
+    else (if bytes_eq verb (codes "add") then three_word_fault kind.SessionNumber kind.KeyWord kind.Addend words else Some NoCommand)))))))
 
 -- what is wrong with the words of a line; nothing if there are none
 abbrev pub words_fault : List (List ℕ) → Option LineFault
@@ -47,7 +47,7 @@ words_fault (verb ∷ words) = command_fault verb words
 
 -- what is wrong with a line
 abbrev pub script_fault : List ℕ → Option LineFault
-script_fault text = if is_comment text then None else told_of text (words_fault (words_of text))
+script_fault text = if is_comment text then None else reported_fault text (words_fault (words_of text))
 
 -- a line of this number, if it is bad, before other bad lines
 abbrev pub with_bad_line : ℕ → Option LineFault → List BadLine → List BadLine

@@ -10,7 +10,7 @@ use Rattle.pc_reasons.specs.declared.workloads.LineRole.{LineRole}
 use Rattle.pc_reasons.specs.declared.workloads.LineRole.TheVariants as role
 use Rattle.pc_reasons.specs.declared.workloads.WorkloadFault.{WorkloadFault}
 use Rattle.pc_reasons.specs.declared.workloads.WorkloadFault.TheVariants as work
-use Rattle.pc_reasons.specs.LineFaults.{no_word, one_word, two_words, three_words, ends_with_cr}
+use Rattle.pc_reasons.specs.LineFaults.{no_word, one_word_fault, two_word_fault, three_word_fault, ends_with_cr}
 use Rattle.pc_reasons.specs.Sentences.{fault_sentence}
 
 -- a line's role if nothing is wrong with its words
@@ -22,17 +22,17 @@ role_with its (Some fault) = role.Wrong fault
 abbrev pub inner_role : List ℕ → List (List ℕ) → LineRole
 inner_role verb words =
     role_with role.Inside (if bytes_eq verb (codes "end") then no_word words
-    else (if bytes_eq verb (codes "get") || bytes_eq verb (codes "del") then one_word kind.WholeKey words
-    else (if bytes_eq verb (codes "put") then two_words kind.WholeKey kind.WholeValue words
-    else (if bytes_eq verb (codes "add") then two_words kind.WholeKey kind.Addend words else Some NoCommand))))
+    else (if bytes_eq verb (codes "get") || bytes_eq verb (codes "del") then one_word_fault kind.WholeKey words
+    else (if bytes_eq verb (codes "put") then two_word_fault kind.WholeKey kind.WholeValue words
+    else (if bytes_eq verb (codes "add") then two_word_fault kind.WholeKey kind.Addend words else Some NoCommand))))
 
 -- what any line is
 abbrev pub verb_role : List ℕ → List (List ℕ) → LineRole
 verb_role verb words =
-    if bytes_eq verb (codes "points") then role_with role.Points (one_word kind.PointCount words)
-    else (if bytes_eq verb (codes "client") then role_with role.Client (one_word kind.ClientNumber words)
+    if bytes_eq verb (codes "points") then role_with role.Points (one_word_fault kind.PointCount words)
+    else (if bytes_eq verb (codes "client") then role_with role.Client (one_word_fault kind.ClientNumber words)
     else (if bytes_eq verb (codes "txn") then role_with role.Begin (no_word words)
-    else (if bytes_eq verb (codes "fill") then role_with role.Fill (three_words kind.KeyPrefix kind.FillCount kind.WholeValue words) else inner_role verb words)))
+    else (if bytes_eq verb (codes "fill") then role_with role.Fill (three_word_fault kind.KeyPrefix kind.FillCount kind.WholeValue words) else inner_role verb words)))
 
 -- what a line of these words is
 abbrev pub words_role : List (List ℕ) → LineRole
@@ -58,22 +58,22 @@ abbrev pub is_client_line : List ℕ → Bool
 is_client_line text = is_client_role (role_of text)
 
 -- why a line of this role is the first bad one, given whether a client comes before it
-abbrev pub fault_of : Bool → LineRole → Option WorkloadFault
-fault_of has_client role.Silent = None
-fault_of has_client role.Points = if has_client then Some work.PointsBehindClient else Some work.PointsAgain
-fault_of has_client role.Client = Some work.ClientAgain
-fault_of has_client role.Begin = if has_client then Some work.NoEnd else Some work.BeforeClients
-fault_of has_client role.Inside = Some work.OutsideTransaction
-fault_of has_client role.Fill = Some work.BeforeClients
-fault_of has_client (role.Wrong fault) = Some (work.Line fault)
+abbrev pub role_fault : Bool → LineRole → Option WorkloadFault
+role_fault has_client role.Silent = None
+role_fault has_client role.Points = if has_client then Some work.PointsBehindClient else Some work.PointsAgain
+role_fault has_client role.Client = Some work.ClientAgain
+role_fault has_client role.Begin = if has_client then Some work.NoEnd else Some work.BeforeClients
+role_fault has_client role.Inside = Some work.OutsideTransaction
+role_fault has_client role.Fill = Some work.BeforeClients
+role_fault has_client (role.Wrong fault) = Some (work.Line fault)
 
 -- why the line after that many is the first bad one of these lines
 abbrev pub fault_behind : List (List ℕ) → ℕ → Option WorkloadFault
-fault_behind lines count = fault_of (list_any is_client_line (take count lines)) (role_of (slice_index_or lines count []))
+fault_behind lines count = role_fault (list_any is_client_line (take count lines)) (role_of (slice_index_or lines count []))
 
 -- the same of the line of this number, from 1
-abbrev pub fault_at : List (List ℕ) → ℕ → Option WorkloadFault
-fault_at lines number = if nat_lt 0 number && nat_le number (length lines) then fault_behind lines (number - 1) else None
+abbrev pub line_fault_at : List (List ℕ) → ℕ → Option WorkloadFault
+line_fault_at lines number = if nat_lt 0 number && nat_le number (length lines) then fault_behind lines (number - 1) else None
 
 -- the same in words
 abbrev pub workload_sentence : WorkloadFault → List ℕ

@@ -1,6 +1,6 @@
 //! The words after the first of a line: their expected number and kinds.
 ghost use Rattle.std.specs.Prelude.{◌≡◌, IfOk, map};
-ghost use Rattle.pc_reasons.specs.LineFaults.{is_within, is_of, first_of, word_fault, pair_fault, no_word, one_word, two_words, three_words};
+ghost use Rattle.pc_reasons.specs.LineFaults.{is_within, is_of_kind, earlier_fault, word_fault, pair_fault, no_word, one_word_fault, two_word_fault, three_word_fault};
 
 use crate::faults::{LineFault, WordKind, WordPlace};
 use pc_jobs::{MOST_FILL, MOST_RUN_POINTS, Prefix};
@@ -10,7 +10,7 @@ use std::alloc::{AllocError, Global};
 
 // Whether the word is of this kind.
 fn is_of(alloc: Global, kind: WordKind, word: &[u8]) -> Result<bool, AllocError>
-    ensures { IfOk result (λ is. is ≡ is_of kind word.now) }
+    ensures { IfOk result (λ is. is ≡ is_of_kind kind word.now) }
 {
     match kind {
         WordKind::SessionNumber | WordKind::FileNumber => Ok(number(word).is_some()),
@@ -37,7 +37,7 @@ fn is_within(least: u32, most: u32, word: &[u8]) -> bool
 }
 
 fn is_whole_key(alloc: Global, word: &[u8]) -> Result<bool, AllocError>
-    ensures { IfOk result (λ is. is ≡ is_of WordKind.WholeKey word.now) }
+    ensures { IfOk result (λ is. is ≡ is_of_kind WordKind.WholeKey word.now) }
 {
     match key_text_of(alloc, word)? {
         Some(text) => Ok(text.is_key()),
@@ -46,7 +46,7 @@ fn is_whole_key(alloc: Global, word: &[u8]) -> Result<bool, AllocError>
 }
 
 fn is_whole_value(alloc: Global, word: &[u8]) -> Result<bool, AllocError>
-    ensures { IfOk result (λ is. is ≡ is_of WordKind.WholeValue word.now) }
+    ensures { IfOk result (λ is. is ≡ is_of_kind WordKind.WholeValue word.now) }
 {
     match text_of(alloc, word)? {
         Some(text) => Ok(is_value(&text)),
@@ -55,7 +55,7 @@ fn is_whole_value(alloc: Global, word: &[u8]) -> Result<bool, AllocError>
 }
 
 fn is_key_prefix(alloc: Global, word: &[u8]) -> Result<bool, AllocError>
-    ensures { IfOk result (λ is. is ≡ is_of WordKind.KeyPrefix word.now) }
+    ensures { IfOk result (λ is. is ≡ is_of_kind WordKind.KeyPrefix word.now) }
 {
     match key_text_of(alloc, word)? {
         Some(text) => {
@@ -98,7 +98,7 @@ pub(crate) fn one_word(
     kind: WordKind,
     words: &[&[u8]],
 ) -> Result<Option<LineFault>, AllocError>
-    ensures { IfOk result (λ fault. fault ≡ one_word kind (map (λ w. w.now) words.now)) }
+    ensures { IfOk result (λ fault. fault ≡ one_word_fault kind (map (λ w. w.now) words.now)) }
 {
     match words {
         [] => Ok(Some(LineFault::TooFewWords)),
@@ -115,7 +115,7 @@ fn fault_behind(
     kind: WordKind,
     word: &[u8],
 ) -> Result<Option<LineFault>, AllocError>
-    ensures { IfOk result (λ fault. fault ≡ first_of before (word_fault place kind word.now)) }
+    ensures { IfOk result (λ fault. fault ≡ earlier_fault before (word_fault place kind word.now)) }
 {
     match before {
         Some(fault) => Ok(Some(fault)),
@@ -144,7 +144,7 @@ pub(crate) fn two_words(
     second: WordKind,
     words: &[&[u8]],
 ) -> Result<Option<LineFault>, AllocError>
-    ensures { IfOk result (λ fault. fault ≡ two_words first second (map (λ w. w.now) words.now)) }
+    ensures { IfOk result (λ fault. fault ≡ two_word_fault first second (map (λ w. w.now) words.now)) }
 {
     match words {
         [] | [_] => Ok(Some(LineFault::TooFewWords)),
@@ -161,7 +161,7 @@ pub(crate) fn three_words(
     third: WordKind,
     words: &[&[u8]],
 ) -> Result<Option<LineFault>, AllocError>
-    ensures { IfOk result (λ fault. fault ≡ three_words first second third (map (λ w. w.now) words.now)) }
+    ensures { IfOk result (λ fault. fault ≡ three_word_fault first second third (map (λ w. w.now) words.now)) }
 {
     match words {
         [] | [_] | [_, _] => Ok(Some(LineFault::TooFewWords)),

@@ -1,7 +1,7 @@
 //! The lines of a text, and the words of one.
 ghost use Rattle.std.specs.Prelude.{◌≡◌, IfOk, map};
 ghost use Rattle.pc_lines.specs.Lines.{lines_in};
-ghost use Rattle.pc_reasons.specs.LineFaults.{ends_with_cr, told_of};
+ghost use Rattle.pc_reasons.specs.LineFaults.{ends_with_cr, reported_fault};
 
 use crate::faults::LineFault;
 use bstr::ByteSlice;
@@ -27,7 +27,7 @@ pub(crate) fn ends_with_cr(line: &[u8]) -> bool
 
 /// The reason for a line with this fault of its words: for one that ends with a CR, that.
 pub(crate) fn told_of(line: &[u8], fault: Option<LineFault>) -> Option<LineFault>
-    ensures { result ≡ told_of line.now fault }
+    ensures { result ≡ reported_fault line.now fault }
 {
     match fault {
         None => None,

@@ -5,7 +5,7 @@ ghost use Rattle.pc_io.specs.Tallies.{Puts};
 ghost use Rattle.pc_lines.specs.Lines.{lines_in};
 ghost use Rattle.pc_jobs.specs.declared.workloads.WorkloadReading.TheVariants.{BadLine};
 ghost use Rattle.pc_jobs.specs.Workloads.{reading_of, phrases_in};
-ghost use Rattle.pc_reasons.specs.Workloads.{role_with, verb_role, words_role, inner_role, told_role, role_of, is_client_line, fault_of, fault_behind, fault_at, workload_sentence};
+ghost use Rattle.pc_reasons.specs.Workloads.{role_with, verb_role, words_role, inner_role, told_role, role_of, is_client_line, role_fault, fault_behind, line_fault_at, workload_sentence};
 ghost use Rattle.pc_reasons.specs.Causes.{IsExplained};
 ghost use Rattle.pc_reasons.specs.Told.{place_text};
 
@@ -58,14 +58,14 @@ pub fn workload_fault(
     text: &[u8],
     number: usize,
 ) -> Result<Option<WorkloadFault>, AllocError>
-    ensures fault { IfOk result (λ fault. fault ≡ fault_at (lines_in text.now) number) }
+    ensures fault { IfOk result (λ fault. fault ≡ line_fault_at (lines_in text.now) number) }
     ensures cause { reading_of text.now ≡ BadLine number → IfOk result (IsExplained (phrases_in text.now) number) }
 {
     fault_in(alloc, text, number)
 }
 
 fn fault_in(alloc: Global, text: &[u8], number: usize) -> Result<Option<WorkloadFault>, AllocError>
-    ensures { IfOk result (λ fault. fault ≡ fault_at (lines_in text.now) number) }
+    ensures { IfOk result (λ fault. fault ≡ line_fault_at (lines_in text.now) number) }
 {
     let lines = lines_in(alloc, text)?;
     fault_at(alloc, &lines, number)
@@ -76,7 +76,7 @@ fn fault_at(
     lines: &[&[u8]],
     number: usize,
 ) -> Result<Option<WorkloadFault>, AllocError>
-    ensures { IfOk result (λ fault. fault ≡ fault_at (map (λ w. w.now) lines.now) number) }
+    ensures { IfOk result (λ fault. fault ≡ line_fault_at (map (λ w. w.now) lines.now) number) }
 {
     if number == 0 || number > lines.len() {
         return Ok(None);
@@ -121,7 +121,7 @@ fn is_client_line(alloc: Global, line: &[u8]) -> Result<bool, AllocError>
 
 // Why a line of this role is bad if it is the first bad one, given whether a client comes before it.
 fn fault_of(has_client: bool, role: LineRole) -> Option<WorkloadFault>
-    ensures { result ≡ fault_of has_client role }
+    ensures { result ≡ role_fault has_client role }
 {
     match role {
         LineRole::Silent => None,

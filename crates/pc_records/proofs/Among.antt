@@ -18,7 +18,7 @@ use Rattle.pc_records.specs.Rows.{Row, record_of, at_point, is_in_open_set, is_i
 use Rattle.pc_records.specs.Tables.{AreListed, first_pinned}
 use Rattle.pc_slots.specs.Slots.{pinned, slot_with}
 use Rattle.pc_records.specs.Slots.{slots_in, rows_of, table_of, numbers_of, times, AreSlotsKept}
-use Rattle.pc_records.specs.SetLists.{marked_in, key_in, keys_at, is_listed, open_slots, closed_slots, IsListed, open_keys, closed_keys}
+use Rattle.pc_records.specs.SetLists.{marked_in, key_in, keys_at, is_among_slots, open_slots, closed_slots, IsListed, open_keys, closed_keys}
 use Rattle.pc_records.proofs.Lookups.{find_row, record_in, same_self}
 use Rattle.pc_records.proofs.TableSlots.{cell_of, find_slots, number_has, rows_rise}
 use Rattle.pc_records.proofs.Listing.{all_listed}
@@ -42,7 +42,7 @@ AreFound rows = (id : ℕ) (key : List ℕ) (x : Cell) → (in_slot rows id ≡ 
 
 module _ (rows : List (TableRow Cell)) (each : AreFound rows) (q : List ℕ) where
   -- of slots with rows that with the key is that which the key has
-  among_some : (n : ℕ) (x : Cell) → find key_cmp q rows ≡ Some (n, x) → (slots : List ℕ) → AllHave (HasKey rows) slots → is_among (keys_at rows slots) q ≡ is_listed slots n
+  among_some : (n : ℕ) (x : Cell) → find key_cmp q rows ≡ Some (n, x) → (slots : List ℕ) → AllHave (HasKey rows) slots → is_among (keys_at rows slots) q ≡ is_among_slots slots n
   among_some n x found [] h = refl
   among_some n x found (m ∷ ms) h = ap (λ b. b || is_among (keys_at rows ms) q) (one m h.0) ∙ ap (λ b. eqb m n || b) (among_some n x found ms h.1)
     where
@@ -79,7 +79,7 @@ module _ (rows : List (TableRow Cell)) (each : AreFound rows) (q : List ℕ) whe
   mark_found side None = false
   mark_found side (Some p) = is_marked side p.1
 
-  among_is : (side : Side) (slots : List ℕ) → ((slot : ℕ) → marked_in side (in_slot rows slot) ≡ is_listed slots slot) → mark_found side (find key_cmp q rows) ≡ is_among (keys_at rows slots) q
+  among_is : (side : Side) (slots : List ℕ) → ((slot : ℕ) → marked_in side (in_slot rows slot) ≡ is_among_slots slots slot) → mark_found side (find key_cmp q rows) ≡ is_among (keys_at rows slots) q
   among_is side slots marks = by_place (find key_cmp q rows) refl
     where
       all : AllHave (HasKey rows) slots

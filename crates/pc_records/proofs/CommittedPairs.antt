@@ -18,7 +18,7 @@ use Rattle.pc_table.proofs.PassingLaws.{none_passed, row_passed, gap_passed}
 use Rattle.pc_slots.specs.declared.cells.Cell.{Cell}
 use Rattle.pc_records.specs.Rows.{record_of, stored}
 use Rattle.pc_slots.specs.Slots.{Slot, slot_with, committed}
-use Rattle.pc_records.specs.Slots.{no_queues, slots_in, rows_of, with_entry, contents_of, content_in, committed_pairs}
+use Rattle.pc_records.specs.Slots.{no_queues, slots_in, rows_of, with_optional_entry, contents_of, content_in, committed_pairs}
 use Rattle.pc_records.proofs.Lookups.{of_slot, record_in, slot_of, find_entry, find_row, sorted_entries}
 use Rattle.pc_records.proofs.SlotRising.{contents_rise}
 use Rattle.pc_records.proofs.TableSlots.{slots_rise, find_slots, cell_of}
@@ -28,11 +28,11 @@ use Rattle.pc_dirty.specs.declared.side.Side.TheVariants.{First}
 -- the pairs of contents that are values
 abbrev pub pairs_in : List (List ℕ × Option (List ℕ)) → List (List ℕ × List ℕ)
 pairs_in [] = []
-pairs_in (e ∷ es) = with_entry e.0 e.1 (pairs_in es)
+pairs_in (e ∷ es) = with_optional_entry e.0 e.1 (pairs_in es)
 
 pub pairs_of : (slots : List Slot) → pairs_in (contents_of slots) ≡ committed_pairs slots
 pairs_of [] = refl
-pairs_of (s ∷ ss) = ap (with_entry s.key (committed s)) (pairs_of ss)
+pairs_of (s ∷ ss) = ap (with_optional_entry s.key (committed s)) (pairs_of ss)
 
 stored_in : (queues : Queues) (o : Option Slot) → of_slot committed o ≡ stored (record_in queues o)
 stored_in queues None = refl
@@ -126,4 +126,4 @@ module _ (side : Side) where
 -- what is committed, whichever side the open set is on
 pub committed_any : (side : Side) (rows : List (TableRow Cell)) → committed_pairs (slots_in First rows) ≡ committed_pairs (slots_in side rows)
 committed_any side [] = refl
-committed_any side (row ∷ rows) = ap (with_entry row.0 (committed (slot_with First row.1.0 row.0 row.1.1))) (committed_any side rows)
+committed_any side (row ∷ rows) = ap (with_optional_entry row.0 (committed (slot_with First row.1.0 row.0 row.1.1))) (committed_any side rows)

@@ -12,7 +12,7 @@ use Rattle.pc_model.specs.Replies.{is_empty, open_set, closed_set}
 use Rattle.pc_model.proofs.JoinLaws.{one_key}
 use Rattle.pc_model.proofs.MapLaws.{find-without}
 use Rattle.pc_records.specs.Rows.{Row, Record, record_of, stored, is_in_open_set, is_in_closed_set, at_point, requests_on}
-use Rattle.pc_records.specs.RowSteps.{closed_row, left_of, with_left, left_rows}
+use Rattle.pc_records.specs.RowSteps.{closed_row, record_after_take, with_left, left_rows}
 use Rattle.pc_records.specs.Following.{AreRecords, stands_kept}
 use Rattle.pc_records.proofs.Keeping.{stored-if, requests-if, open-if, closed-if, kept-if}
 use Rattle.pc_records.proofs.Rising.{rise_closed, rise_left}
@@ -72,23 +72,23 @@ closed_records base rows h after none cs qs ws ls ps are =
     kept_by (Some r) e f = e ∙ ap (λ b. is_some r.value || (not (is_empty r.requests) || (r.is_in_open_set || b))) f ∙ turn (is_some r.value) (not (is_empty r.requests)) r.is_in_open_set
 
 -- the record that a taken key has left keeps all but the closed set
-pub stored-left : (o : Option Record) → stored (left_of o) ≡ stored o
+pub stored-left : (o : Option Record) → stored (record_after_take o) ≡ stored o
 stored-left None = refl
 stored-left (Some r) = stored-if (record r { is_in_closed_set = false; pinned = None })
 
-requests-left : (o : Option Record) → requests_on (left_of o) ≡ requests_on o
+requests-left : (o : Option Record) → requests_on (record_after_take o) ≡ requests_on o
 requests-left None = refl
 requests-left (Some r) = requests-if (record r { is_in_closed_set = false; pinned = None })
 
-pub open-left : (o : Option Record) → is_in_open_set (left_of o) ≡ is_in_open_set o
+pub open-left : (o : Option Record) → is_in_open_set (record_after_take o) ≡ is_in_open_set o
 open-left None = refl
 open-left (Some r) = open-if (record r { is_in_closed_set = false; pinned = None })
 
-pub closed-left : (o : Option Record) → is_in_closed_set (left_of o) ≡ false
+pub closed-left : (o : Option Record) → is_in_closed_set (record_after_take o) ≡ false
 closed-left None = refl
 closed-left (Some r) = closed-if (record r { is_in_closed_set = false; pinned = None })
 
-kept-left : (o : Option Record) → is_some (left_of o) ≡ stands_kept (left_of o)
+kept-left : (o : Option Record) → is_some (record_after_take o) ≡ stands_kept (record_after_take o)
 kept-left None = refl
 kept-left (Some r) = kept-if (record r { is_in_closed_set = false; pinned = None })
 
@@ -111,26 +111,26 @@ left_records base rows h after k ks first once cs qs ws ls ps are =
     found_with None q = find-without key_order k q rows
     found_with (Some r) q = find-put key_cmp key_order.total q k r rows
 
-    found : (q : List ℕ) → record_of (left_rows rows k) q ≡ cond (same_bytes q k) (left_of (record_of rows k)) (record_of rows q)
-    found q = found_with (left_of (record_of rows k)) q
+    found : (q : List ℕ) → record_of (left_rows rows k) q ≡ cond (same_bytes q k) (record_after_take (record_of rows k)) (record_of rows q)
+    found q = found_with (record_after_take (record_of rows k)) q
 
-    by : {X : Type 0} (f : Option Record → X) (q : List ℕ) → f (left_of (record_of rows k)) ≡ f (record_of rows k) → f (cond (same_bytes q k) (left_of (record_of rows k)) (record_of rows q)) ≡ f (record_of rows q)
+    by : {X : Type 0} (f : Option Record → X) (q : List ℕ) → f (record_after_take (record_of rows k)) ≡ f (record_of rows k) → f (cond (same_bytes q k) (record_after_take (record_of rows k)) (record_of rows q)) ≡ f (record_of rows q)
     by f q e = by_test (same_bytes q k) refl
       where
-        by_test : (b : Bool) → same_bytes q k ≡ b → f (cond b (left_of (record_of rows k)) (record_of rows q)) ≡ f (record_of rows q)
+        by_test : (b : Bool) → same_bytes q k ≡ b → f (cond b (record_after_take (record_of rows k)) (record_of rows q)) ≡ f (record_of rows q)
         by_test true is = e ∙ ap (λ x. f (record_of rows x)) (sym (one_key q k is))
         by_test false is = refl
 
-    closed_by : (q : List ℕ) (b : Bool) → same_bytes q k ≡ b → is_in_closed_set (cond b (left_of (record_of rows k)) (record_of rows q)) ≡ is_among ks q
+    closed_by : (q : List ℕ) (b : Bool) → same_bytes q k ≡ b → is_in_closed_set (cond b (record_after_take (record_of rows k)) (record_of rows q)) ≡ is_among ks q
     closed_by q true is = closed-left (record_of rows k) ∙ sym once ∙ ap (is_among ks) (sym (one_key q k is))
     closed_by q false is = are.closed_set q ∙ ap (λ keys. is_among keys q) first ∙ ap (λ b. b || is_among ks q) is
 
-    point_by : (q : List ℕ) (b : Bool) → is_in_closed_set (cond b (left_of (record_of rows k)) (record_of rows q)) ≡ true →
-        at_point (cond b (left_of (record_of rows k)) (record_of rows q)) ≡ map_of.get (state_at base (log_of after) (point_of after)) q
+    point_by : (q : List ℕ) (b : Bool) → is_in_closed_set (cond b (record_after_take (record_of rows k)) (record_of rows q)) ≡ true →
+        at_point (cond b (record_after_take (record_of rows k)) (record_of rows q)) ≡ map_of.get (state_at base (log_of after) (point_of after)) q
     point_by q true closed = absurd (let no : false ≡ true = sym (closed-left (record_of rows k)) ∙ closed in cc)
     point_by q false closed = are.point q closed ∙ sym (ps q (sym (are.closed_set q) ∙ closed))
 
-    kept_by : (q : List ℕ) (b : Bool) → is_some (cond b (left_of (record_of rows k)) (record_of rows q)) ≡ stands_kept (cond b (left_of (record_of rows k)) (record_of rows q))
+    kept_by : (q : List ℕ) (b : Bool) → is_some (cond b (record_after_take (record_of rows k)) (record_of rows q)) ≡ stands_kept (cond b (record_after_take (record_of rows k)) (record_of rows q))
     kept_by q true = kept-left (record_of rows k)
     kept_by q false = are.kept q
 

@@ -9,7 +9,7 @@ use Rattle.pc_locks.proofs.KeeperLaws.{other_ends, other_state}
 use Rattle.pc_table.specs.Rows.{TableRow, Contents, in_slot, slot_of as table_slot, with_record_in, with_row, without_slot, IsNewSlot, AreInSlots}
 use Rattle.pc_table.proofs.RowLaws.{same_some}
 use Rattle.pc_slots.specs.declared.cells.Cell.{Cell}
-use Rattle.pc_slots.specs.Words.{chain_in, words_of, with_ends}
+use Rattle.pc_slots.specs.Words.{chain_in, cell_words, with_ends}
 use Rattle.pc_slots.specs.Slots.{Slot, slot_with, base_cell}
 use Rattle.pc_records.specs.Slots.{slots_in, cells_in, base_row, at_number}
 use Rattle.pc_records.specs.Ends.{ends_of, ends_in, queues_in, KeepSlots}
@@ -99,5 +99,5 @@ module _ (table : Contents Cell) (a : AreInSlots table) (id : ℕ) (x : Cell) (h
     capacity = refl;
     row = λ slot. ap is_some (in_changed id y table.rows slot) ∙ some_stays slot (in_slot table.rows slot);
     slots = λ side. changed_slots side table id x y (λ s. s) a has (λ number key. ap (slot_with side number key) rest) ∙ at_same id (slots_in side table.rows);
-    sets = changed_sets table.rows id x y has (ap words_of rest);
+    sets = changed_sets table.rows id x y has (ap cell_words rest);
   }

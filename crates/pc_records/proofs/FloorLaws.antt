@@ -11,7 +11,7 @@ use Rattle.std.specs.FinMap.{find}
 use Rattle.pc_model.specs.Database.{key_cmp, same_bytes}
 use Rattle.pc_model.specs.Locks.{Queue, is_ungranted, outcome, queue_after, queue_without, request_in}
 use Rattle.pc_model.specs.Queues.{stands_in}
-use Rattle.pc_locks.specs.States.{Queues, queue_at, slots_of, first_of, SetsAt}
+use Rattle.pc_locks.specs.States.{Queues, queue_at, slots_of, first_in_list, SetsAt}
 use Rattle.pc_dirty.specs.declared.side.Side.{Side}
 use Rattle.pc_dirty.specs.declared.dirty.Dirty.{Dirty}
 use Rattle.pc_dirty.specs.Sets.{other_side, AreSets}
@@ -22,10 +22,10 @@ use Rattle.pc_slots.specs.declared.versions.Writer.{Writer}
 use Rattle.pc_slots.specs.Slots.{Slot, writer_in, put_slot, put_beside, saved, settled, closed_slot}
 use Rattle.pc_slots.specs.Words.{is_marked}
 use Rattle.pc_records.specs.Ends.{ends_in, queues_in, KeepSlots}
-use Rattle.pc_records.specs.RowSteps.{is_waiting}
+use Rattle.pc_records.specs.RowSteps.{is_waiting_in_rows}
 use Rattle.pc_records.specs.Slots.{slots_in, at_number, rows_of, numbers_of, times, AreSlotsKept}
 use Rattle.pc_records.specs.SetLists.{IsListed, KeepSets, HasPlace, next_in, open_slots, entering, open_keys, closed_keys}
-use Rattle.pc_records.specs.Floor.{Spot, spot_of, spots_of, floor_of, at_spot, with_spot, changed, queued, let_go, asked, queue_of, has_spot, stands_at, stands_anywhere, waits_anywhere, newly_opened, number_of}
+use Rattle.pc_records.specs.Floor.{Spot, spot_of, spots_of, floor_of, at_spot, with_spot, with_slot_changed, queued, let_go, asked, queue_at_slot, has_spot, stands_at, stands_anywhere, waits_anywhere, newly_opened, slot_number_of}
 use Rattle.pc_records.proofs.Listing.{kept_open, kept_closed}
 use Rattle.pc_records.proofs.Moments.{settled_number}
 use Rattle.pc_records.proofs.SidesTurned.{slots_turned, turned_open, turned_closed}
@@ -71,13 +71,13 @@ put_key point t class copy value slot = by_writer slot.writer
     by_writer (Some w) = refl
 
 -- the spots where the slot of a number has changed, and kept its number
-pub spots_changed : (f : Slot → Slot) (queues : Queues) (id : ℕ) → ((s : Slot) → (f s).number ≡ s.number) → (slots : List Slot) → spots_of queues (map (at_number f id) slots) ≡ map (at_spot (changed f) id) (spots_of queues slots)
+pub spots_changed : (f : Slot → Slot) (queues : Queues) (id : ℕ) → ((s : Slot) → (f s).number ≡ s.number) → (slots : List Slot) → spots_of queues (map (at_number f id) slots) ≡ map (at_spot (with_slot_changed f) id) (spots_of queues slots)
 spots_changed f queues id keeps [] = refl
 spots_changed f queues id keeps (s ∷ slots) =
     ap (λ (x : Spot). x ∷ spots_of queues (map (at_number f id) slots)) (one (eqb s.number id))
-    ∙ ap (λ (xs : List Spot). at_spot (changed f) id (spot_of queues s) ∷ xs) (spots_changed f queues id keeps slots)
+    ∙ ap (λ (xs : List Spot). at_spot (with_slot_changed f) id (spot_of queues s) ∷ xs) (spots_changed f queues id keeps slots)
   where
-    one : (b : Bool) → spot_of queues (cond b (f s) s) ≡ cond b (changed f (spot_of queues s)) (spot_of queues s)
+    one : (b : Bool) → spot_of queues (cond b (f s) s) ≡ cond b (with_slot_changed f (spot_of queues s)) (spot_of queues s)
     one true = ap (λ n. record { slot = f s; queue = queue_at queues n }) (keeps s)
     one false = refl
 
@@ -101,34 +101,34 @@ spots_alike queues new alike [] = refl
 spots_alike queues new alike (s ∷ slots) = ap (λ (q : Queue). record { slot = s; queue = q } ∷ spots_of new slots) (alike s.number) ∙ ap (λ (xs : List Spot). spot_of queues s ∷ xs) (spots_alike queues new alike slots)
 
 -- the queue at a slot that is there
-pub queue_there : (queues : Queues) (id : ℕ) (slots : List Slot) → has_spot (spots_of queues slots) id ≡ true → queue_of (spots_of queues slots) id ≡ queue_at queues id
+pub queue_there : (queues : Queues) (id : ℕ) (slots : List Slot) → has_spot (spots_of queues slots) id ≡ true → queue_at_slot (spots_of queues slots) id ≡ queue_at queues id
 queue_there queues id [] has = absurd (cc (has))
 queue_there queues id (s ∷ slots) has = by_test (eqb s.number id) refl has (queue_there queues id slots)
   where
-    by_test : (b : Bool) → eqb s.number id ≡ b → (b || has_spot (spots_of queues slots) id) ≡ true → (has_spot (spots_of queues slots) id ≡ true → queue_of (spots_of queues slots) id ≡ queue_at queues id) → cond b (queue_at queues s.number) (queue_of (spots_of queues slots) id) ≡ queue_at queues id
+    by_test : (b : Bool) → eqb s.number id ≡ b → (b || has_spot (spots_of queues slots) id) ≡ true → (has_spot (spots_of queues slots) id ≡ true → queue_at_slot (spots_of queues slots) id ≡ queue_at queues id) → cond b (queue_at queues s.number) (queue_at_slot (spots_of queues slots) id) ≡ queue_at queues id
     by_test true is h rest =
         let same : s.number ≡ id = grind (arith, nat_tests, is) in
         ap (queue_at queues) same
     by_test false is h rest = rest h
 
 -- a transaction waits somewhere as the rows have it
-pub waits_alike : (t : ℕ) (queues : Queues) (slots : List Slot) → waits_anywhere (spots_of queues slots) t ≡ is_waiting (rows_of queues slots) t
+pub waits_alike : (t : ℕ) (queues : Queues) (slots : List Slot) → waits_anywhere (spots_of queues slots) t ≡ is_waiting_in_rows (rows_of queues slots) t
 waits_alike t queues [] = refl
 waits_alike t queues (s ∷ slots) = ap (λ b. is_ungranted (request_in (queue_at queues s.number) t) || b) (waits_alike t queues slots)
 
 -- and as the locks do
 pub waits_there : (side : Side) (rows : List (TableRow Cell)) (locks : keepers.KeptRequests) (t : ℕ) → AreSlotsKept (slots_in side rows) (queues_in rows locks) → keepers.AreEnds (ends_in rows) locks → waits_anywhere (spots_of (queues_in rows locks) (slots_in side rows)) t ≡ false
-    → states.is_waiting (keepers.state_of (ends_in rows) locks) t ≡ false
+    → states.is_waiting_in_state (keepers.state_of (ends_in rows) locks) t ≡ false
 waits_there side rows locks t kept ends none = waits_same (slots_in side rows) (queues_in rows locks) (keepers.lists_of locks) t ends.settled.linked kept ∙ sym (waits_alike t (queues_in rows locks) (slots_in side rows)) ∙ none
 
 module _ (f : Slot → Slot) (id : ℕ) (table new : Contents Cell) (locks : keepers.KeptRequests) (sets : Dirty) (side : Side) (is : side ≡ sets.side) (keeps : (s : Slot) → (f s).number ≡ s.number) where
   -- the floor where one slot has changed
   pub floor_changed : slots_in side new.rows ≡ map (at_number f id) (slots_in side table.rows) → new.capacity ≡ table.capacity → ends_in new.rows ≡ ends_in table.rows → KeepSets table.rows new.rows → IsListed table.rows sets
       → floor_of new.capacity (queues_in new.rows locks) (slots_in sets.side new.rows) (open_keys new.rows sets) (closed_keys new.rows sets)
-      ≡ with_spot (changed f) id (floor_of table.capacity (queues_in table.rows locks) (slots_in sets.side table.rows) (open_keys table.rows sets) (closed_keys table.rows sets))
+      ≡ with_spot (with_slot_changed f) id (floor_of table.capacity (queues_in table.rows locks) (slots_in sets.side table.rows) (open_keys table.rows sets) (closed_keys table.rows sets))
   floor_changed slots capacity ends keep listed =
       let here : slots_in sets.side new.rows ≡ map (at_number f id) (slots_in sets.side table.rows) = subst (λ (s : Side). slots_in s new.rows ≡ map (at_number f id) (slots_in s table.rows)) is slots in
-      let spots : spots_of (queues_in new.rows locks) (slots_in sets.side new.rows) ≡ map (at_spot (changed f) id) (spots_of (queues_in table.rows locks) (slots_in sets.side table.rows)) =
+      let spots : spots_of (queues_in new.rows locks) (slots_in sets.side new.rows) ≡ map (at_spot (with_slot_changed f) id) (spots_of (queues_in table.rows locks) (slots_in sets.side table.rows)) =
       ap (λ (e : ℕ → Chain ℕ). spots_of (keepers.queues_of e locks) (slots_in sets.side new.rows)) ends ∙ ap (spots_of (queues_in table.rows locks)) here ∙ spots_changed f (queues_in table.rows locks) id keeps (slots_in sets.side table.rows) in
       λ i. record {
         capacity = capacity i;
@@ -146,9 +146,9 @@ opens_there side queues id (row ∷ rows) = elim (eqb row.1.0 id) as (λ b. ente
 pub floor_settled : (point id : ℕ) (table new : Contents Cell) (locks : keepers.KeptRequests) (sets after : Dirty) → slots_in sets.side new.rows ≡ map (at_number (settled point) id) (slots_in sets.side table.rows) → new.capacity ≡ table.capacity → ends_in new.rows ≡ ends_in table.rows → after.side ≡ sets.side
     → open_keys new.rows after ≡ open_keys table.rows sets ++ entering sets.side (in_slot table.rows id) → closed_keys new.rows after ≡ closed_keys table.rows sets
     → floor_of new.capacity (queues_in new.rows locks) (slots_in after.side new.rows) (open_keys new.rows after) (closed_keys new.rows after)
-    ≡ record (with_spot (changed (settled point)) id (floor_of table.capacity (queues_in table.rows locks) (slots_in sets.side table.rows) (open_keys table.rows sets) (closed_keys table.rows sets))) { opened = open_keys table.rows sets ++ newly_opened (spots_of (queues_in table.rows locks) (slots_in sets.side table.rows)) id }
+    ≡ record (with_spot (with_slot_changed (settled point)) id (floor_of table.capacity (queues_in table.rows locks) (slots_in sets.side table.rows) (open_keys table.rows sets) (closed_keys table.rows sets))) { opened = open_keys table.rows sets ++ newly_opened (spots_of (queues_in table.rows locks) (slots_in sets.side table.rows)) id }
 floor_settled point id table new locks sets after slots capacity ends side opened closed =
-    let spots : spots_of (queues_in new.rows locks) (slots_in after.side new.rows) ≡ map (at_spot (changed (settled point)) id) (spots_of (queues_in table.rows locks) (slots_in sets.side table.rows)) =
+    let spots : spots_of (queues_in new.rows locks) (slots_in after.side new.rows) ≡ map (at_spot (with_slot_changed (settled point)) id) (spots_of (queues_in table.rows locks) (slots_in sets.side table.rows)) =
     ap (λ (e : ℕ → Chain ℕ). spots_of (keepers.queues_of e locks) (slots_in after.side new.rows)) ends ∙ ap (λ (s : Side). spots_of (queues_in table.rows locks) (slots_in s new.rows)) side ∙ ap (spots_of (queues_in table.rows locks)) slots ∙ spots_changed (settled point) (queues_in table.rows locks) id (settled_number point) (slots_in sets.side table.rows) in
     λ i. record {
       capacity = capacity i;
@@ -158,9 +158,9 @@ floor_settled point id table new locks sets after slots capacity ends side opene
     }
 
 -- the number of a key's slot, as the table has it
-pub number_there : (side : Side) (queues : Queues) (key : List ℕ) (rows : List (TableRow Cell)) → table_slot rows key ≡ number_of (spots_of queues (slots_in side rows)) key
+pub number_there : (side : Side) (queues : Queues) (key : List ℕ) (rows : List (TableRow Cell)) → table_slot rows key ≡ slot_number_of (spots_of queues (slots_in side rows)) key
 number_there side queues key [] = refl
-number_there side queues key (row ∷ rows) = elim (same_bytes key row.0) as (λ b. option_map (λ (place : ℕ × Cell). place.0) (cond b (Some row.1) (find key_cmp key rows)) ≡ cond b (Some row.1.0) (number_of (spots_of queues (slots_in side rows)) key)) [ true ↦ refl | false ↦ number_there side queues key rows ]
+number_there side queues key (row ∷ rows) = elim (same_bytes key row.0) as (λ b. option_map (λ (place : ℕ × Cell). place.0) (cond b (Some row.1) (find key_cmp key rows)) ≡ cond b (Some row.1.0) (slot_number_of (spots_of queues (slots_in side rows)) key)) [ true ↦ refl | false ↦ number_there side queues key rows ]
 
 -- a row has its slot
 pub row_spot : (side : Side) (queues : Queues) (id : ℕ) (rows : List (TableRow Cell)) → HasRow rows id → has_spot (spots_of queues (slots_in side rows)) id ≡ true
@@ -176,9 +176,9 @@ found_spot side queues rows (Some id) has = row_spot side queues id rows has
 found_spot side queues rows None has = tt
 
 -- the spots where every slot was closed
-spots_closed : (queues : Queues) (slots : List Slot) → spots_of queues (map closed_slot slots) ≡ map (changed closed_slot) (spots_of queues slots)
+spots_closed : (queues : Queues) (slots : List Slot) → spots_of queues (map closed_slot slots) ≡ map (with_slot_changed closed_slot) (spots_of queues slots)
 spots_closed queues [] = refl
-spots_closed queues (s ∷ slots) = ap (λ (xs : List Spot). changed closed_slot (spot_of queues s) ∷ xs) (spots_closed queues slots)
+spots_closed queues (s ∷ slots) = ap (λ (xs : List Spot). with_slot_changed closed_slot (spot_of queues s) ∷ xs) (spots_closed queues slots)
 
 -- the open set was closed
 module _ (rows : List (TableRow Cell)) (locks : keepers.KeptRequests) (sets new : Dirty) (kept : AreSlotsKept (slots_in sets.side rows) (queues_in rows locks)) (listed : IsListed rows sets) (none : closed_keys rows sets ≡ []) (side : new.side ≡ other_side sets.side)
@@ -190,7 +190,7 @@ module _ (rows : List (TableRow Cell)) (locks : keepers.KeptRequests) (sets new 
   kept_turned = kept_map closed_slot (slots_in sets.side rows) (slots_in new.side rows) (queues_in rows locks) turned_slots (λ s. refl) (λ s. refl) kept
 
   pub floor_closed : (capacity : ℕ) → floor_of capacity (queues_in rows locks) (slots_in new.side rows) (open_keys rows new) (closed_keys rows new)
-      ≡ record (floor_of capacity (queues_in rows locks) (slots_in sets.side rows) (open_keys rows sets) (closed_keys rows sets)) { spots = map (changed closed_slot) (spots_of (queues_in rows locks) (slots_in sets.side rows)); opened = []; closed = open_keys rows sets }
+      ≡ record (floor_of capacity (queues_in rows locks) (slots_in sets.side rows) (open_keys rows sets) (closed_keys rows sets)) { spots = map (with_slot_changed closed_slot) (spots_of (queues_in rows locks) (slots_in sets.side rows)); opened = []; closed = open_keys rows sets }
   floor_closed capacity = λ i. record {
     capacity = capacity;
     spots = (ap (spots_of (queues_in rows locks)) turned_slots ∙ spots_closed (queues_in rows locks) (slots_in sets.side rows)) i;
@@ -270,7 +270,7 @@ module _ (t : ℕ) (table new : Contents Cell) (locks later : keepers.KeptReques
   kept_released (Some id) gone same = subst (λ (ss : List Slot). AreSlotsKept ss (queues_in new.rows later)) (sym (keep.slots sets.side)) (kept_queue id (queue_without (queue_at (queues_in table.rows locks) id) t) (slots_in sets.side table.rows) (queues_in table.rows locks) (queues_in new.rows later) (λ none. ap (λ q. queue_without q t) (kept.bare id none)) gone kept)
   kept_released None gone same = subst (λ (p : Contents Cell × keepers.KeptRequests). AreSlotsKept (slots_in sets.side p.0.rows) (queues_in p.0.rows p.1)) (λ i. (sym same.1 i, sym same.0 i)) kept
 
-  pub released : (r : Option ℕ) → r ≡ first_of (slots_of (keepers.lists_of locks) t) → Gone r
+  pub released : (r : Option ℕ) → r ≡ first_in_list (slots_of (keepers.lists_of locks) t) → Gone r
       → IfSome r (λ id. (stands_at (spots_of (queues_in table.rows locks) (slots_in sets.side table.rows)) id t ≡ true) × (floor_of new.capacity (queues_in new.rows later) (slots_in sets.side new.rows) (open_keys new.rows sets) (closed_keys new.rows sets)
       ≡ with_spot (let_go t) id (floor_of table.capacity (queues_in table.rows locks) (slots_in sets.side table.rows) (open_keys table.rows sets) (closed_keys table.rows sets))))
   released None first gone = tt
@@ -278,7 +278,7 @@ module _ (t : ℕ) (table new : Contents Cell) (locks later : keepers.KeptReques
       let stands = stands_first t id (queues_in table.rows locks) (keepers.lists_of locks) ends.settled.linked first in
       (stands_spot t id (queues_in table.rows locks) (slots_in sets.side table.rows) stands (slot_there t id (slots_in sets.side table.rows) (queues_in table.rows locks) kept stands), floor_queued (λ q. queue_without q t) id table new locks later sets keep gone listed)
 
-  pub none_released_there : (r : Option ℕ) → r ≡ first_of (slots_of (keepers.lists_of locks) t) → Same r
+  pub none_released_there : (r : Option ℕ) → r ≡ first_in_list (slots_of (keepers.lists_of locks) t) → Same r
       → IfNone r ((floor_of new.capacity (queues_in new.rows later) (slots_in sets.side new.rows) (open_keys new.rows sets) (closed_keys new.rows sets)
       ≡ floor_of table.capacity (queues_in table.rows locks) (slots_in sets.side table.rows) (open_keys table.rows sets) (closed_keys table.rows sets)) × (stands_anywhere (spots_of (queues_in table.rows locks) (slots_in sets.side table.rows)) t ≡ false))
   none_released_there (Some id) first same = tt
@@ -297,7 +297,7 @@ module _ (t id : ℕ) (mode : Mode) (table new : Contents Cell) (locks later : k
   abbrev Stays : {E : Type 0} → Result Outcome E → Type 0
   Stays r = OnErr r (states.AreAlike (keepers.state_of (ends_in new.rows) later) (keepers.state_of (ends_in table.rows) locks))
 
-  pub asked_told : {E : Type 0} (r : Result Outcome E) → IfOk r Told → IfOk r (λ answer. answer ≡ outcome (queue_of (spots_of (queues_in table.rows locks) (slots_in sets.side table.rows)) id) t mode)
+  pub asked_told : {E : Type 0} (r : Result Outcome E) → IfOk r Told → IfOk r (λ answer. answer ≡ outcome (queue_at_slot (spots_of (queues_in table.rows locks) (slots_in sets.side table.rows)) id) t mode)
   asked_told (Ok answer) told = told ∙ ap (λ q. outcome q t mode) (sym (queue_there (queues_in table.rows locks) id (slots_in sets.side table.rows) there))
   asked_told (Err e) told = tt
 

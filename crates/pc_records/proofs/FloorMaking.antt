@@ -25,7 +25,7 @@ use Rattle.pc_types.specs.declared.Class.TheVariants.{Before, During, After}
 use Rattle.pc_records.specs.Ends.{ends_in, queues_in}
 use Rattle.pc_records.specs.Slots.{slots_in, slot_in, cells_in, base_row, row_of, rows_of, times, numbers_of, AreSlotsKept, no_queues}
 use Rattle.pc_records.specs.SetLists.{IsListed, open_keys, closed_keys}
-use Rattle.pc_records.specs.Floor.{Spot, spot_of, spots_of, floor_of, has_spot, entered, new_spot, of_spot, copy_kept, committed_at, unnumbered, first_spot}
+use Rattle.pc_records.specs.Floor.{Spot, spot_of, spots_of, floor_of, has_spot, spots_with, new_spot, of_spot, copy_kept, committed_at, unnumbered, first_spot}
 use Rattle.pc_records.proofs.BlankSlots.{blank_slot}
 use Rattle.pc_records.proofs.EndsKept.{ends_with}
 use Rattle.pc_records.proofs.FloorLaws.{row_spot}
@@ -37,13 +37,13 @@ use Rattle.pc_records.proofs.TableSlots.{no_find, no_number, slots_rise, went_in
 use Rattle.pc_locks.specs.Keepers as keepers
 
 -- the spots with a row that went in
-put_spots : (side : Side) (queues : Queues) (key : List ℕ) (n : ℕ) (x : Cell) (rows : List (TableRow Cell)) → find key_cmp key rows ≡ None → spots_of queues (slots_in side (put key_cmp key (n, x) rows)) ≡ entered (spot_of queues (slot_with side n key x)) (spots_of queues (slots_in side rows))
+put_spots : (side : Side) (queues : Queues) (key : List ℕ) (n : ℕ) (x : Cell) (rows : List (TableRow Cell)) → find key_cmp key rows ≡ None → spots_of queues (slots_in side (put key_cmp key (n, x) rows)) ≡ spots_with (spot_of queues (slot_with side n key x)) (spots_of queues (slots_in side rows))
 put_spots side queues key n x [] none = refl
 put_spots side queues key n x (row ∷ rows) none = by_test (key_cmp key row.0) none (put_spots side queues key n x rows)
   where
-    by_test : (o : Ordering) → cond (is_eq o) (Some row.1) (find key_cmp key rows) ≡ None → (find key_cmp key rows ≡ None → spots_of queues (slots_in side (put key_cmp key (n, x) rows)) ≡ entered (spot_of queues (slot_with side n key x)) (spots_of queues (slots_in side rows))) →
+    by_test : (o : Ordering) → cond (is_eq o) (Some row.1) (find key_cmp key rows) ≡ None → (find key_cmp key rows ≡ None → spots_of queues (slots_in side (put key_cmp key (n, x) rows)) ≡ spots_with (spot_of queues (slot_with side n key x)) (spots_of queues (slots_in side rows))) →
         spots_of queues (slots_in side (by_order o ((key, (n, x)) ∷ row ∷ rows) ((row.0, (n, x)) ∷ rows) (row ∷ put key_cmp key (n, x) rows)))
-        ≡ cond (is_lt o) (spot_of queues (slot_with side n key x) ∷ spots_of queues (slots_in side (row ∷ rows))) (spot_of queues (slot_in side row) ∷ entered (spot_of queues (slot_with side n key x)) (spots_of queues (slots_in side rows)))
+        ≡ cond (is_lt o) (spot_of queues (slot_with side n key x) ∷ spots_of queues (slots_in side (row ∷ rows))) (spot_of queues (slot_in side row) ∷ spots_with (spot_of queues (slot_with side n key x)) (spots_of queues (slots_in side rows)))
     by_test Less none rest = refl
     by_test Equal none rest = absurd (no_row (sym none))
     by_test Greater none rest = ap (λ (xs : List Spot). spot_of queues (slot_in side row) ∷ xs) (rest none)
@@ -82,14 +82,14 @@ module _ (old new : Contents Cell) (key : List ℕ) (locks : keepers.KeptRequest
     listed_one : IsListed new.rows sets
     listed_one = kept_listed old.rows new.rows sets (sets_with old new key id None none fresh made) listed
 
-    spots_one : spots_of (queues_in new.rows locks) (slots_in sets.side new.rows) ≡ entered (new_spot id key) (spots_of (queues_in old.rows locks) (slots_in sets.side old.rows))
+    spots_one : spots_of (queues_in new.rows locks) (slots_in sets.side new.rows) ≡ spots_with (new_spot id key) (spots_of (queues_in old.rows locks) (slots_in sets.side old.rows))
     spots_one =
         ap (λ (qs : Queues). spots_of qs (slots_in sets.side new.rows)) queues_stay ∙ ap (λ (t : Contents Cell). spots_of (queues_in old.rows locks) (slots_in sets.side t.rows)) made
         ∙ put_spots sets.side (queues_in old.rows locks) key id (base_cell None) old.rows (no_find old.rows key none)
-        ∙ ap (λ (s : Spot). entered s (spots_of (queues_in old.rows locks) (slots_in sets.side old.rows))) (ap (spot_of (queues_in old.rows locks)) (blank_slot sets.side id key None) ∙ ap (λ q. record { slot = new_slot id key; queue = q }) (kept.bare id apart))
+        ∙ ap (λ (s : Spot). spots_with s (spots_of (queues_in old.rows locks) (slots_in sets.side old.rows))) (ap (spot_of (queues_in old.rows locks)) (blank_slot sets.side id key None) ∙ ap (λ q. record { slot = new_slot id key; queue = q }) (kept.bare id apart))
 
     floor_one : floor_of new.capacity (queues_in new.rows locks) (slots_in sets.side new.rows) (open_keys new.rows sets) (closed_keys new.rows sets)
-        ≡ record (floor_of old.capacity (queues_in old.rows locks) (slots_in sets.side old.rows) (open_keys old.rows sets) (closed_keys old.rows sets)) { spots = entered (new_spot id key) (spots_of (queues_in old.rows locks) (slots_in sets.side old.rows)) }
+        ≡ record (floor_of old.capacity (queues_in old.rows locks) (slots_in sets.side old.rows) (open_keys old.rows sets) (closed_keys old.rows sets)) { spots = spots_with (new_spot id key) (spots_of (queues_in old.rows locks) (slots_in sets.side old.rows)) }
     floor_one = λ i. record {
       capacity = ap (λ (t : Contents Cell). t.capacity) made i;
       spots = spots_one i;
@@ -121,11 +121,11 @@ module _ (old new : Contents Cell) (key : List ℕ) (locks : keepers.KeptRequest
           by_result (Err e) made fresh same = subst (λ (t : Contents Cell). IsListed t.rows sets) (sym same) listed
 
     pub made_floor : IfOk r (λ id. floor_of new.capacity (queues_in new.rows locks) (slots_in sets.side new.rows) (open_keys new.rows sets) (closed_keys new.rows sets)
-        ≡ record (floor_of old.capacity (queues_in old.rows locks) (slots_in sets.side old.rows) (open_keys old.rows sets) (closed_keys old.rows sets)) { spots = entered (new_spot id key) (spots_of (queues_in old.rows locks) (slots_in sets.side old.rows)) })
+        ≡ record (floor_of old.capacity (queues_in old.rows locks) (slots_in sets.side old.rows) (open_keys old.rows sets) (closed_keys old.rows sets)) { spots = spots_with (new_spot id key) (spots_of (queues_in old.rows locks) (slots_in sets.side old.rows)) })
     made_floor = by_result r made fresh
       where
         by_result : (r : Result ℕ E) → IfOk r Made → IfOk r (IsNewSlot old) → IfOk r (λ id. floor_of new.capacity (queues_in new.rows locks) (slots_in sets.side new.rows) (open_keys new.rows sets) (closed_keys new.rows sets)
-            ≡ record (floor_of old.capacity (queues_in old.rows locks) (slots_in sets.side old.rows) (open_keys old.rows sets) (closed_keys old.rows sets)) { spots = entered (new_spot id key) (spots_of (queues_in old.rows locks) (slots_in sets.side old.rows)) })
+            ≡ record (floor_of old.capacity (queues_in old.rows locks) (slots_in sets.side old.rows) (open_keys old.rows sets) (closed_keys old.rows sets)) { spots = spots_with (new_spot id key) (spots_of (queues_in old.rows locks) (slots_in sets.side old.rows)) })
         by_result (Ok id) made fresh = floor_one id made fresh
         by_result (Err e) made fresh = tt
 

@@ -17,7 +17,7 @@ use Rattle.pc_records.specs.Slots.{slots_in, at_number, row_of, rows_of, AreSlot
 use Rattle.pc_records.specs.Rows.{record_of, at_point}
 use Rattle.pc_records.specs.Tables.{first_pinned}
 use Rattle.pc_records.specs.SetLists.{HasPlace, next_in, marked_in, key_in, keys_at, AreSetLists, IsUnmarked, IsListed, open_slots, closed_slots, open_keys, closed_keys}
-use Rattle.pc_records.specs.Floor.{spots_of, floor_of, at_spot, changed, TakesFirstSpot, content_at, first_of_closed}
+use Rattle.pc_records.specs.Floor.{spots_of, floor_of, at_spot, with_slot_changed, TakesFirstSpot, content_at_point, first_of_closed}
 use Rattle.pc_records.proofs.FloorLaws.{number_there, spots_changed, kept_changed}
 use Rattle.pc_records.proofs.KeepingSets.{sets_same}
 use Rattle.pc_records.proofs.Leaving.{first_slot, left_listed, left_open, left_closed}
@@ -50,7 +50,7 @@ module _ (table : Contents Cell) (locks : keepers.KeptRequests) (sets now : Dirt
     first_keys : closed_keys table.rows sets ≡ key_in (in_slot table.rows id) ∷ keys_at table.rows (rest_of (closed_slots table.rows sets))
     first_keys = firsts table.rows (closed_slots table.rows sets) id first
 
-    spots : spots_of (queues_in marked.rows locks) (slots_in now.side marked.rows) ≡ map (at_spot (changed taken_slot) id) (spots_of (queues_in table.rows locks) (slots_in sets.side table.rows))
+    spots : spots_of (queues_in marked.rows locks) (slots_in now.side marked.rows) ≡ map (at_spot (with_slot_changed taken_slot) id) (spots_of (queues_in table.rows locks) (slots_in sets.side table.rows))
     spots =
         ap (λ (e : ℕ → Chain ℕ). spots_of (keepers.queues_of e locks) (slots_in now.side marked.rows)) ends ∙ ap (λ (s : Side). spots_of (queues_in table.rows locks) (slots_in s marked.rows)) side
         ∙ ap (spots_of (queues_in table.rows locks)) (subst (λ (s : Side). slots_in s marked.rows ≡ map (at_number taken_slot id) (slots_in s table.rows)) is slots)
@@ -97,9 +97,9 @@ module _ (table : Contents Cell) (locks : keepers.KeptRequests) (sets now : Dirt
     floor_none = λ i. floor_of table.capacity (queues_in table.rows locks) (slots_in (side i) table.rows) (open_keys_named table.rows now (open_slots table.rows sets) (closed_slots table.rows sets) lists i) (closed_keys_named table.rows now (open_slots table.rows sets) (closed_slots table.rows sets) lists i)
 
 -- what a key has at the point, as its row has it
-row_content : (queues : Queues) (slots : List Slot) (key : List ℕ) → at_point (record_of (rows_of queues slots) key) ≡ content_at (spots_of queues slots) key
+row_content : (queues : Queues) (slots : List Slot) (key : List ℕ) → at_point (record_of (rows_of queues slots) key) ≡ content_at_point (spots_of queues slots) key
 row_content queues [] key = refl
-row_content queues (s ∷ slots) key = elim (same_bytes key s.key) as (λ b. at_point (cond b (Some (row_of queues s).1) (record_of (rows_of queues slots) key)) ≡ cond b (pinned s) (content_at (spots_of queues slots) key)) [ true ↦ refl | false ↦ row_content queues slots key ]
+row_content queues (s ∷ slots) key = elim (same_bytes key s.key) as (λ b. at_point (cond b (Some (row_of queues s).1) (record_of (rows_of queues slots) key)) ≡ cond b (pinned s) (content_at_point (spots_of queues slots) key)) [ true ↦ refl | false ↦ row_content queues slots key ]
 
 pub first_is : (queues : Queues) (slots : List Slot) (keys : List (List ℕ)) → first_pinned (rows_of queues slots) keys ≡ first_of_closed (spots_of queues slots) keys
 first_is queues slots [] = refl

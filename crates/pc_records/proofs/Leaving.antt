@@ -9,24 +9,24 @@ use Rattle.pc_dirty.specs.Sets.{other_side, AreSets, HasNoRepeats}
 use Rattle.pc_dirty.proofs.SetLaws.{closed_once, closed_have}
 use Rattle.pc_table.specs.Rows.{TableRow, Contents, in_slot, slot_of as table_slot, HasRow, AreInSlots}
 use Rattle.pc_slots.specs.declared.cells.Cell.{Cell}
-use Rattle.pc_records.specs.SetLists.{HasPlace, next_in, marked_in, key_in, keys_at, is_listed, AreSetLists, open_slots, closed_slots, IsListed, open_keys, closed_keys, KeepSets, IsUnmarked}
+use Rattle.pc_records.specs.SetLists.{HasPlace, next_in, marked_in, key_in, keys_at, is_among_slots, AreSetLists, open_slots, closed_slots, IsListed, open_keys, closed_keys, KeepSets, IsUnmarked}
 use Rattle.pc_records.proofs.TableSlots.{row_in}
 use Rattle.pc_records.proofs.Listing.{named, open_keys_named, closed_keys_named, lists_keep, open_keys_keep, closed_keys_keep}
 use Rattle.pc_records.proofs.Marking.{linked_keep}
 use Rattle.pc_records.proofs.Settling.{all_keys}
 
 -- what a list has once its first is gone
-rest_listed : (slots : List ℕ) (id slot : ℕ) → Some id ≡ first_of slots → HasNoRepeats slots → cond (eqb slot id) false (is_listed slots slot) ≡ is_listed (rest_of slots) slot
+rest_listed : (slots : List ℕ) (id slot : ℕ) → Some id ≡ first_of slots → HasNoRepeats slots → cond (eqb slot id) false (is_among_slots slots slot) ≡ is_among_slots (rest_of slots) slot
 rest_listed [] id slot e once = absurd cc
 rest_listed (x ∷ xs) id slot e once = let f : id ≡ x = cc in by_test (eqb slot id) refl f
   where
-    unlisted : (ys : List ℕ) → Avoids slot ys → is_listed ys slot ≡ false
+    unlisted : (ys : List ℕ) → Avoids slot ys → is_among_slots ys slot ≡ false
     unlisted [] a = refl
-    unlisted (y ∷ ys) a = ap (λ b. b || is_listed ys slot) (ne_eqb y slot a.0) ∙ unlisted ys a.1
+    unlisted (y ∷ ys) a = ap (λ b. b || is_among_slots ys slot) (ne_eqb y slot a.0) ∙ unlisted ys a.1
 
-    by_test : (b : Bool) → eqb slot id ≡ b → id ≡ x → cond b false (is_listed (x ∷ xs) slot) ≡ is_listed xs slot
+    by_test : (b : Bool) → eqb slot id ≡ b → id ≡ x → cond b false (is_among_slots (x ∷ xs) slot) ≡ is_among_slots xs slot
     by_test true is f = sym (unlisted xs (subst (λ y. Avoids y xs) (sym (eqb-true slot id is ∙ f)) once.0))
-    by_test false is f = ap (λ b. b || is_listed xs slot) (ne_eqb x slot (λ g. eqb-false slot id is (sym g ∙ sym f)))
+    by_test false is f = ap (λ b. b || is_among_slots xs slot) (ne_eqb x slot (λ g. eqb-false slot id is (sym g ∙ sym f)))
 
 keys_first : (rows : List (TableRow Cell)) (slots : List ℕ) (id : ℕ) (key : List ℕ) (keys : List (List ℕ)) → Some id ≡ first_of slots → keys_at rows slots ≡ key ∷ keys → (key_in (in_slot rows id) ≡ key) × (keys_at rows (rest_of slots) ≡ keys)
 keys_first rows [] id key keys e f = absurd cc

@@ -10,8 +10,8 @@ use Rattle.pc_dirty.proofs.SetLaws.{sets_stay, opened_is, closed_is}
 use Rattle.pc_table.specs.Rows.{TableRow, in_slot}
 use Rattle.pc_table.proofs.RowLaws.{no_row, same_some}
 use Rattle.pc_slots.specs.declared.cells.Cell.{Cell}
-use Rattle.pc_slots.specs.Words.{Word, link_at, words_of}
-use Rattle.pc_records.specs.SetLists.{HasPlace, link_in, next_in, marked_in, key_in, keys_at, is_listed, AreSetLists, open_slots, closed_slots, IsListed, open_keys, closed_keys, in_sets, KeepSets}
+use Rattle.pc_slots.specs.Words.{Word, link_of_word, cell_words}
+use Rattle.pc_records.specs.SetLists.{HasPlace, link_in, next_in, marked_in, key_in, keys_at, is_among_slots, AreSetLists, open_slots, closed_slots, IsListed, open_keys, closed_keys, in_sets, KeepSets}
 
 abbrev word_in : Side → Word × Word → Word
 word_in First w = w.0
@@ -33,8 +33,8 @@ by_words Second key w false false f s = sym s
 mark_is : (side : Side) (o : Option (List ℕ × Cell)) → marked_in side o ≡ mark_seen side (in_sets o)
 mark_is First None = refl
 mark_is Second None = refl
-mark_is First (Some p) = sym (by_words First p.0 (words_of p.1) p.1.first.is_in p.1.second.is_in refl refl)
-mark_is Second (Some p) = sym (by_words Second p.0 (words_of p.1) p.1.first.is_in p.1.second.is_in refl refl)
+mark_is First (Some p) = sym (by_words First p.0 (cell_words p.1) p.1.first.is_in p.1.second.is_in refl refl)
+mark_is Second (Some p) = sym (by_words Second p.0 (cell_words p.1) p.1.first.is_in p.1.second.is_in refl refl)
 
 pub marks_same : (side : Side) (a b : Option (List ℕ × Cell)) → in_sets b ≡ in_sets a → marked_in side b ≡ marked_in side a
 marks_same side a b e = mark_is side b ∙ (ap (mark_seen side) e ∙ sym (mark_is side a))
@@ -46,9 +46,9 @@ seen_some key w side false true f s e = refl
 seen_some key w First false false f s e = absurd (let g : false ≡ true = sym f ∙ e in cc)
 seen_some key w Second false false f s e = absurd (let g : false ≡ true = sym s ∙ e in cc)
 
-cell_seen : (side : Side) (p : List ℕ × Cell) → marked_in side (Some p) ≡ true → in_sets (Some p) ≡ Some (p.0, words_of p.1)
-cell_seen First p e = seen_some p.0 (words_of p.1) First p.1.first.is_in p.1.second.is_in refl refl e
-cell_seen Second p e = seen_some p.0 (words_of p.1) Second p.1.first.is_in p.1.second.is_in refl refl e
+cell_seen : (side : Side) (p : List ℕ × Cell) → marked_in side (Some p) ≡ true → in_sets (Some p) ≡ Some (p.0, cell_words p.1)
+cell_seen First p e = seen_some p.0 (cell_words p.1) First p.1.first.is_in p.1.second.is_in refl refl e
+cell_seen Second p e = seen_some p.0 (cell_words p.1) Second p.1.first.is_in p.1.second.is_in refl refl e
 
 -- a slot in a set, of which the sets have what they had
 pub record IsSameThere (side : Side) (a b : Option (List ℕ × Cell)) : Type 0 where
@@ -56,9 +56,9 @@ pub record IsSameThere (side : Side) (a b : Option (List ℕ × Cell)) : Type 0 
   pub key : key_in b ≡ key_in a
   pub link : link_in side b ≡ link_in side a
 
-links_same : (side : Side) (p q : List ℕ × Cell) → words_of q.1 ≡ words_of p.1 → link_in side (Some q) ≡ link_in side (Some p)
-links_same First p q e = ap (λ (w : Word × Word). link_at w.0) e
-links_same Second p q e = ap (λ (w : Word × Word). link_at w.1) e
+links_same : (side : Side) (p q : List ℕ × Cell) → cell_words q.1 ≡ cell_words p.1 → link_in side (Some q) ≡ link_in side (Some p)
+links_same First p q e = ap (λ (w : Word × Word). link_of_word w.0) e
+links_same Second p q e = ap (λ (w : Word × Word). link_of_word w.1) e
 
 pub same_there : (side : Side) (a b : Option (List ℕ × Cell)) → in_sets b ≡ in_sets a → marked_in side a ≡ true → IsSameThere side a b
 same_there First None b e m = absurd cc
@@ -66,7 +66,7 @@ same_there Second None b e m = absurd cc
 same_there First (Some p) None e m = absurd (no_row (e ∙ cell_seen First p m))
 same_there Second (Some p) None e m = absurd (no_row (e ∙ cell_seen Second p m))
 same_there side (Some p) (Some q) e m =
-    let same : (q.0, words_of q.1) ≡ (p.0, words_of p.1) = same_some (sym (cell_seen side q (marks_same side (Some p) (Some q) e ∙ m)) ∙ (e ∙ cell_seen side p m)) in
+    let same : (q.0, cell_words q.1) ≡ (p.0, cell_words p.1) = same_some (sym (cell_seen side q (marks_same side (Some p) (Some q) e ∙ m)) ∙ (e ∙ cell_seen side p m)) in
     record {
       row = refl;
       key = ap (λ (r : List ℕ × (Word × Word)). r.0) same;
@@ -74,9 +74,9 @@ same_there side (Some p) (Some q) e m =
     }
 
 -- what holds of each listed slot holds of all in the list
-pub all_listed : (P : ℕ → Type 0) (slots : List ℕ) → ((slot : ℕ) → is_listed slots slot ≡ true → P slot) → AllHave P slots
+pub all_listed : (P : ℕ → Type 0) (slots : List ℕ) → ((slot : ℕ) → is_among_slots slots slot ≡ true → P slot) → AllHave P slots
 all_listed P [] f = tt
-all_listed P (x ∷ xs) f = (f x (ap (λ b. b || is_listed xs x) (eq-eqb x x refl)), all_listed P xs (λ slot e. f slot (later (eqb x slot) (is_listed xs slot) e)))
+all_listed P (x ∷ xs) f = (f x (ap (λ b. b || is_among_slots xs x) (eq-eqb x x refl)), all_listed P xs (λ slot e. f slot (later (eqb x slot) (is_among_slots xs slot) e)))
   where
     later : (a b : Bool) → b ≡ true → (a || b) ≡ true
     later true b e = refl

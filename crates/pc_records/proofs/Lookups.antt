@@ -14,7 +14,7 @@ use Rattle.pc_model.proofs.CountLaws.{and_both, below_apart}
 use Rattle.pc_model.proofs.JoinLaws.{one_key}
 use Rattle.pc_records.specs.Rows.{Row, Record, record_of}
 use Rattle.pc_slots.specs.Slots.{Slot}
-use Rattle.pc_records.specs.Slots.{no_queues, row_of, rows_of, with_entry, entries_of}
+use Rattle.pc_records.specs.Slots.{no_queues, row_of, rows_of, with_optional_entry, slot_entries}
 
 below_at : (key : List ℕ) (rows : List Row) (i : ℕ) (d : Row) → i < length rows → below_all key_cmp key rows ≡ true → is_lt (key_cmp key (get_or rows i d).0) ≡ true
 below_at key [] i d lt h = absurd (omega (arith, lt))
@@ -81,38 +81,38 @@ pub all_found : (P : Slot → Type 0) (slots : List Slot) → KeysRise (rows_of 
 all_found P slots rise each k d lt = each (get_or slots k d).key (get_or slots k d) (slot_at slots (get_or slots k d).key k d rise lt (same_self (get_or slots k d).key))
 
 -- what is found of a key is what its slot has
-below_entries : {X : Type 0} (f : Slot → Option X) (key : List ℕ) (slots : List Slot) → below_all key_cmp key (rows_of no_queues slots) ≡ true → below_all key_cmp key (entries_of f slots) ≡ true
+below_entries : {X : Type 0} (f : Slot → Option X) (key : List ℕ) (slots : List Slot) → below_all key_cmp key (rows_of no_queues slots) ≡ true → below_all key_cmp key (slot_entries f slots) ≡ true
 below_entries f key [] h = refl
 below_entries {X} f key (s ∷ ss) h =
     let parts = and_both (is_lt (key_cmp key s.key)) (below_all key_cmp key (rows_of no_queues ss)) h in
     by_value (f s) parts.0 (below_entries f key ss parts.1)
   where
-    by_value : (o : Option X) → is_lt (key_cmp key s.key) ≡ true → below_all key_cmp key (entries_of f ss) ≡ true → below_all key_cmp key (with_entry s.key o (entries_of f ss)) ≡ true
+    by_value : (o : Option X) → is_lt (key_cmp key s.key) ≡ true → below_all key_cmp key (slot_entries f ss) ≡ true → below_all key_cmp key (with_optional_entry s.key o (slot_entries f ss)) ≡ true
     by_value None lt later = later
     by_value (Some x) lt later = rw (lt, later) refl
 
-pub sorted_entries : {X : Type 0} (f : Slot → Option X) (slots : List Slot) → KeysRise (rows_of no_queues slots) → KeysRise (entries_of f slots)
+pub sorted_entries : {X : Type 0} (f : Slot → Option X) (slots : List Slot) → KeysRise (rows_of no_queues slots) → KeysRise (slot_entries f slots)
 sorted_entries f [] h = refl
 sorted_entries {X} f (s ∷ ss) h =
     let parts = and_both (below_all key_cmp s.key (rows_of no_queues ss)) (is_sorted key_cmp (rows_of no_queues ss)) h in
     by_value (f s) (below_entries f s.key ss parts.0) (sorted_entries f ss parts.1)
   where
-    by_value : (o : Option X) → below_all key_cmp s.key (entries_of f ss) ≡ true → is_sorted key_cmp (entries_of f ss) ≡ true → is_sorted key_cmp (with_entry s.key o (entries_of f ss)) ≡ true
+    by_value : (o : Option X) → below_all key_cmp s.key (slot_entries f ss) ≡ true → is_sorted key_cmp (slot_entries f ss) ≡ true → is_sorted key_cmp (with_optional_entry s.key o (slot_entries f ss)) ≡ true
     by_value None below later = later
     by_value (Some x) below later = rw (below, later) refl
 
-pub find_entry : {X : Type 0} (f : Slot → Option X) (slots : List Slot) (q : List ℕ) → KeysRise (rows_of no_queues slots) → find key_cmp q (entries_of f slots) ≡ of_slot f (slot_of slots q)
+pub find_entry : {X : Type 0} (f : Slot → Option X) (slots : List Slot) (q : List ℕ) → KeysRise (rows_of no_queues slots) → find key_cmp q (slot_entries f slots) ≡ of_slot f (slot_of slots q)
 find_entry f [] q h = refl
 find_entry {X} f (s ∷ ss) q h =
     let parts = and_both (below_all key_cmp s.key (rows_of no_queues ss)) (is_sorted key_cmp (rows_of no_queues ss)) h in
     by_value (f s) refl (same_bytes q s.key) refl (lacks parts.0) (find_entry f ss q parts.1)
   where
-    lacks : below_all key_cmp s.key (rows_of no_queues ss) ≡ true → find key_cmp s.key (entries_of f ss) ≡ None
-    lacks below = none_of _ (is_some-find key_cmp s.key (entries_of f ss) ∙ below_apart s.key (entries_of f ss) (below_entries f s.key ss below))
+    lacks : below_all key_cmp s.key (rows_of no_queues ss) ≡ true → find key_cmp s.key (slot_entries f ss) ≡ None
+    lacks below = none_of _ (is_some-find key_cmp s.key (slot_entries f ss) ∙ below_apart s.key (slot_entries f ss) (below_entries f s.key ss below))
 
-    by_value : (o : Option X) → f s ≡ o → (b : Bool) → same_bytes q s.key ≡ b → find key_cmp s.key (entries_of f ss) ≡ None → find key_cmp q (entries_of f ss) ≡ of_slot f (slot_of ss q) →
-        find key_cmp q (with_entry s.key o (entries_of f ss)) ≡ of_slot f (cond b (Some s) (slot_of ss q))
-    by_value None is true same none later = ap (λ k. find key_cmp k (entries_of f ss)) (one_key q s.key same) ∙ none ∙ sym is
+    by_value : (o : Option X) → f s ≡ o → (b : Bool) → same_bytes q s.key ≡ b → find key_cmp s.key (slot_entries f ss) ≡ None → find key_cmp q (slot_entries f ss) ≡ of_slot f (slot_of ss q) →
+        find key_cmp q (with_optional_entry s.key o (slot_entries f ss)) ≡ of_slot f (cond b (Some s) (slot_of ss q))
+    by_value None is true same none later = ap (λ k. find key_cmp k (slot_entries f ss)) (one_key q s.key same) ∙ none ∙ sym is
     by_value None is false same none later = later
     by_value (Some x) is true same none later = rw same (sym is)
     by_value (Some x) is false same none later = rw same later

@@ -10,7 +10,7 @@ use Rattle.pc_dirty.proofs.SetLaws.{sets_stay, opened_have, closed_have}
 use Rattle.pc_table.specs.Rows.{TableRow, in_slot, with_record_in}
 use Rattle.pc_table.proofs.RowLaws.{same_some}
 use Rattle.pc_slots.specs.declared.cells.Cell.{Cell}
-use Rattle.pc_slots.specs.Words.{words_of, is_marked, place_at, link_of, HaveLinks}
+use Rattle.pc_slots.specs.Words.{cell_words, is_marked, place_at, link_of, HaveLinks}
 use Rattle.pc_slots.specs.Slots.{Slot, slot_with, is_held, is_kept_slot, taken_slot, aside_in}
 use Rattle.pc_model.specs.Locks.{Queue}
 use Rattle.pc_records.specs.SetLists.{HasPlace, link_in, next_in, marked_in, key_in, KeepLinks, IsUnmarked}
@@ -83,7 +83,7 @@ linked_keep old new sets opened closed k d =
     (each _ _ closed (λ slot h. k.row slot ∙ h) (closed_have (HasPlace old) (next_in old) sets opened closed d)) (each _ _ closed (λ slot h. k.link (other_side sets.side) slot) (closed_have (HasPlace old) (next_in old) sets opened closed d)) d
 
 -- a cell whose links and marks stay
-pub same_words : (side : Side) (x y : Cell) → HaveLinks x y → is_marked side y ≡ is_marked side x → is_marked (other_side side) y ≡ is_marked (other_side side) x → words_of y ≡ words_of x
+pub same_words : (side : Side) (x y : Cell) → HaveLinks x y → is_marked side y ≡ is_marked side x → is_marked (other_side side) y ≡ is_marked (other_side side) x → cell_words y ≡ cell_words x
 same_words First x y h a b = λ i. (record { slot = h.first_slot i; leads_to = h.first_side i; is_in = a i }, record { slot = h.second_slot i; leads_to = h.second_side i; is_in = b i })
 same_words Second x y h a b = λ i. (record { slot = h.first_slot i; leads_to = h.first_side i; is_in = b i }, record { slot = h.second_slot i; leads_to = h.second_side i; is_in = a i })
 

@@ -12,7 +12,7 @@ use Rattle.pc_slots.specs.declared.versions.Stable.TheVariants.{Empty, Held}
 use Rattle.pc_slots.specs.declared.versions.Writer.{Writer}
 use Rattle.pc_records.specs.Rows.{Row, is_kept}
 use Rattle.pc_records.specs.RowSteps.{closed_row}
-use Rattle.pc_slots.specs.Slots.{Slot, committed, committed_by, version_or, pinned, pending_in, write_of, is_available, is_held, held_for, is_prepared, has_exclusive, is_locked, IsSlotSound, is_kept_slot, new_slot, held_or, saved, first_put, put_beside, put_slot, settled_class, settled_from, settled, undone_from, undone, closed_slot, taken_slot}
+use Rattle.pc_slots.specs.Slots.{Slot, committed, committed_by, version_or, pinned, pending_in, pending_of_writer, is_available, is_held, held_for, is_prepared, has_exclusive, is_locked, IsSlotSound, is_kept_slot, new_slot, held_or, saved, first_put, put_beside, put_slot, settled_class, settled_from, settled, undone_from, undone, closed_slot, taken_slot}
 use Rattle.pc_records.specs.Slots.{row_of}
 
 no : false ≡ true → ⊥
@@ -144,7 +144,7 @@ put_pending point t class copy value s own = by_writer s.writer refl
     by_writer : (o : Option Writer) → s.writer ≡ o → pending_in (put_beside o point t class copy value s) ≡ Some (record { by = t; class = class; value = value })
     by_writer None is = refl
     by_writer (Some w) is =
-        ap (λ o. write_of o value) is ∙ ap (λ (n : ℕ). Some (record { by = n; class = w.class; value = value })) (own w is).0 ∙ ap (λ (c : Class). Some (record { by = t; class = c; value = value })) (own w is).1
+        ap (λ o. pending_of_writer o value) is ∙ ap (λ (n : ℕ). Some (record { by = n; class = w.class; value = value })) (own w is).0 ∙ ap (λ (c : Class). Some (record { by = t; class = c; value = value })) (own w is).1
 
 -- a commit
 settled_writer_class : (c : Class) (point : ℕ) (s : Slot) → (settled_class c point s).writer ≡ None

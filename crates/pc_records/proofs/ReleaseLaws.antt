@@ -18,7 +18,7 @@ use Rattle.pc_model.specs.Replies.{is_empty, open_set, closed_set}
 use Rattle.pc_model.proofs.CountLaws.{below_apart, and_both}
 use Rattle.pc_model.proofs.JoinLaws.{one_key}
 use Rattle.pc_records.specs.Rows.{Row, Record, record_of, stored, is_in_open_set, is_in_closed_set, at_point, requests_on}
-use Rattle.pc_records.specs.RowSteps.{if_kept, with_row, released, released_rows, given, written_row}
+use Rattle.pc_records.specs.RowSteps.{if_kept, with_row, released, released_rows, committed_record, written_row}
 use Rattle.pc_records.specs.Following.{AreRecords, stands_kept}
 use Rattle.pc_records.proofs.Keeping.{stored-if, requests-if, open-if, closed-if, point-if, kept-if}
 use Rattle.pc_records.proofs.DistinctLaws.{among_with_keys}
@@ -183,7 +183,7 @@ released_read t rows content past queue in_open in_closed settled are =
 -- the record once this is committed of its key, if there is one
 abbrev pub given_at : Option (Option (List ℕ)) → Option Record → Option Record
 given_at o None = None
-given_at o (Some r) = Some (given o r)
+given_at o (Some r) = Some (committed_record o r)
 
 -- what a key has once this is committed of it: nothing, and then what it had, or a value or absence
 abbrev pub now_or : Option (Option (List ℕ)) → Option (List ℕ) → Option (List ℕ)
@@ -207,8 +207,8 @@ module _ (committed : List ℕ → Option (Option (List ℕ))) where
   found_written (row ∷ rows) q = by_match (same_bytes q row.0) refl (found_written rows q)
     where
       by_match : (b : Bool) → same_bytes q row.0 ≡ b → record_of (map (written_row committed) rows) q ≡ given_at (committed q) (record_of rows q) →
-          cond b (Some (given (committed row.0) row.1)) (record_of (map (written_row committed) rows) q) ≡ given_at (committed q) (cond b (Some row.1) (record_of rows q))
-      by_match true same later = ap (λ k. Some (given (committed k) row.1)) (sym (one_key q row.0 same))
+          cond b (Some (committed_record (committed row.0) row.1)) (record_of (map (written_row committed) rows) q) ≡ given_at (committed q) (cond b (Some row.1) (record_of rows q))
+      by_match true same later = ap (λ k. Some (committed_record (committed k) row.1)) (sym (one_key q row.0 same))
       by_match false same later = later
 
 -- what a record says once this is committed of its key

@@ -6,7 +6,7 @@ use Rattle.std.specs.Ordering.{is_lt}
 use Rattle.pc_model.specs.Database.{key_cmp, key_order, same_bytes, KeysRise}
 use Rattle.pc_model.proofs.PairMapLaws.{computes, tested}
 use Rattle.pc_records.specs.Rows.{Row, Record, record_of}
-use Rattle.pc_records.specs.RowSteps.{committed_row, closed_row, left_of, with_left, left_rows}
+use Rattle.pc_records.specs.RowSteps.{committed_row, closed_row, record_after_take, with_left, left_rows}
 
 -- rows of pairs ascend as the pairs do
 below_rows : (key : List ℕ) (pairs : List (List ℕ × List ℕ)) → below_all key_cmp key (map committed_row pairs) ≡ below_all key_cmp key pairs
@@ -33,7 +33,7 @@ pub rise_closed : (rows new : List Row) → KeysRise rows → new ≡ map closed
 rise_closed rows new rise is = rw is (sorted_closed rows ∙ rise)
 
 pub rise_left : (rows new : List Row) (key : List ℕ) → KeysRise rows → new ≡ left_rows rows key → KeysRise new
-rise_left rows new key rise is = rw is (by_record (left_of (record_of rows key)))
+rise_left rows new key rise is = rw is (by_record (record_after_take (record_of rows key)))
   where
     by_record : (o : Option Record) → KeysRise (with_left o key rows)
     by_record None = tested (is_sorted-where_key key_cmp (λ k. not (same_bytes key k)) rows (computes rise))

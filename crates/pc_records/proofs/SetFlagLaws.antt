@@ -11,7 +11,7 @@ use Rattle.pc_types.specs.declared.Outcome.TheVariants.{Granted, Queued, Died}
 use Rattle.pc_model.proofs.JoinLaws.{one_key}
 use Rattle.pc_model.proofs.MapLaws.{find-without}
 use Rattle.pc_records.specs.Rows.{Row, Record, record_of, stored, is_in_open_set, is_in_closed_set, requests_on}
-use Rattle.pc_records.specs.RowSteps.{with_requests, rows_after, released_rows, written_row, closed_row, left_of, with_left, left_rows}
+use Rattle.pc_records.specs.RowSteps.{with_requests, rows_after, released_rows, written_row, closed_row, record_after_take, with_left, left_rows}
 use Rattle.pc_records.proofs.FollowingLaws.{stored-with, open-with, closed-with}
 use Rattle.pc_records.proofs.ReleaseLaws.{found_released, stored-released, open-released, closed-released, found_written, given_at}
 use Rattle.pc_records.proofs.CycleLaws.{found_closed, closed_of, stored-left, open-left, closed-left}
@@ -90,8 +90,8 @@ closed_sets rows q = (ap is_in_closed_set (found_closed rows q) ∙ closed_by (r
     recent_by (Some r) = refl
 
 -- a taken key is not in the closed set, and the others are where they were
-found_left : (rows : List Row) (k q : List ℕ) → record_of (left_rows rows k) q ≡ cond (same_bytes q k) (left_of (record_of rows k)) (record_of rows q)
-found_left rows k q = found_with (left_of (record_of rows k))
+found_left : (rows : List Row) (k q : List ℕ) → record_of (left_rows rows k) q ≡ cond (same_bytes q k) (record_after_take (record_of rows k)) (record_of rows q)
+found_left rows k q = found_with (record_after_take (record_of rows k))
   where
     found_with : (o : Option Record) → record_of (with_left o k rows) q ≡ cond (same_bytes q k) o (record_of rows q)
     found_with None = find-without key_order k q rows
@@ -100,20 +100,20 @@ found_left rows k q = found_with (left_of (record_of rows k))
 pub left_value : (rows : List Row) (k q : List ℕ) → stored (record_of (left_rows rows k) q) ≡ stored (record_of rows q)
 left_value rows k q = ap stored (found_left rows k q) ∙ by_test (same_bytes q k) refl
   where
-    by_test : (b : Bool) → same_bytes q k ≡ b → stored (cond b (left_of (record_of rows k)) (record_of rows q)) ≡ stored (record_of rows q)
+    by_test : (b : Bool) → same_bytes q k ≡ b → stored (cond b (record_after_take (record_of rows k)) (record_of rows q)) ≡ stored (record_of rows q)
     by_test true is = stored-left (record_of rows k) ∙ ap (λ x. stored (record_of rows x)) (sym (one_key q k is))
     by_test false is = refl
 
 pub left_open : (rows : List Row) (k q : List ℕ) → is_in_open_set (record_of (left_rows rows k) q) ≡ is_in_open_set (record_of rows q)
 left_open rows k q = ap is_in_open_set (found_left rows k q) ∙ by_test (same_bytes q k) refl
   where
-    by_test : (b : Bool) → same_bytes q k ≡ b → is_in_open_set (cond b (left_of (record_of rows k)) (record_of rows q)) ≡ is_in_open_set (record_of rows q)
+    by_test : (b : Bool) → same_bytes q k ≡ b → is_in_open_set (cond b (record_after_take (record_of rows k)) (record_of rows q)) ≡ is_in_open_set (record_of rows q)
     by_test true is = open-left (record_of rows k) ∙ ap (λ x. is_in_open_set (record_of rows x)) (sym (one_key q k is))
     by_test false is = refl
 
 pub left_closed : (rows : List Row) (k q : List ℕ) → is_in_closed_set (record_of (left_rows rows k) q) ≡ true → (is_in_closed_set (record_of rows q) ≡ true) × (same_bytes q k ≡ false)
 left_closed rows k q closed = by_test (same_bytes q k) refl (sym (ap is_in_closed_set (found_left rows k q)) ∙ closed)
   where
-    by_test : (b : Bool) → same_bytes q k ≡ b → is_in_closed_set (cond b (left_of (record_of rows k)) (record_of rows q)) ≡ true → (is_in_closed_set (record_of rows q) ≡ true) × (same_bytes q k ≡ false)
+    by_test : (b : Bool) → same_bytes q k ≡ b → is_in_closed_set (cond b (record_after_take (record_of rows k)) (record_of rows q)) ≡ true → (is_in_closed_set (record_of rows q) ≡ true) × (same_bytes q k ≡ false)
     by_test true is e = absurd (let no : false ≡ true = sym (closed-left (record_of rows k)) ∙ e in cc)
     by_test false is e = (e, is)

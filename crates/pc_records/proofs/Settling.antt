@@ -9,7 +9,7 @@ use Rattle.pc_chain.specs.Chains.{Avoids, AllHave}
 use Rattle.pc_chain.proofs.ChainLaws.{avoided}
 use Rattle.pc_dirty.specs.declared.side.Side.{Side}
 use Rattle.pc_dirty.specs.declared.dirty.Dirty.{Dirty}
-use Rattle.pc_dirty.specs.Sets.{other_side, place_of, AreSets, HasNoRepeats}
+use Rattle.pc_dirty.specs.Sets.{other_side, place_on_side, AreSets, HasNoRepeats}
 use Rattle.pc_dirty.proofs.SetLaws.{opened_once, opened_have}
 use Rattle.pc_table.specs.Rows.{TableRow, Contents, in_slot, with_record_in, HasRow, AreInSlots}
 use Rattle.pc_slots.specs.declared.cells.Cell.{Cell}
@@ -19,7 +19,7 @@ use Rattle.pc_slots.specs.Words.{is_marked, HaveLinks}
 use Rattle.pc_slots.specs.Slots.{Slot, slot_with, settled, settled_class, settled_from, writer_in}
 use Rattle.pc_records.specs.Slots.{slots_in, at_number}
 use Rattle.pc_records.proofs.TableSlots.{changed_slots}
-use Rattle.pc_records.specs.SetLists.{HasPlace, next_in, marked_in, key_in, keys_at, is_listed, AreSetLists, open_slots, closed_slots, IsListed, open_keys, closed_keys, entering, KeepSets, KeepRecords}
+use Rattle.pc_records.specs.SetLists.{HasPlace, next_in, marked_in, key_in, keys_at, is_among_slots, AreSetLists, open_slots, closed_slots, IsListed, open_keys, closed_keys, entering, KeepSets, KeepRecords}
 use Rattle.pc_records.proofs.InSlots.{cell_there}
 use Rattle.pc_records.proofs.Unlinked.{slots_keep, marks_keep, key_keeps}
 use Rattle.pc_records.proofs.Listing.{named, open_keys_named, closed_keys_named, kept_listed, kept_open, kept_closed}
@@ -27,14 +27,14 @@ use Rattle.pc_records.proofs.KeepingSets.{changed_sets}
 use Rattle.pc_records.proofs.Marking.{mark_there, links_kept, linked_keep, same_words}
 
 -- what isn't in the list
-pub avoids_unlisted : (slot : ℕ) (xs : List ℕ) → is_listed xs slot ≡ false → Avoids slot xs
+pub avoids_unlisted : (slot : ℕ) (xs : List ℕ) → is_among_slots xs slot ≡ false → Avoids slot xs
 avoids_unlisted slot [] e = tt
 avoids_unlisted slot (x ∷ xs) e =
-    let h = or_parts (x == slot) (is_listed xs slot) e in
+    let h = or_parts (x == slot) (is_among_slots xs slot) e in
     ((λ f. let g = eq-eqb x slot f in let z = h.0 in cc), avoids_unlisted slot xs h.1)
 
 -- a list with one more at its end
-pub listed_push : (xs : List ℕ) (id slot : ℕ) → is_listed (xs ++ id ∷ []) slot ≡ cond (eqb slot id) true (is_listed xs slot)
+pub listed_push : (xs : List ℕ) (id slot : ℕ) → is_among_slots (xs ++ id ∷ []) slot ≡ cond (eqb slot id) true (is_among_slots xs slot)
 listed_push [] id slot = by_test (eqb id slot) (eqb slot id) refl refl
   where
     by_test : (a b : Bool) → eqb id slot ≡ a → eqb slot id ≡ b → (a || false) ≡ cond b true false
@@ -44,7 +44,7 @@ listed_push [] id slot = by_test (eqb id slot) (eqb slot id) refl refl
     by_test false false e f = refl
 listed_push (x ∷ xs) id slot = ap (λ b. eqb x slot || b) (listed_push xs id slot) ∙ by_test (eqb x slot) (eqb slot id)
   where
-    by_test : (a b : Bool) → (a || cond b true (is_listed xs slot)) ≡ cond b true (a || is_listed xs slot)
+    by_test : (a b : Bool) → (a || cond b true (is_among_slots xs slot)) ≡ cond b true (a || is_among_slots xs slot)
     by_test true true = refl
     by_test true false = refl
     by_test false true = refl
@@ -193,16 +193,16 @@ module _ (table : Contents Cell) (a : AreInSlots table) (sets : Dirty) (l : IsLi
     pub fits : length opened + 1 < 2 ^ 32
     fits = lists_fit table a opened (opened_once (HasPlace table.rows) (next_in table.rows) sets opened closed l.linked) (opened_have (HasPlace table.rows) (next_in table.rows) sets opened closed l.linked)
 
-    pub has_after : HasRow table.rows id → HasPlace after (place_of sets.side id)
+    pub has_after : HasRow table.rows id → HasPlace after (place_on_side sets.side id)
     has_after row = (links_kept table.rows id x y has links).row id ∙ row
 
     module _ (new : Contents Cell) (now : Dirty) (side : now.side ≡ sets.side) (beside : KeepRecords (record table { rows = after }) new) (linked : AreSets (HasPlace new.rows) (next_in new.rows) now (opened ++ id ∷ []) closed) where
-      open_marks : (slot : ℕ) → marked_in now.side (in_slot new.rows slot) ≡ is_listed (opened ++ id ∷ []) slot
+      open_marks : (slot : ℕ) → marked_in now.side (in_slot new.rows slot) ≡ is_among_slots (opened ++ id ∷ []) slot
       open_marks slot =
           ap (λ s. marked_in s (in_slot new.rows slot)) side ∙ (marks_keep (record table { rows = after }) new beside sets.side slot ∙ (mark_there table.rows id x y has sets.side slot ∙ (ap (λ b. cond (eqb slot id) b (marked_in sets.side (in_slot table.rows slot))) marked_now
           ∙ (ap (cond (eqb slot id) true) (l.open_marks slot) ∙ sym (listed_push opened id slot)))))
 
-      closed_marks : (slot : ℕ) → marked_in (other_side now.side) (in_slot new.rows slot) ≡ is_listed closed slot
+      closed_marks : (slot : ℕ) → marked_in (other_side now.side) (in_slot new.rows slot) ≡ is_among_slots closed slot
       closed_marks slot =
           ap (λ s. marked_in (other_side s) (in_slot new.rows slot)) side ∙ (marks_keep (record table { rows = after }) new beside (other_side sets.side) slot ∙ (mark_there table.rows id x y has (other_side sets.side) slot ∙ (by_test (eqb slot id) refl ∙ l.closed_marks slot)))
         where

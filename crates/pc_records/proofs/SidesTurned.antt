@@ -14,7 +14,7 @@ use Rattle.pc_slots.specs.Words.{is_marked}
 use Rattle.pc_records.specs.Rows.{record_of, is_in_closed_set}
 use Rattle.pc_slots.specs.Slots.{Slot, slot_with, closed_slot, base_cell, aside_in, writer_in}
 use Rattle.pc_records.specs.Slots.{slots_in, slot_in, rows_of, AreSlotsKept, base_row, cells_in}
-use Rattle.pc_records.specs.SetLists.{HasPlace, next_in, marked_in, keys_at, is_listed, AreSetLists, open_slots, closed_slots, IsListed, open_keys, closed_keys}
+use Rattle.pc_records.specs.SetLists.{HasPlace, next_in, marked_in, keys_at, is_among_slots, AreSetLists, open_slots, closed_slots, IsListed, open_keys, closed_keys}
 use Rattle.pc_records.proofs.Lookups.{all_found, find_row, record_in}
 use Rattle.pc_records.proofs.Listing.{named, open_keys_named, closed_keys_named}
 use Rattle.pc_records.proofs.Among.{all_are_listed}
@@ -60,7 +60,7 @@ module _ (rows : List (TableRow Cell)) (sets : Dirty) (l : IsListed rows sets) (
     lists : AreSetLists rows new [] (open_slots rows sets)
     lists = record {
       linked = turned;
-      open_marks = λ slot. ap (λ s. marked_in s (in_slot rows slot)) side ∙ (l.closed_marks slot ∙ ap (λ xs. is_listed xs slot) (no_keys rows (closed_slots rows sets) none));
+      open_marks = λ slot. ap (λ s. marked_in s (in_slot rows slot)) side ∙ (l.closed_marks slot ∙ ap (λ xs. is_among_slots xs slot) (no_keys rows (closed_slots rows sets) none));
       closed_marks = λ slot. ap (λ s. marked_in (other_side s) (in_slot rows slot)) side ∙ (ap (λ s. marked_in s (in_slot rows slot)) (turned_twice sets.side) ∙ l.open_marks slot);
     }
 

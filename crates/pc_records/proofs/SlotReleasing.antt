@@ -4,7 +4,7 @@ use Rattle.std.proofs.lemmas.Bool.Decides.{nat_tests}
 use Rattle.pc_model.specs.Locks.{Queue, queue_without}
 use Rattle.pc_model.specs.Queues.{stands_in}
 use Rattle.pc_model.proofs.QueueLaws.{stands_granted}
-use Rattle.pc_locks.specs.States.{Queues, SlotLists, queue_at, slots_of, first_of, is_listed, AreLinked}
+use Rattle.pc_locks.specs.States.{Queues, SlotLists, queue_at, slots_of, first_in_list, is_listed, AreLinked}
 use Rattle.pc_records.specs.Rows.{Record}
 use Rattle.pc_records.specs.RowSteps.{if_kept, released}
 use Rattle.pc_slots.specs.Slots.{Slot}
@@ -34,18 +34,18 @@ pub released_again : (t : ℕ) (r : Record) → released t (without t r) ≡ Som
 released_again t r = ap (λ b. cond b (if_kept (without t (without t r))) (Some (without t r))) (gone t r.requests)
 
 -- a transaction with an empty list has no request
-pub stands_nowhere : (t : ℕ) (queues : Queues) (lists : SlotLists) → AreLinked queues lists → None ≡ first_of (slots_of lists t) → (n : ℕ) → stands_in (queue_at queues n) t ≡ false
+pub stands_nowhere : (t : ℕ) (queues : Queues) (lists : SlotLists) → AreLinked queues lists → None ≡ first_in_list (slots_of lists t) → (n : ℕ) → stands_in (queue_at queues n) t ≡ false
 stands_nowhere t queues lists linked none n = by_list (slots_of lists t) none (linked.listed t n)
   where
-    by_list : (ns : List ℕ) → None ≡ first_of ns → is_listed ns n ≡ stands_in (queue_at queues n) t → stands_in (queue_at queues n) t ≡ false
+    by_list : (ns : List ℕ) → None ≡ first_in_list ns → is_listed ns n ≡ stands_in (queue_at queues n) t → stands_in (queue_at queues n) t ≡ false
     by_list [] e listed = sym listed
     by_list (m ∷ ms) e listed = absurd cc
 
 -- and it is at the first slot of its list
-pub stands_first : (t n : ℕ) (queues : Queues) (lists : SlotLists) → AreLinked queues lists → Some n ≡ first_of (slots_of lists t) → stands_in (queue_at queues n) t ≡ true
+pub stands_first : (t n : ℕ) (queues : Queues) (lists : SlotLists) → AreLinked queues lists → Some n ≡ first_in_list (slots_of lists t) → stands_in (queue_at queues n) t ≡ true
 stands_first t n queues lists linked first = by_list (slots_of lists t) first (linked.listed t n)
   where
-    by_list : (ns : List ℕ) → Some n ≡ first_of ns → is_listed ns n ≡ stands_in (queue_at queues n) t → stands_in (queue_at queues n) t ≡ true
+    by_list : (ns : List ℕ) → Some n ≡ first_in_list ns → is_listed ns n ≡ stands_in (queue_at queues n) t → stands_in (queue_at queues n) t ≡ true
     by_list [] e listed = absurd cc
     by_list (m ∷ ms) e listed =
         let same : n ≡ m = cc in

@@ -12,8 +12,8 @@ use Rattle.pc_model.proofs.JoinLaws.{one_key}
 use Rattle.pc_model.proofs.RisingLaws.{both, and_of, Below, Rise, lesser_below, none_below}
 use Rattle.pc_slots.specs.Slots.{Slot, Pending, pending_in}
 use Rattle.pc_records.specs.Rows.{Row, Record, record_of}
-use Rattle.pc_records.specs.Slots.{with_entry}
-use Rattle.pc_records.specs.Floor.{Spot, Floor, IsFloorWhole, Each, AreSpotsApart, row_in, rows_in, writes_in, at_spot, at_key, has_spot, number_of, queue_of, of_spot, entered}
+use Rattle.pc_records.specs.Slots.{with_optional_entry}
+use Rattle.pc_records.specs.Floor.{Spot, Floor, IsFloorWhole, Each, AreSpotsApart, row_in, rows_in, pending_writes, at_spot, at_key, has_spot, slot_number_of, queue_at_slot, of_spot, spots_with}
 
 pub no : {A : Type 0} → false ≡ true → A
 no e = absurd cc
@@ -91,28 +91,28 @@ each_map P Q g f [] each = tt
 each_map P Q g f (s ∷ ss) each = (f s each.0, each_map P Q g f ss each.1)
 
 -- the write that is found of a key is that of its spot
-below_writes : (key : List ℕ) (ss : List Spot) → Below key (rows_in ss) → Below key (writes_in ss)
+below_writes : (key : List ℕ) (ss : List Spot) → Below key (rows_in ss) → Below key (pending_writes ss)
 below_writes key [] h = refl
 below_writes key (s ∷ ss) h =
     let parts = both (is_lt (key_cmp key s.slot.key)) (below_all key_cmp key (rows_in ss)) h in
     by_value (pending_in s.slot) parts.0 (below_writes key ss parts.1)
   where
-    by_value : (o : Option Pending) → is_lt (key_cmp key s.slot.key) ≡ true → Below key (writes_in ss) → Below key (with_entry s.slot.key o (writes_in ss))
+    by_value : (o : Option Pending) → is_lt (key_cmp key s.slot.key) ≡ true → Below key (pending_writes ss) → Below key (with_optional_entry s.slot.key o (pending_writes ss))
     by_value None less later = later
-    by_value (Some p) less later = and_of (is_lt (key_cmp key s.slot.key)) (below_all key_cmp key (writes_in ss)) less later
+    by_value (Some p) less later = and_of (is_lt (key_cmp key s.slot.key)) (below_all key_cmp key (pending_writes ss)) less later
 
-pub found_write : (ss : List Spot) (q : List ℕ) → Rise (rows_in ss) → find key_cmp q (writes_in ss) ≡ write_in (spot_of_key ss q)
+pub found_write : (ss : List Spot) (q : List ℕ) → Rise (rows_in ss) → find key_cmp q (pending_writes ss) ≡ write_in (spot_of_key ss q)
 found_write [] q h = refl
 found_write (s ∷ ss) q h =
     let parts = both (below_all key_cmp s.slot.key (rows_in ss)) (is_sorted key_cmp (rows_in ss)) h in
-    by_value (pending_in s.slot) refl (same_bytes q s.slot.key) refl (none_below s.slot.key (writes_in ss) (below_writes s.slot.key ss parts.0)) (found_write ss q parts.1)
+    by_value (pending_in s.slot) refl (same_bytes q s.slot.key) refl (none_below s.slot.key (pending_writes ss) (below_writes s.slot.key ss parts.0)) (found_write ss q parts.1)
   where
-    by_value : (o : Option Pending) → pending_in s.slot ≡ o → (b : Bool) → same_bytes q s.slot.key ≡ b → find key_cmp s.slot.key (writes_in ss) ≡ None → find key_cmp q (writes_in ss) ≡ write_in (spot_of_key ss q) →
-        find key_cmp q (with_entry s.slot.key o (writes_in ss)) ≡ write_in (cond b (Some s) (spot_of_key ss q))
-    by_value None is true same none later = ap (λ k. find key_cmp k (writes_in ss)) (one_key q s.slot.key same) ∙ none ∙ sym is
+    by_value : (o : Option Pending) → pending_in s.slot ≡ o → (b : Bool) → same_bytes q s.slot.key ≡ b → find key_cmp s.slot.key (pending_writes ss) ≡ None → find key_cmp q (pending_writes ss) ≡ write_in (spot_of_key ss q) →
+        find key_cmp q (with_optional_entry s.slot.key o (pending_writes ss)) ≡ write_in (cond b (Some s) (spot_of_key ss q))
+    by_value None is true same none later = ap (λ k. find key_cmp k (pending_writes ss)) (one_key q s.slot.key same) ∙ none ∙ sym is
     by_value None is false same none later = later
-    by_value (Some p) is true same none later = ap (λ b. cond b (Some p) (find key_cmp q (writes_in ss))) same ∙ sym is
-    by_value (Some p) is false same none later = ap (λ b. cond b (Some p) (find key_cmp q (writes_in ss))) same ∙ later
+    by_value (Some p) is true same none later = ap (λ b. cond b (Some p) (find key_cmp q (pending_writes ss))) same ∙ sym is
+    by_value (Some p) is false same none later = ap (λ b. cond b (Some p) (find key_cmp q (pending_writes ss))) same ∙ later
 
 -- spots that change under their keys
 pub key_map : (g : Spot → Spot) → ((s : Spot) → (g s).slot.key ≡ s.slot.key) → (ss : List Spot) (q : List ℕ) → spot_of_key (map g ss) q ≡ option_map g (spot_of_key ss q)
@@ -139,7 +139,7 @@ lacking_stay g key (s ∷ ss) none = by_test (same_bytes key s.slot.key) none (l
     by_test false none rest = ap (λ (xs : List Spot). s ∷ xs) (rest none)
 
 -- a key has a number if it has a spot
-pub has_number : (ss : List Spot) (key : List ℕ) (id : ℕ) → number_of ss key ≡ Some id → has_spot ss id ≡ true
+pub has_number : (ss : List Spot) (key : List ℕ) (id : ℕ) → slot_number_of ss key ≡ Some id → has_spot ss id ≡ true
 has_number [] key id e = no_some e
 has_number (s ∷ ss) key id e = by_test (same_bytes key s.slot.key) e (has_number ss key id)
   where
@@ -147,15 +147,15 @@ has_number (s ∷ ss) key id e = by_test (same_bytes key s.slot.key) e (has_numb
     or_true true = refl
     or_true false = refl
 
-    by_test : (b : Bool) → cond b (Some s.slot.number) (number_of ss key) ≡ Some id → (number_of ss key ≡ Some id → has_spot ss id ≡ true) → (eqb s.slot.number id || has_spot ss id) ≡ true
+    by_test : (b : Bool) → cond b (Some s.slot.number) (slot_number_of ss key) ≡ Some id → (slot_number_of ss key ≡ Some id → has_spot ss id ≡ true) → (eqb s.slot.number id || has_spot ss id) ≡ true
     by_test true e rest = ap (λ b. b || has_spot ss id) (eq-eqb s.slot.number id (one_some e))
     by_test false e rest = ap (λ b. eqb s.slot.number id || b) (rest e) ∙ or_true (eqb s.slot.number id)
 
-pub number_found : (ss : List Spot) (key : List ℕ) → number_of ss key ≡ option_map (λ (s : Spot). s.slot.number) (spot_of_key ss key)
+pub number_found : (ss : List Spot) (key : List ℕ) → slot_number_of ss key ≡ option_map (λ (s : Spot). s.slot.number) (spot_of_key ss key)
 number_found [] key = refl
-number_found (s ∷ ss) key = elim (same_bytes key s.slot.key) as (λ b. cond b (Some s.slot.number) (number_of ss key) ≡ option_map (λ (x : Spot). x.slot.number) (cond b (Some s) (spot_of_key ss key))) [ true ↦ refl | false ↦ number_found ss key ]
+number_found (s ∷ ss) key = elim (same_bytes key s.slot.key) as (λ b. cond b (Some s.slot.number) (slot_number_of ss key) ≡ option_map (λ (x : Spot). x.slot.number) (cond b (Some s) (spot_of_key ss key))) [ true ↦ refl | false ↦ number_found ss key ]
 
-pub none_found : (ss : List Spot) (key : List ℕ) → number_of ss key ≡ None → spot_of_key ss key ≡ None
+pub none_found : (ss : List Spot) (key : List ℕ) → slot_number_of ss key ≡ None → spot_of_key ss key ≡ None
 none_found ss key none = none_in (spot_of_key ss key) (sym (number_found ss key) ∙ none)
   where
     none_in : (o : Option Spot) → option_map (λ (s : Spot). s.slot.number) o ≡ None → o ≡ None
@@ -169,31 +169,31 @@ spot_of_number (s ∷ ss) id = cond (eqb s.slot.number id) (Some s) (spot_of_num
 
 -- the spot of a key that has the number is that of the number, and changes as such
 module _ (key : List ℕ) (id : ℕ) where
-  by_number : (ss : List Spot) → AreSpotsApart ss → number_of ss key ≡ Some id → spot_of_number ss id ≡ spot_of_key ss key
+  by_number : (ss : List Spot) → AreSpotsApart ss → slot_number_of ss key ≡ Some id → spot_of_number ss id ≡ spot_of_key ss key
   by_number [] apart e = no_some e
   by_number (s ∷ ss) apart e = by_test (same_bytes key s.slot.key) (eqb s.slot.number id) refl e (by_number ss apart.1)
     where
-      by_test : (b c : Bool) → eqb s.slot.number id ≡ c → cond b (Some s.slot.number) (number_of ss key) ≡ Some id → (number_of ss key ≡ Some id → spot_of_number ss id ≡ spot_of_key ss key) → cond c (Some s) (spot_of_number ss id) ≡ cond b (Some s) (spot_of_key ss key)
+      by_test : (b c : Bool) → eqb s.slot.number id ≡ c → cond b (Some s.slot.number) (slot_number_of ss key) ≡ Some id → (slot_number_of ss key ≡ Some id → spot_of_number ss id ≡ spot_of_key ss key) → cond c (Some s) (spot_of_number ss id) ≡ cond b (Some s) (spot_of_key ss key)
       by_test true true is e rest = refl
       by_test true false is e rest = no (sym is ∙ eq-eqb s.slot.number id (one_some e))
       by_test false true is e rest = no (sym apart.0 ∙ ap (has_spot ss) (eqb-true s.slot.number id is) ∙ has_number ss key id e)
       by_test false false is e rest = rest e
 
-  pub swapped : (g : Spot → Spot) (ss : List Spot) → Rise (rows_in ss) → AreSpotsApart ss → number_of ss key ≡ Some id → map (at_spot g id) ss ≡ map (at_key g key) ss
+  pub swapped : (g : Spot → Spot) (ss : List Spot) → Rise (rows_in ss) → AreSpotsApart ss → slot_number_of ss key ≡ Some id → map (at_spot g id) ss ≡ map (at_key g key) ss
   swapped g [] rise apart e = no_some e
   swapped g (s ∷ ss) rise apart e = by_test (same_bytes key s.slot.key) refl (eqb s.slot.number id) refl e (swapped g ss (tail_rises s ss rise) apart.1)
     where
-      by_test : (b : Bool) → same_bytes key s.slot.key ≡ b → (c : Bool) → eqb s.slot.number id ≡ c → cond b (Some s.slot.number) (number_of ss key) ≡ Some id → (number_of ss key ≡ Some id → map (at_spot g id) ss ≡ map (at_key g key) ss) → cond c (g s) s ∷ map (at_spot g id) ss ≡ cond b (g s) s ∷ map (at_key g key) ss
+      by_test : (b : Bool) → same_bytes key s.slot.key ≡ b → (c : Bool) → eqb s.slot.number id ≡ c → cond b (Some s.slot.number) (slot_number_of ss key) ≡ Some id → (slot_number_of ss key ≡ Some id → map (at_spot g id) ss ≡ map (at_key g key) ss) → cond c (g s) s ∷ map (at_spot g id) ss ≡ cond b (g s) s ∷ map (at_key g key) ss
       by_test true same true is e rest = ap (λ (xs : List Spot). g s ∷ xs) (apart_stay g id ss (ap (has_spot ss) (sym (eqb-true s.slot.number id is)) ∙ apart.0) ∙ sym (lacking_stay g key ss (head_lacks s ss key rise same)))
       by_test true same false is e rest = no (sym is ∙ eq-eqb s.slot.number id (one_some e))
       by_test false same true is e rest = no (sym apart.0 ∙ ap (has_spot ss) (eqb-true s.slot.number id is) ∙ has_number ss key id e)
       by_test false same false is e rest = ap (λ (xs : List Spot). s ∷ xs) (rest e)
 
-queue_numbered : (ss : List Spot) (id : ℕ) (s : Spot) → spot_of_number ss id ≡ Some s → queue_of ss id ≡ s.queue
+queue_numbered : (ss : List Spot) (id : ℕ) (s : Spot) → spot_of_number ss id ≡ Some s → queue_at_slot ss id ≡ s.queue
 queue_numbered [] id s e = no_some e
 queue_numbered (x ∷ xs) id s e = by_test (eqb x.slot.number id) e (queue_numbered xs id s)
   where
-    by_test : (b : Bool) → cond b (Some x) (spot_of_number xs id) ≡ Some s → (spot_of_number xs id ≡ Some s → queue_of xs id ≡ s.queue) → cond b x.queue (queue_of xs id) ≡ s.queue
+    by_test : (b : Bool) → cond b (Some x) (spot_of_number xs id) ≡ Some s → (spot_of_number xs id ≡ Some s → queue_at_slot xs id ≡ s.queue) → cond b x.queue (queue_at_slot xs id) ≡ s.queue
     by_test true e rest = ap (λ (y : Spot). y.queue) (one_some e)
     by_test false e rest = rest e
 
@@ -210,11 +210,11 @@ pub record IsFound (ss : List Spot) (key : List ℕ) (id : ℕ) (spot : Spot) : 
   pub at : spot_of_key ss key ≡ Some spot
   pub number : spot.slot.number ≡ id
   pub numbered : spot_of_number ss id ≡ Some spot
-  pub queue : queue_of ss id ≡ spot.queue
+  pub queue : queue_at_slot ss id ≡ spot.queue
   pub has : (f : Slot → Option (List ℕ)) → of_spot f ss id ≡ f spot.slot
   pub swaps : (g : Spot → Spot) → map (at_spot g id) ss ≡ map (at_key g key) ss
 
-pub found : (floor : Floor) (key : List ℕ) (id : ℕ) → IsFloorWhole floor → number_of floor.spots key ≡ Some id → (spot : Spot) × IsFound floor.spots key id spot
+pub found : (floor : Floor) (key : List ℕ) (id : ℕ) → IsFloorWhole floor → slot_number_of floor.spots key ≡ Some id → (spot : Spot) × IsFound floor.spots key id spot
 found floor key id whole e = by_spot (spot_of_key floor.spots key) refl
   where
     by_spot : (o : Option Spot) → spot_of_key floor.spots key ≡ o → (spot : Spot) × IsFound floor.spots key id spot
@@ -261,38 +261,38 @@ module _ (g : Spot → Spot) (key : List ℕ) (spot : Spot) where
 
 -- a spot that goes in
 module _ (new : Spot) where
-  pub rows_entered : (ss : List Spot) → spot_of_key ss new.slot.key ≡ None → rows_in (entered new ss) ≡ put key_cmp new.slot.key (row_in new).1 (rows_in ss)
+  pub rows_entered : (ss : List Spot) → spot_of_key ss new.slot.key ≡ None → rows_in (spots_with new ss) ≡ put key_cmp new.slot.key (row_in new).1 (rows_in ss)
   rows_entered [] none = refl
   rows_entered (s ∷ ss) none = by_test (key_cmp new.slot.key s.slot.key) none (rows_entered ss)
     where
-      by_test : (o : Ordering) → cond (is_eq o) (Some s) (spot_of_key ss new.slot.key) ≡ None → (spot_of_key ss new.slot.key ≡ None → rows_in (entered new ss) ≡ put key_cmp new.slot.key (row_in new).1 (rows_in ss)) → rows_in (cond (is_lt o) (new ∷ s ∷ ss) (s ∷ entered new ss))
+      by_test : (o : Ordering) → cond (is_eq o) (Some s) (spot_of_key ss new.slot.key) ≡ None → (spot_of_key ss new.slot.key ≡ None → rows_in (spots_with new ss) ≡ put key_cmp new.slot.key (row_in new).1 (rows_in ss)) → rows_in (cond (is_lt o) (new ∷ s ∷ ss) (s ∷ spots_with new ss))
           ≡ by_order o (row_in new ∷ row_in s ∷ rows_in ss) ((s.slot.key, (row_in new).1) ∷ rows_in ss) (row_in s ∷ put key_cmp new.slot.key (row_in new).1 (rows_in ss))
       by_test Less none rest = refl
       by_test Equal none rest = no_some (sym none)
       by_test Greater none rest = ap (λ (rows : List Row). row_in s ∷ rows) (rest none)
 
-  pub writes_entered : pending_in new.slot ≡ None → (ss : List Spot) → writes_in (entered new ss) ≡ writes_in ss
-  writes_entered nothing [] = ap (λ o. with_entry new.slot.key o []) nothing
-  writes_entered nothing (s ∷ ss) = elim (is_lt (key_cmp new.slot.key s.slot.key)) as (λ b. writes_in (cond b (new ∷ s ∷ ss) (s ∷ entered new ss)) ≡ writes_in (s ∷ ss)) [
-    | true ↦ ap (λ o. with_entry new.slot.key o (writes_in (s ∷ ss))) nothing
-    | false ↦ ap (with_entry s.slot.key (pending_in s.slot)) (writes_entered nothing ss)
+  pub writes_entered : pending_in new.slot ≡ None → (ss : List Spot) → pending_writes (spots_with new ss) ≡ pending_writes ss
+  writes_entered nothing [] = ap (λ o. with_optional_entry new.slot.key o []) nothing
+  writes_entered nothing (s ∷ ss) = elim (is_lt (key_cmp new.slot.key s.slot.key)) as (λ b. pending_writes (cond b (new ∷ s ∷ ss) (s ∷ spots_with new ss)) ≡ pending_writes (s ∷ ss)) [
+    | true ↦ ap (λ o. with_optional_entry new.slot.key o (pending_writes (s ∷ ss))) nothing
+    | false ↦ ap (with_optional_entry s.slot.key (pending_in s.slot)) (writes_entered nothing ss)
   ]
 
-  pub each_entered : (P : Spot → Type 0) → P new → (ss : List Spot) → Each P ss → Each P (entered new ss)
+  pub each_entered : (P : Spot → Type 0) → P new → (ss : List Spot) → Each P ss → Each P (spots_with new ss)
   each_entered P one [] each = (one, tt)
-  each_entered P one (s ∷ ss) each = elim (is_lt (key_cmp new.slot.key s.slot.key)) as (λ b. Each P (cond b (new ∷ s ∷ ss) (s ∷ entered new ss))) [ true ↦ (one, each) | false ↦ (each.0, each_entered P one ss each.1) ]
+  each_entered P one (s ∷ ss) each = elim (is_lt (key_cmp new.slot.key s.slot.key)) as (λ b. Each P (cond b (new ∷ s ∷ ss) (s ∷ spots_with new ss))) [ true ↦ (one, each) | false ↦ (each.0, each_entered P one ss each.1) ]
 
-  pub number_entered : (ss : List Spot) → number_of ss new.slot.key ≡ None → number_of (entered new ss) new.slot.key ≡ Some new.slot.number
+  pub number_entered : (ss : List Spot) → slot_number_of ss new.slot.key ≡ None → slot_number_of (spots_with new ss) new.slot.key ≡ Some new.slot.number
   number_entered [] none = ap (λ b. cond b (Some new.slot.number) None) (same_self new.slot.key)
   number_entered (s ∷ ss) none = by_test (is_lt (key_cmp new.slot.key s.slot.key)) (same_bytes new.slot.key s.slot.key) refl none (number_entered ss)
     where
-      by_test : (b c : Bool) → same_bytes new.slot.key s.slot.key ≡ c → cond c (Some s.slot.number) (number_of ss new.slot.key) ≡ None → (number_of ss new.slot.key ≡ None → number_of (entered new ss) new.slot.key ≡ Some new.slot.number) → number_of (cond b (new ∷ s ∷ ss) (s ∷ entered new ss)) new.slot.key ≡ Some new.slot.number
-      by_test true c is none rest = ap (λ b. cond b (Some new.slot.number) (number_of (s ∷ ss) new.slot.key)) (same_self new.slot.key)
+      by_test : (b c : Bool) → same_bytes new.slot.key s.slot.key ≡ c → cond c (Some s.slot.number) (slot_number_of ss new.slot.key) ≡ None → (slot_number_of ss new.slot.key ≡ None → slot_number_of (spots_with new ss) new.slot.key ≡ Some new.slot.number) → slot_number_of (cond b (new ∷ s ∷ ss) (s ∷ spots_with new ss)) new.slot.key ≡ Some new.slot.number
+      by_test true c is none rest = ap (λ b. cond b (Some new.slot.number) (slot_number_of (s ∷ ss) new.slot.key)) (same_self new.slot.key)
       by_test false true is none rest = no_some (sym none)
-      by_test false false is none rest = ap (λ b. cond b (Some s.slot.number) (number_of (entered new ss) new.slot.key)) is ∙ rest none
+      by_test false false is none rest = ap (λ b. cond b (Some s.slot.number) (slot_number_of (spots_with new ss) new.slot.key)) is ∙ rest none
 
 -- what is found if a spot has gone in
-pub key_entered : (new : Spot) (ss : List Spot) (q : List ℕ) → spot_of_key ss new.slot.key ≡ None → spot_of_key (entered new ss) q ≡ cond (same_bytes q new.slot.key) (Some new) (spot_of_key ss q)
+pub key_entered : (new : Spot) (ss : List Spot) (q : List ℕ) → spot_of_key ss new.slot.key ≡ None → spot_of_key (spots_with new ss) q ≡ cond (same_bytes q new.slot.key) (Some new) (spot_of_key ss q)
 key_entered new [] q none = refl
 key_entered new (s ∷ ss) q none = by_test (is_lt (key_cmp new.slot.key s.slot.key)) (same_bytes new.slot.key s.slot.key) refl none (key_entered new ss q)
   where
@@ -301,7 +301,7 @@ key_entered new (s ∷ ss) q none = by_test (is_lt (key_cmp new.slot.key s.slot.
     passed true false here there apart = refl
     passed false d here there apart = refl
 
-    by_test : (b c : Bool) → same_bytes new.slot.key s.slot.key ≡ c → cond c (Some s) (spot_of_key ss new.slot.key) ≡ None → (spot_of_key ss new.slot.key ≡ None → spot_of_key (entered new ss) q ≡ cond (same_bytes q new.slot.key) (Some new) (spot_of_key ss q)) → spot_of_key (cond b (new ∷ s ∷ ss) (s ∷ entered new ss)) q ≡ cond (same_bytes q new.slot.key) (Some new) (spot_of_key (s ∷ ss) q)
+    by_test : (b c : Bool) → same_bytes new.slot.key s.slot.key ≡ c → cond c (Some s) (spot_of_key ss new.slot.key) ≡ None → (spot_of_key ss new.slot.key ≡ None → spot_of_key (spots_with new ss) q ≡ cond (same_bytes q new.slot.key) (Some new) (spot_of_key ss q)) → spot_of_key (cond b (new ∷ s ∷ ss) (s ∷ spots_with new ss)) q ≡ cond (same_bytes q new.slot.key) (Some new) (spot_of_key (s ∷ ss) q)
     by_test b true is none rest = no_some (sym none)
     by_test true false is none rest = refl
     by_test false false is none rest = ap (cond (same_bytes q s.slot.key) (Some s)) (rest none) ∙ passed (same_bytes q s.slot.key) (same_bytes q new.slot.key) refl refl is
@@ -321,9 +321,9 @@ map_same g same [] = refl
 map_same g same (s ∷ ss) = ap (λ (x : Spot). x ∷ map g ss) (same s) ∙ ap (λ (xs : List Spot). s ∷ xs) (map_same g same ss)
 
 -- writes that stay
-pub writes_same : (g : Spot → Spot) → ((s : Spot) → (g s).slot.key ≡ s.slot.key) → ((s : Spot) → pending_in (g s).slot ≡ pending_in s.slot) → (ss : List Spot) → writes_in (map g ss) ≡ writes_in ss
+pub writes_same : (g : Spot → Spot) → ((s : Spot) → (g s).slot.key ≡ s.slot.key) → ((s : Spot) → pending_in (g s).slot ≡ pending_in s.slot) → (ss : List Spot) → pending_writes (map g ss) ≡ pending_writes ss
 writes_same g keys same [] = refl
-writes_same g keys same (s ∷ ss) = ap (λ k. with_entry k (pending_in (g s).slot) (writes_in (map g ss))) (keys s) ∙ ap (λ o. with_entry s.slot.key o (writes_in (map g ss))) (same s) ∙ ap (with_entry s.slot.key (pending_in s.slot)) (writes_same g keys same ss)
+writes_same g keys same (s ∷ ss) = ap (λ k. with_optional_entry k (pending_in (g s).slot) (pending_writes (map g ss))) (keys s) ∙ ap (λ o. with_optional_entry s.slot.key o (pending_writes (map g ss))) (same s) ∙ ap (with_optional_entry s.slot.key (pending_in s.slot)) (writes_same g keys same ss)
 
 -- a spot that has changed has its number still
 pub has_same : (g : Spot → Spot) → ((s : Spot) → (g s).slot.number ≡ s.slot.number) → (id n : ℕ) (ss : List Spot) → has_spot (map (at_spot g id) ss) n ≡ has_spot ss n

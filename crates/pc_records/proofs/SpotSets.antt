@@ -9,7 +9,7 @@ use Rattle.pc_model.specs.Queues.{IsLegalQueue, IsSettled}
 use Rattle.pc_locks.specs.States.{Queues, queue_at}
 use Rattle.pc_model.specs.Points.{is_among}
 use Rattle.pc_slots.specs.declared.versions.Writer.{Writer}
-use Rattle.pc_slots.specs.Slots.{Slot, Pending, write_of, closed_slot, committed, is_prepared}
+use Rattle.pc_slots.specs.Slots.{Slot, Pending, pending_of_writer, closed_slot, committed, is_prepared}
 use Rattle.pc_dirty.specs.declared.dirty.Dirty.{Dirty}
 use Rattle.pc_locks.specs.Keepers as keepers
 use Rattle.pc_table.specs.Rows.{Contents}
@@ -20,7 +20,7 @@ use Rattle.pc_records.specs.RowSteps.{closed_row, committed_row}
 use Rattle.pc_records.specs.Slots.{slots_in, row_of, rows_of, no_queues, numbers_of, times, AreSlotsKept}
 use Rattle.pc_records.specs.SetLists.{IsListed, open_keys, closed_keys}
 use Rattle.pc_records.specs.Tables.{first_pinned}
-use Rattle.pc_records.specs.Floor.{Spot, Floor, IsFloorWhole, Each, AreSpotsApart, AreSpotsSound, row_in, rows_in, writes_in, spots_of, floor_of, changed, has_spot, unnumbered, first_spot, content_at, first_of_closed, committed_at}
+use Rattle.pc_records.specs.Floor.{Spot, Floor, IsFloorWhole, Each, AreSpotsApart, AreSpotsSound, row_in, rows_in, pending_writes, spots_of, floor_of, with_slot_changed, has_spot, unnumbered, first_spot, content_at_point, first_of_closed, committed_at}
 use Rattle.pc_records.proofs.Among.{all_are_listed}
 use Rattle.pc_records.proofs.Exclusive.{settled_legal}
 use Rattle.pc_records.proofs.Moments.{closed_sound, row_closed}
@@ -77,9 +77,9 @@ pub first_same : (ss : List Spot) (keys : List (List ℕ)) → first_of_closed s
 first_same ss [] = refl
 first_same ss (key ∷ keys) = ap (λ (content : Option (List ℕ)). Some (key, content)) (same ss)
   where
-    same : (xs : List Spot) → content_at xs key ≡ at_point (record_of (rows_in xs) key)
+    same : (xs : List Spot) → content_at_point xs key ≡ at_point (record_of (rows_in xs) key)
     same [] = refl
-    same (x ∷ xs) = elim (same_bytes key x.slot.key) as (λ b. cond b (row_in x).1.pinned (content_at xs key) ≡ at_point (cond b (Some (row_in x).1) (record_of (rows_in xs) key))) [ true ↦ refl | false ↦ same xs ]
+    same (x ∷ xs) = elim (same_bytes key x.slot.key) as (λ b. cond b (row_in x).1.pinned (content_at_point xs key) ≡ at_point (cond b (Some (row_in x).1) (record_of (rows_in xs) key))) [ true ↦ refl | false ↦ same xs ]
 
 -- what is committed of a key
 pub committed_same : (ss : List Spot) (key : List ℕ) → committed_at ss key ≡ stored (record_of (rows_in ss) key)
@@ -87,7 +87,7 @@ committed_same [] key = refl
 committed_same (s ∷ ss) key = elim (same_bytes key s.slot.key) as (λ b. cond b (committed s.slot) (committed_at ss key) ≡ stored (cond b (Some (row_in s).1) (record_of (rows_in ss) key))) [ true ↦ refl | false ↦ committed_same ss key ]
 
 -- the open set is closed
-module _ (point later : ℕ) (floor : Floor) (whole : IsFloorWhole floor) (sound : AreSpotsSound point floor.spots) (after : point < later) (none : floor.closed ≡ []) (during : (q : List ℕ) (p : Pending) → find key_cmp q (writes_in floor.spots) ≡ Some p → p.class ≡ During) where
+module _ (point later : ℕ) (floor : Floor) (whole : IsFloorWhole floor) (sound : AreSpotsSound point floor.spots) (after : point < later) (none : floor.closed ≡ []) (during : (q : List ℕ) (p : Pending) → find key_cmp q (pending_writes floor.spots) ≡ Some p → p.class ≡ During) where
   abbrev IsOpen : Spot → Type 0
   IsOpen s = (s.slot.is_in_closed_set ≡ false) × (is_prepared s.slot.writer ≡ true)
 
@@ -99,26 +99,26 @@ module _ (point later : ℕ) (floor : Floor) (whole : IsFloorWhole floor) (sound
         where
           by_writer : (o : Option Writer) → s.slot.writer ≡ o → is_prepared o ≡ true
           by_writer None is = refl
-          by_writer (Some w) is = ap (λ c. same_class c During) (during q (record { by = w.transaction; class = w.class; value = s.slot.live }) (found_write floor.spots q whole.rise ∙ ap write_in found ∙ ap (λ o. write_of o s.slot.live) is))
+          by_writer (Some w) is = ap (λ c. same_class c During) (during q (record { by = w.transaction; class = w.class; value = s.slot.live }) (found_write floor.spots q whole.rise ∙ ap write_in found ∙ ap (λ o. pending_of_writer o s.slot.live) is))
 
-  pub sound_closed : AreSpotsSound later (map (changed closed_slot) floor.spots)
+  pub sound_closed : AreSpotsSound later (map (with_slot_changed closed_slot) floor.spots)
   sound_closed = all floor.spots all_open sound
     where
-      all : (ss : List Spot) → Each IsOpen ss → AreSpotsSound point ss → AreSpotsSound later (map (changed closed_slot) ss)
+      all : (ss : List Spot) → Each IsOpen ss → AreSpotsSound point ss → AreSpotsSound later (map (with_slot_changed closed_slot) ss)
       all [] each sound = tt
       all (s ∷ ss) each sound = (closed_sound point later s.queue s.slot after each.0.0 sound.0 each.0.1, all ss each.1 sound.1)
 
-  pub rows_closed : rows_in (map (changed closed_slot) floor.spots) ≡ map closed_row (rows_in floor.spots)
+  pub rows_closed : rows_in (map (with_slot_changed closed_slot) floor.spots) ≡ map closed_row (rows_in floor.spots)
   rows_closed = all floor.spots all_open sound
     where
-      all : (ss : List Spot) → Each IsOpen ss → AreSpotsSound point ss → rows_in (map (changed closed_slot) ss) ≡ map closed_row (rows_in ss)
+      all : (ss : List Spot) → Each IsOpen ss → AreSpotsSound point ss → rows_in (map (with_slot_changed closed_slot) ss) ≡ map closed_row (rows_in ss)
       all [] each sound = refl
       all (s ∷ ss) each sound =
-          ap (λ (r : Row). r ∷ rows_in (map (changed closed_slot) ss)) (row_closed point later s.queue s.slot after each.0.0 sound.0 (λ n. s.queue) each.0.1)
+          ap (λ (r : Row). r ∷ rows_in (map (with_slot_changed closed_slot) ss)) (row_closed point later s.queue s.slot after each.0.0 sound.0 (λ n. s.queue) each.0.1)
           ∙ ap (λ (rows : List Row). closed_row (row_in s) ∷ rows) (all ss each.1 sound.1)
 
-pub writes_closed : (ss : List Spot) → writes_in (map (changed closed_slot) ss) ≡ writes_in ss
-writes_closed = writes_same (changed closed_slot) (λ s. refl) (λ s. refl)
+pub writes_closed : (ss : List Spot) → pending_writes (map (with_slot_changed closed_slot) ss) ≡ pending_writes ss
+writes_closed = writes_same (with_slot_changed closed_slot) (λ s. refl) (λ s. refl)
 
 -- the first spots
 module _ (pairs : List (List ℕ × List ℕ)) where
@@ -133,10 +133,10 @@ module _ (pairs : List (List ℕ × List ℕ)) where
       all [] = refl
       all (p ∷ ps) = ap (λ (rows : List Row). committed_row p ∷ rows) (all ps)
 
-  pub writes_first : (ss : List Spot) → map unnumbered ss ≡ map first_spot pairs → writes_in ss ≡ []
-  writes_first ss are = sym (writes_same unnumbered (λ s. refl) (λ s. refl) ss) ∙ ap writes_in are ∙ all pairs
+  pub writes_first : (ss : List Spot) → map unnumbered ss ≡ map first_spot pairs → pending_writes ss ≡ []
+  writes_first ss are = sym (writes_same unnumbered (λ s. refl) (λ s. refl) ss) ∙ ap pending_writes are ∙ all pairs
     where
-      all : (ps : List (List ℕ × List ℕ)) → writes_in (map first_spot ps) ≡ []
+      all : (ps : List (List ℕ × List ℕ)) → pending_writes (map first_spot ps) ≡ []
       all [] = refl
       all (p ∷ ps) = all ps
 

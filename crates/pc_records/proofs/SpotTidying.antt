@@ -9,11 +9,11 @@ use Rattle.pc_model.specs.Locks.{queue_without}
 use Rattle.pc_model.specs.Queues.{stands_in}
 use Rattle.pc_model.proofs.RisingLaws.{Rise}
 use Rattle.pc_slots.specs.declared.versions.Writer.{Writer}
-use Rattle.pc_slots.specs.Slots.{Pending, pending_in, write_of, is_locked, IsSlotSound, taken_slot}
+use Rattle.pc_slots.specs.Slots.{Pending, pending_in, pending_of_writer, is_locked, IsSlotSound, taken_slot}
 use Rattle.pc_records.specs.Rows.{Row, is_kept, Record, record_of}
-use Rattle.pc_records.specs.RowSteps.{if_kept, with_row, released, released_rows, left_of, with_left, left_rows}
-use Rattle.pc_records.specs.Slots.{with_entry}
-use Rattle.pc_records.specs.Floor.{Spot, Floor, IsFloorWhole, Each, AreSpotsApart, AreSpotsSound, row_in, rows_in, writes_in, table_on, changed, at_spot, with_spot, IsOver, IsFloorReleased, has_spot, let_go, stands_at, stands_anywhere, is_needed, tidied, standing, TakesFirstSpot, number_of}
+use Rattle.pc_records.specs.RowSteps.{if_kept, with_row, released, released_rows, record_after_take, with_left, left_rows}
+use Rattle.pc_records.specs.Slots.{with_optional_entry}
+use Rattle.pc_records.specs.Floor.{Spot, Floor, IsFloorWhole, Each, AreSpotsApart, AreSpotsSound, row_in, rows_in, pending_writes, table_on, with_slot_changed, at_spot, with_spot, HasNoPendingWrite, IsFloorReleased, has_spot, let_go, stands_at, stands_anywhere, is_needed, tidied, standing, TakesFirstSpot, slot_number_of}
 use Rattle.pc_records.proofs.Exclusive.{kept_released}
 use Rattle.pc_records.proofs.Moments.{sound_queue, kept_row, taken_sound}
 use Rattle.pc_records.proofs.FloorTidying.{no_request}
@@ -58,18 +58,18 @@ each_tidied P id (s ∷ ss) each = elim (not (eqb s.slot.number id) || is_needed
 bare_write : (point : ℕ) (s : Spot) → IsSlotSound point s.queue s.slot → is_needed s ≡ false → pending_in s.slot ≡ None
 bare_write point s sound bare = by_writer s.slot.writer (ap (λ q. is_locked q s.slot.writer) (sym (no_request s.queue s.slot bare)) ∙ sound.locked)
   where
-    by_writer : (o : Option Writer) → is_locked [] o ≡ true → write_of o s.slot.live ≡ None
+    by_writer : (o : Option Writer) → is_locked [] o ≡ true → pending_of_writer o s.slot.live ≡ None
     by_writer None locked = refl
     by_writer (Some w) locked = no locked
 
-pub writes_tidied : (point id : ℕ) (ss : List Spot) → AreSpotsSound point ss → writes_in (tidied id ss) ≡ writes_in ss
+pub writes_tidied : (point id : ℕ) (ss : List Spot) → AreSpotsSound point ss → pending_writes (tidied id ss) ≡ pending_writes ss
 writes_tidied point id [] sound = refl
 writes_tidied point id (s ∷ ss) sound = by_test (not (eqb s.slot.number id)) (is_needed s) refl (writes_tidied point id ss sound.1)
   where
-    by_test : (a b : Bool) → is_needed s ≡ b → writes_in (tidied id ss) ≡ writes_in ss → writes_in (cond (a || b) (s ∷ tidied id ss) (tidied id ss)) ≡ with_entry s.slot.key (pending_in s.slot) (writes_in ss)
-    by_test true b is rest = ap (with_entry s.slot.key (pending_in s.slot)) rest
-    by_test false true is rest = ap (with_entry s.slot.key (pending_in s.slot)) rest
-    by_test false false is rest = rest ∙ sym (ap (λ o. with_entry s.slot.key o (writes_in ss)) (bare_write point s sound.0 is))
+    by_test : (a b : Bool) → is_needed s ≡ b → pending_writes (tidied id ss) ≡ pending_writes ss → pending_writes (cond (a || b) (s ∷ tidied id ss) (tidied id ss)) ≡ with_optional_entry s.slot.key (pending_in s.slot) (pending_writes ss)
+    by_test true b is rest = ap (with_optional_entry s.slot.key (pending_in s.slot)) rest
+    by_test false true is rest = ap (with_optional_entry s.slot.key (pending_in s.slot)) rest
+    by_test false false is rest = rest ∙ sym (ap (λ o. with_optional_entry s.slot.key o (pending_writes ss)) (bare_write point s sound.0 is))
 
 -- what keeps a spot keeps its row
 needed_row : (point : ℕ) (s : Spot) → IsSlotSound point s.queue s.slot → is_needed s ≡ is_kept (row_in s).1
@@ -159,10 +159,10 @@ module _ (t id : ℕ) where
   abbrev IsOverAt : Spot → Type 0
   IsOverAt s = (w : Writer) → s.slot.writer ≡ Some w → eqb w.transaction t ≡ false
 
-  over_all : (ss : List Spot) → Rise (rows_in ss) → ((q : List ℕ) (p : Pending) → find key_cmp q (writes_in ss) ≡ Some p → eqb p.by t ≡ false) → Each IsOverAt ss
-  over_all ss rise over = each_by_key IsOverAt ss rise (λ q s found w is. over q (record { by = w.transaction; class = w.class; value = s.slot.live }) (found_write ss q rise ∙ ap write_in found ∙ ap (λ o. write_of o s.slot.live) is))
+  over_all : (ss : List Spot) → Rise (rows_in ss) → ((q : List ℕ) (p : Pending) → find key_cmp q (pending_writes ss) ≡ Some p → eqb p.by t ≡ false) → Each IsOverAt ss
+  over_all ss rise over = each_by_key IsOverAt ss rise (λ q s found w is. over q (record { by = w.transaction; class = w.class; value = s.slot.live }) (found_write ss q rise ∙ ap write_in found ∙ ap (λ o. pending_of_writer o s.slot.live) is))
 
-  pub sound_let_go : (point : ℕ) (ss : List Spot) → Rise (rows_in ss) → ((q : List ℕ) (p : Pending) → find key_cmp q (writes_in ss) ≡ Some p → eqb p.by t ≡ false) → AreSpotsSound point ss → AreSpotsSound point (map (at_spot (let_go t) id) ss)
+  pub sound_let_go : (point : ℕ) (ss : List Spot) → Rise (rows_in ss) → ((q : List ℕ) (p : Pending) → find key_cmp q (pending_writes ss) ≡ Some p → eqb p.by t ≡ false) → AreSpotsSound point ss → AreSpotsSound point (map (at_spot (let_go t) id) ss)
   sound_let_go point ss rise over sound = all ss (over_all ss rise over) sound
     where
       one : (s : Spot) → IsOverAt s → IsSlotSound point s.queue s.slot → IsSlotSound point (queue_without s.queue t) s.slot
@@ -176,7 +176,7 @@ module _ (t id : ℕ) where
       all [] over sound = tt
       all (s ∷ xs) over sound = (elim (eqb s.slot.number id) as (λ b. IsSlotSound point (cond b (let_go t s) s).queue (cond b (let_go t s) s).slot) [ true ↦ one s over.0 sound.0 | false ↦ sound.0 ], all xs over.1 sound.1)
 
-  pub writes_let_go : (ss : List Spot) → writes_in (map (at_spot (let_go t) id) ss) ≡ writes_in ss
+  pub writes_let_go : (ss : List Spot) → pending_writes (map (at_spot (let_go t) id) ss) ≡ pending_writes ss
   writes_let_go ss =
       writes_same (at_spot (let_go t) id) (λ s. elim (eqb s.slot.number id) as (λ b. (cond b (let_go t s) s).slot.key ≡ s.slot.key) [ true ↦ refl | false ↦ refl ])
       (λ s. elim (eqb s.slot.number id) as (λ b. pending_in (cond b (let_go t s) s).slot ≡ pending_in s.slot) [ true ↦ refl | false ↦ refl ]) ss
@@ -215,7 +215,7 @@ module _ (g : Spot → Spot) (numbers : (s : Spot) → (g s).slot.number ≡ s.s
 -- a key is taken
 module _ (point : ℕ) (floor : Floor) (whole : IsFloorWhole floor) (key : List ℕ) (id : ℕ) (spot : Spot) (f : IsFound floor.spots key id spot) (sound : AreSpotsSound point floor.spots) (over : (w : Writer) → spot.slot.writer ≡ Some w → same_class w.class During ≡ false) where
   abbrev taken : Spot → Spot
-  taken = changed taken_slot
+  taken = with_slot_changed taken_slot
 
   sound_one : IsSlotSound point spot.queue (taken_slot spot.slot)
   sound_one = taken_sound point spot.queue spot.slot over (each_found (λ s. IsSlotSound point s.queue s.slot) floor.spots key spot sound f.at)
@@ -223,7 +223,7 @@ module _ (point : ℕ) (floor : Floor) (whole : IsFloorWhole floor) (key : List 
   pub sound_taken : AreSpotsSound point (map (at_spot taken id) floor.spots)
   sound_taken = subst (AreSpotsSound point) (sym (f.swaps taken)) (each_changed taken key spot (λ s. IsSlotSound point s.queue s.slot) floor.spots whole.rise f.at sound_one sound)
 
-  pub writes_taken : writes_in (map (at_spot taken id) floor.spots) ≡ writes_in floor.spots
+  pub writes_taken : pending_writes (map (at_spot taken id) floor.spots) ≡ pending_writes floor.spots
   writes_taken =
       writes_same (at_spot taken id) (λ s. elim (eqb s.slot.number id) as (λ b. (cond b (taken s) s).slot.key ≡ s.slot.key) [ true ↦ refl | false ↦ refl ])
       (λ s. elim (eqb s.slot.number id) as (λ b. pending_in (cond b (taken s) s).slot ≡ pending_in s.slot) [ true ↦ refl | false ↦ refl ]) floor.spots
@@ -232,7 +232,7 @@ module _ (point : ℕ) (floor : Floor) (whole : IsFloorWhole floor) (key : List 
   here = ap (λ k. same_bytes k spot.slot.key) (key_found floor.spots key spot f.at) ∙ same_self spot.slot.key
 
   pub rows_taken : rows_in (tidied id (map (at_spot taken id) floor.spots)) ≡ left_rows (rows_in floor.spots) key
-  rows_taken = by_kept (is_needed (taken spot)) refl ∙ sym (ap (λ o. with_left (left_of o) key (rows_in floor.spots)) (found_record floor.spots key ∙ ap record_in f.at))
+  rows_taken = by_kept (is_needed (taken spot)) refl ∙ sym (ap (λ o. with_left (record_after_take o) key (rows_in floor.spots)) (found_record floor.spots key ∙ ap record_in f.at))
     where
       by_kept : (b : Bool) → is_needed (taken spot) ≡ b → rows_in (tidied id (map (at_spot taken id) floor.spots)) ≡ with_left (if_kept (row_in (taken spot)).1) key (rows_in floor.spots)
       by_kept true needed =
@@ -247,20 +247,20 @@ module _ (point t : ℕ) where
   pub left_then : (a b c : Floor) → IsFloorReleased point t a b → IsFloorReleased point t b c → IsFloorReleased point t a c
   left_then a b c p q = record { same = q.same ∙ ap (λ (f : Floor). record f { spots = c.spots }) p.same; writes = q.writes ∙ p.writes; sound = q.sound; rows = q.rows ∙ p.rows }
 
-  pub over_then : (a b : Floor) → IsOver t a.spots → IsFloorReleased point t a b → IsOver t b.spots
+  pub over_then : (a b : Floor) → HasNoPendingWrite t a.spots → IsFloorReleased point t a b → HasNoPendingWrite t b.spots
   over_then a b over l q p found = over q p (ap (find key_cmp q) (sym l.writes) ∙ found)
 
   pub left_none : (old new : Floor) → new ≡ old → AreSpotsSound point old.spots → IsFloorReleased point t old new
   left_none old new same sound = subst (IsFloorReleased point t old) (sym same) (record { same = refl; writes = refl; sound = sound; rows = refl })
 
-  pub left_one : (id : ℕ) (old mid new : Floor) → IsFloorWhole old → stands_at old.spots id t ≡ true → mid ≡ with_spot (let_go t) id old → new ≡ record mid { spots = tidied id mid.spots } → AreSpotsSound point old.spots → IsOver t old.spots → IsFloorReleased point t old new
+  pub left_one : (id : ℕ) (old mid new : Floor) → IsFloorWhole old → stands_at old.spots id t ≡ true → mid ≡ with_spot (let_go t) id old → new ≡ record mid { spots = tidied id mid.spots } → AreSpotsSound point old.spots → HasNoPendingWrite t old.spots → IsFloorReleased point t old new
   left_one id old mid new whole stands mid_is new_is sound over =
       let is : new ≡ record old { spots = left t id old.spots } = new_is ∙ ap (λ (f : Floor). record f { spots = tidied id f.spots }) mid_is in
       let spots : new.spots ≡ left t id old.spots = ap (λ (f : Floor). f.spots) is in
       let here : AreSpotsSound point (map (at_spot (let_go t) id) old.spots) = sound_let_go t id point old.spots whole.rise over sound in
       record {
         same = is ∙ ap (λ (ss : List Spot). record old { spots = ss }) (sym spots);
-        writes = ap writes_in spots ∙ writes_tidied point id (map (at_spot (let_go t) id) old.spots) here ∙ writes_let_go t id old.spots;
+        writes = ap pending_writes spots ∙ writes_tidied point id (map (at_spot (let_go t) id) old.spots) here ∙ writes_let_go t id old.spots;
         sound = subst (AreSpotsSound point) (sym spots) (each_tidied (λ s. IsSlotSound point s.queue s.slot) id (map (at_spot (let_go t) id) old.spots) here);
         rows = ap (λ (ss : List Spot). released_rows t (rows_in ss)) spots ∙ released_left t id point old.spots whole.apart here stands;
       }
@@ -295,30 +295,30 @@ module _ (point t : ℕ) where
 
 -- the first key of the closed set is taken
 module _ (point id : ℕ) (old mid new : Floor) (whole : IsFloorWhole old) (sound : AreSpotsSound point old.spots) (takes : TakesFirstSpot old mid id) (new_is : new ≡ record mid { spots = tidied id mid.spots }) (key : List ℕ) (keys : List (List ℕ)) (first : old.closed ≡ key ∷ keys)
-    (over : (p : Pending) → find key_cmp key (writes_in old.spots) ≡ Some p → same_class p.class During ≡ false) where
+    (over : (p : Pending) → find key_cmp key (pending_writes old.spots) ≡ Some p → same_class p.class During ≡ false) where
   one_list : {A : Type 0} {x y : A} {xs ys : List A} → x ∷ xs ≡ y ∷ ys → (x ≡ y) × (xs ≡ ys)
   one_list e = (cc, cc)
 
-  there : number_of old.spots key ≡ Some id
-  there = ap (number_of old.spots) (one_list (sym first ∙ takes.first)).0 ∙ takes.found
+  there : slot_number_of old.spots key ≡ Some id
+  there = ap (slot_number_of old.spots) (one_list (sym first ∙ takes.first)).0 ∙ takes.found
 
   spot : (s : Spot) × IsFound old.spots key id s
   spot = found old key id whole there
 
   ready : (w : Writer) → spot.0.slot.writer ≡ Some w → same_class w.class During ≡ false
-  ready w is = over (record { by = w.transaction; class = w.class; value = spot.0.slot.live }) (found_write old.spots key whole.rise ∙ ap write_in spot.1.at ∙ ap (λ o. write_of o spot.0.slot.live) is)
+  ready w is = over (record { by = w.transaction; class = w.class; value = spot.0.slot.live }) (found_write old.spots key whole.rise ∙ ap write_in spot.1.at ∙ ap (λ o. pending_of_writer o spot.0.slot.live) is)
 
-  is : new ≡ record old { spots = tidied id (map (at_spot (changed taken_slot) id) old.spots); closed = takes.keys }
+  is : new ≡ record old { spots = tidied id (map (at_spot (with_slot_changed taken_slot) id) old.spots); closed = takes.keys }
   is = new_is ∙ ap (λ (f : Floor). record f { spots = tidied id f.spots }) takes.taken
 
   pub sound_take : AreSpotsSound point new.spots
-  sound_take = subst (λ (f : Floor). AreSpotsSound point f.spots) (sym is) (each_tidied (λ s. IsSlotSound point s.queue s.slot) id (map (at_spot (changed taken_slot) id) old.spots) (sound_taken point old whole key id spot.0 spot.1 sound ready))
+  sound_take = subst (λ (f : Floor). AreSpotsSound point f.spots) (sym is) (each_tidied (λ s. IsSlotSound point s.queue s.slot) id (map (at_spot (with_slot_changed taken_slot) id) old.spots) (sound_taken point old whole key id spot.0 spot.1 sound ready))
 
   pub table_take : (key : List ℕ) (keys : List (List ℕ)) → old.closed ≡ key ∷ keys → table_on point new ≡ record (table_on point old) { rows = left_rows (rows_in old.spots) key; shut = keys }
   table_take other others again = λ i. record {
     capacity = (is i).capacity;
     rows = (ap (λ (f : Floor). rows_in f.spots) is ∙ rows_taken point old whole key id spot.0 spot.1 sound ready ∙ ap (left_rows (rows_in old.spots)) (one_list (sym first ∙ again)).0) i;
-    pending = (ap (λ (f : Floor). writes_in f.spots) is ∙ writes_tidied point id (map (at_spot (changed taken_slot) id) old.spots) (sound_taken point old whole key id spot.0 spot.1 sound ready) ∙ writes_taken point old whole key id spot.0 spot.1 sound ready) i;
+    pending = (ap (λ (f : Floor). pending_writes f.spots) is ∙ writes_tidied point id (map (at_spot (with_slot_changed taken_slot) id) old.spots) (sound_taken point old whole key id spot.0 spot.1 sound ready) ∙ writes_taken point old whole key id spot.0 spot.1 sound ready) i;
     point = point;
     opened = (is i).opened;
     shut = (ap (λ (f : Floor). f.closed) is ∙ (one_list (sym takes.first ∙ again)).1) i;
@@ -326,4 +326,4 @@ module _ (point id : ℕ) (old mid new : Floor) (whole : IsFloorWhole old) (soun
 
 -- and its slot is there still
 pub taken_there : (id : ℕ) (old mid : Floor) → TakesFirstSpot old mid id → has_spot mid.spots id ≡ true
-taken_there id old mid takes = ap (λ (f : Floor). has_spot f.spots id) takes.taken ∙ has_same (changed taken_slot) (λ s. refl) id id old.spots ∙ has_number old.spots takes.key id takes.found
+taken_there id old mid takes = ap (λ (f : Floor). has_spot f.spots id) takes.taken ∙ has_same (with_slot_changed taken_slot) (λ s. refl) id id old.spots ∙ has_number old.spots takes.key id takes.found

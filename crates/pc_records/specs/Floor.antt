@@ -14,7 +14,7 @@ use Rattle.pc_model.specs.Queues.{stands_in, IsLegalQueue}
 use Rattle.pc_slots.specs.Slots.{Slot, new_slot, is_kept_slot, taken_slot, pinned, keeps_copy, committed, settled, undone, Pending, pending_in, IsSlotSound}
 use Rattle.pc_records.specs.Rows.{Row}
 use Rattle.pc_records.specs.RowSteps.{released_rows}
-use Rattle.pc_records.specs.Slots.{with_entry}
+use Rattle.pc_records.specs.Slots.{with_optional_entry}
 use Rattle.pc_records.specs.Tables.{RecordsView, AreListed}
 
 -- a slot, and the queue of its key's requests
@@ -48,8 +48,8 @@ abbrev pub with_spot : (Spot → Spot) → ℕ → Floor → Floor
 with_spot f number floor = record floor { spots = map (at_spot f number) floor.spots }
 
 -- a spot with its slot so changed
-abbrev pub changed : (Slot → Slot) → Spot → Spot
-changed f spot = record spot { slot = f spot.slot }
+abbrev pub with_slot_changed : (Slot → Slot) → Spot → Spot
+with_slot_changed f spot = record spot { slot = f spot.slot }
 
 -- a spot with its queue so changed
 abbrev pub queued : (Queue → Queue) → Spot → Spot
@@ -64,9 +64,9 @@ abbrev pub asked : ℕ → Mode → Outcome → Spot → Spot
 asked t mode answer = queued (λ q. queue_after q t mode answer)
 
 -- the queue at the slot of the number; none if there is no such slot
-abbrev pub queue_of : List Spot → ℕ → Queue
-queue_of [] number = []
-queue_of (spot ∷ spots) number = if spot.slot.number == number then spot.queue else queue_of spots number
+abbrev pub queue_at_slot : List Spot → ℕ → Queue
+queue_at_slot [] number = []
+queue_at_slot (spot ∷ spots) number = if spot.slot.number == number then spot.queue else queue_at_slot spots number
 
 -- a request of the transaction waits
 abbrev pub waits_anywhere : List Spot → ℕ → Bool
@@ -89,18 +89,18 @@ newly_opened [] number = []
 newly_opened (spot ∷ spots) number = if spot.slot.number == number then if is_some spot.slot.writer && not spot.slot.is_in_open_set then spot.slot.key ∷ [] else [] else newly_opened spots number
 
 -- the number of the key's slot; none if the key has no slot
-abbrev pub number_of : List Spot → List ℕ → Option ℕ
-number_of [] key = None
-number_of (spot ∷ spots) key = if same_bytes key spot.slot.key then Some spot.slot.number else number_of spots key
+abbrev pub slot_number_of : List Spot → List ℕ → Option ℕ
+slot_number_of [] key = None
+slot_number_of (spot ∷ spots) key = if same_bytes key spot.slot.key then Some spot.slot.number else slot_number_of spots key
 
 -- a slot of a key that has nothing yet, and no request
 abbrev pub new_spot : ℕ → List ℕ → Spot
 new_spot number key = record { slot = new_slot number key; queue = [] }
 
 -- the spots with this one, before the first whose key is greater
-abbrev pub entered : Spot → List Spot → List Spot
-entered new [] = new ∷ []
-entered new (spot ∷ spots) = if is_lt (key_cmp new.slot.key spot.slot.key) then new ∷ spot ∷ spots else spot ∷ entered new spots
+abbrev pub spots_with : Spot → List Spot → List Spot
+spots_with new [] = new ∷ []
+spots_with new (spot ∷ spots) = if is_lt (key_cmp new.slot.key spot.slot.key) then new ∷ spot ∷ spots else spot ∷ spots_with new spots
 
 -- something keeps the spot: a value, a version, a request or a set
 abbrev pub is_needed : Spot → Bool
@@ -115,18 +115,18 @@ pub record TakesFirstSpot (old new : Floor) (number : ℕ) : Type 0 where
   pub key : List ℕ
   pub keys : List (List ℕ)
   pub first : old.closed ≡ key ∷ keys
-  pub found : number_of old.spots key ≡ Some number
-  pub taken : new ≡ record (with_spot (changed taken_slot) number old) { closed = keys }
+  pub found : slot_number_of old.spots key ≡ Some number
+  pub taken : new ≡ record (with_spot (with_slot_changed taken_slot) number old) { closed = keys }
 
 -- what the key has at the point, if it is in the closed set
-abbrev pub content_at : List Spot → List ℕ → Option (List ℕ)
-content_at [] key = None
-content_at (spot ∷ spots) key = if same_bytes key spot.slot.key then pinned spot.slot else content_at spots key
+abbrev pub content_at_point : List Spot → List ℕ → Option (List ℕ)
+content_at_point [] key = None
+content_at_point (spot ∷ spots) key = if same_bytes key spot.slot.key then pinned spot.slot else content_at_point spots key
 
 -- the first of the keys, with what it has at the point
 abbrev pub first_of_closed : List Spot → List (List ℕ) → Option (List ℕ × Option (List ℕ))
 first_of_closed spots [] = None
-first_of_closed spots (key ∷ keys) = Some (key, content_at spots key)
+first_of_closed spots (key ∷ keys) = Some (key, content_at_point spots key)
 
 -- what the slot of the number has of something; none if there is no such slot
 abbrev pub of_spot : (Slot → Option (List ℕ)) → List Spot → ℕ → Option (List ℕ)
@@ -151,7 +151,7 @@ abbrev pub first_spot : List ℕ × List ℕ → Spot
 first_spot pair = record { slot = record (new_slot 0 pair.0) { live = Some pair.1 }; queue = [] }
 
 -- there is a slot for each of the pairs, and no more
-pub record IsFirst (capacity : ℕ) (pairs : List (List ℕ × List ℕ)) (floor : Floor) : Type 0 where
+pub record IsInitialFloor (capacity : ℕ) (pairs : List (List ℕ × List ℕ)) (floor : Floor) : Type 0 where
   pub size : floor.capacity ≡ capacity
   pub spots : map unnumbered floor.spots ≡ map first_spot pairs
   pub opened : floor.opened ≡ []
@@ -165,13 +165,13 @@ abbrev pub rows_in : List Spot → List Row
 rows_in spots = map row_in spots
 
 -- the writes of open transactions in the spots
-abbrev pub writes_in : List Spot → List (List ℕ × Pending)
-writes_in [] = []
-writes_in (spot ∷ spots) = with_entry spot.slot.key (pending_in spot.slot) (writes_in spots)
+abbrev pub pending_writes : List Spot → List (List ℕ × Pending)
+pending_writes [] = []
+pending_writes (spot ∷ spots) = with_optional_entry spot.slot.key (pending_in spot.slot) (pending_writes spots)
 
 -- the records on the floor, given the point of the last closed set
 abbrev pub table_on : ℕ → Floor → RecordsView
-table_on point floor = record { capacity = floor.capacity; rows = rows_in floor.spots; pending = writes_in floor.spots; point = point; opened = floor.opened; shut = floor.closed }
+table_on point floor = record { capacity = floor.capacity; rows = rows_in floor.spots; pending = pending_writes floor.spots; point = point; opened = floor.opened; shut = floor.closed }
 
 -- that holds of each of the spots
 abbrev pub Each : (Spot → Type 0) → List Spot → Type 0
@@ -215,19 +215,19 @@ newly_opened_keys spots (w ∷ ws) = newly_opened_key spots w.key ++ newly_opene
 
 -- the floor once the write of the key is committed
 abbrev pub with_settled : ℕ → List ℕ → Floor → Floor
-with_settled point key floor = record floor { spots = map (at_key (changed (settled point)) key) floor.spots; opened = floor.opened ++ newly_opened_key floor.spots key }
+with_settled point key floor = record floor { spots = map (at_key (with_slot_changed (settled point)) key) floor.spots; opened = floor.opened ++ newly_opened_key floor.spots key }
 
 -- the same of these writes
 abbrev pub with_all_settled : ℕ → List Write → Floor → Floor
-with_all_settled point writes floor = record floor { spots = map (at_writes (changed (settled point)) writes) floor.spots; opened = floor.opened ++ newly_opened_keys floor.spots writes }
+with_all_settled point writes floor = record floor { spots = map (at_writes (with_slot_changed (settled point)) writes) floor.spots; opened = floor.opened ++ newly_opened_keys floor.spots writes }
 
 -- the floor once the write of the key is undone
 abbrev pub with_undone : ℕ → List ℕ → Floor → Floor
-with_undone point key floor = record floor { spots = map (at_key (changed (undone point)) key) floor.spots }
+with_undone point key floor = record floor { spots = map (at_key (with_slot_changed (undone point)) key) floor.spots }
 
 -- the same of these writes
 abbrev pub with_all_undone : ℕ → List Write → Floor → Floor
-with_all_undone point writes floor = record floor { spots = map (at_writes (changed (undone point)) writes) floor.spots }
+with_all_undone point writes floor = record floor { spots = map (at_writes (with_slot_changed (undone point)) writes) floor.spots }
 
 -- how often the transaction has a request
 abbrev pub standing : ℕ → List Spot → ℕ
@@ -236,15 +236,15 @@ standing t (spot ∷ spots) = if stands_in spot.queue t then standing t spots + 
 
 -- the floor with a slot of the key that has nothing yet
 abbrev pub with_new_spot : ℕ → List ℕ → Floor → Floor
-with_new_spot number key floor = record floor { spots = entered (new_spot number key) floor.spots }
+with_new_spot number key floor = record floor { spots = spots_with (new_spot number key) floor.spots }
 
 -- the transaction has no write in place
-abbrev pub IsOver : ℕ → List Spot → Type 0
-IsOver t spots = (q : List ℕ) (p : Pending) → find key_cmp q (writes_in spots) ≡ Some p → (p.by == t) ≡ false
+abbrev pub HasNoPendingWrite : ℕ → List Spot → Type 0
+HasNoPendingWrite t spots = (q : List ℕ) (p : Pending) → find key_cmp q (pending_writes spots) ≡ Some p → (p.by == t) ≡ false
 
 -- a floor of which the spots were sound, once requests of the transaction are let go, which has no write in place
 pub record IsFloorReleased (point t : ℕ) (old new : Floor) : Type 0 where
   pub same : new ≡ record old { spots = new.spots }
-  pub writes : writes_in new.spots ≡ writes_in old.spots
+  pub writes : pending_writes new.spots ≡ pending_writes old.spots
   pub sound : AreSpotsSound point new.spots
   pub rows : released_rows t (rows_in new.spots) ≡ released_rows t (rows_in old.spots)

@@ -38,8 +38,8 @@ abbrev pub outcome_on : List Row → List ℕ → ℕ → Mode → Outcome
 outcome_on rows key t mode = outcome (requests_on (record_of rows key)) t mode
 
 -- a request of the transaction waits
-abbrev pub is_waiting : List Row → ℕ → Bool
-is_waiting rows t = list_any (λ (row : Row). is_ungranted (request_in row.1.requests t)) rows
+abbrev pub is_waiting_in_rows : List Row → ℕ → Bool
+is_waiting_in_rows rows t = list_any (λ (row : Row). is_ungranted (request_in row.1.requests t)) rows
 
 -- a key's record with these requests
 abbrev pub with_requests : Option Record → Queue → Record
@@ -62,22 +62,22 @@ released_rows t [] = []
 released_rows t (row ∷ rows) = with_row (released t row.1) row.0 (released_rows t rows)
 
 -- a record once this is committed of its key, if anything is
-abbrev pub given : Option (Option (List ℕ)) → Record → Record
-given None r = r
-given (Some value) r = record r { value = value; is_in_open_set = true }
+abbrev pub committed_record : Option (Option (List ℕ)) → Record → Record
+committed_record None r = r
+committed_record (Some value) r = record r { value = value; is_in_open_set = true }
 
 -- the row once this is committed of each key, if anything is
 abbrev pub written_row : (List ℕ → Option (Option (List ℕ))) → Row → Row
-written_row committed row = (row.0, given (committed row.0) row.1)
+written_row committed row = (row.0, committed_record (committed row.0) row.1)
 
 -- the row once the open set is closed
 abbrev pub closed_row : Row → Row
 closed_row row = (row.0, record row.1 { is_in_open_set = false; is_in_closed_set = row.1.is_in_open_set; pinned = if row.1.is_in_open_set then row.1.value else None })
 
 -- the record of the key once the key is taken, or none if nothing keeps it
-abbrev pub left_of : Option Record → Option Record
-left_of None = None
-left_of (Some r) = if_kept (record r { is_in_closed_set = false; pinned = None })
+abbrev pub record_after_take : Option Record → Option Record
+record_after_take None = None
+record_after_take (Some r) = if_kept (record r { is_in_closed_set = false; pinned = None })
 
 -- the rows with this record of the key, or without the key
 abbrev pub with_left : Option Record → List ℕ → List Row → List Row
@@ -86,4 +86,4 @@ with_left (Some r) key rows = put_entry key_cmp key r rows
 
 -- the rows once the key is taken
 abbrev pub left_rows : List Row → List ℕ → List Row
-left_rows rows key = with_left (left_of (record_of rows key)) key rows
+left_rows rows key = with_left (record_after_take (record_of rows key)) key rows

@@ -8,7 +8,7 @@ use Rattle.pc_dirty.specs.Sets.{other_side, AreSets, opened_of, closed_of}
 use Rattle.pc_table.specs.Rows.{TableRow, Contents, in_slot, HasRow}
 use Rattle.pc_slots.specs.declared.cells.Cell.{Cell}
 use Rattle.pc_slots.specs.Slots.{writer_in}
-use Rattle.pc_slots.specs.Words.{Word, words_of, is_marked, link_of, unlinked}
+use Rattle.pc_slots.specs.Words.{Word, cell_words, is_marked, link_of, unlinked}
 
 -- the slot has a row, and so a link on each side
 abbrev pub HasPlace : List (TableRow Cell) → SideSlot → Type 0
@@ -38,14 +38,14 @@ abbrev pub keys_at : List (TableRow Cell) → List ℕ → List (List ℕ)
 keys_at rows slots = map (λ slot. key_in (in_slot rows slot)) slots
 
 -- the slot is one of these
-abbrev pub is_listed : List ℕ → ℕ → Bool
-is_listed slots slot = list_any (λ x. x == slot) slots
+abbrev pub is_among_slots : List ℕ → ℕ → Bool
+is_among_slots slots slot = list_any (λ x. x == slot) slots
 
 -- the sets are these two lists, which the links lead along, and each slot is marked if and only if it is in the list
 pub record AreSetLists (rows : List (TableRow Cell)) (sets : Dirty) (opened closed : List ℕ) : Type 0 where
   pub linked : AreSets (HasPlace rows) (next_in rows) sets opened closed
-  pub open_marks : (slot : ℕ) → marked_in sets.side (in_slot rows slot) ≡ is_listed opened slot
-  pub closed_marks : (slot : ℕ) → marked_in (other_side sets.side) (in_slot rows slot) ≡ is_listed closed slot
+  pub open_marks : (slot : ℕ) → marked_in sets.side (in_slot rows slot) ≡ is_among_slots opened slot
+  pub closed_marks : (slot : ℕ) → marked_in (other_side sets.side) (in_slot rows slot) ≡ is_among_slots closed slot
 
 -- the slots of the open set, and of the closed one, in the order of first addition
 abbrev pub open_slots : List (TableRow Cell) → Dirty → List ℕ
@@ -68,7 +68,7 @@ closed_keys rows sets = keys_at rows (closed_slots rows sets)
 -- what the sets have of a slot: its key and its words, if it is in one of them
 abbrev pub in_sets : Option (List ℕ × Cell) → Option (List ℕ × (Word × Word))
 in_sets None = None
-in_sets (Some p) = if p.1.first.is_in || p.1.second.is_in then Some (p.0, words_of p.1) else None
+in_sets (Some p) = if p.1.first.is_in || p.1.second.is_in then Some (p.0, cell_words p.1) else None
 
 -- the sets have of each slot what they had
 pub record KeepSets (old new : List (TableRow Cell)) : Type 0 where

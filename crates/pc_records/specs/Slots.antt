@@ -39,14 +39,14 @@ abbrev pub rows_of : Queues → List Slot → List Row
 rows_of queues slots = map (row_of queues) slots
 
 -- the entries with this one before them, if there is one
-abbrev pub with_entry : {X : Type 0} → List ℕ → Option X → List (List ℕ × X) → List (List ℕ × X)
-with_entry key None entries = entries
-with_entry key (Some x) entries = (key, x) ∷ entries
+abbrev pub with_optional_entry : {X : Type 0} → List ℕ → Option X → List (List ℕ × X) → List (List ℕ × X)
+with_optional_entry key None entries = entries
+with_optional_entry key (Some x) entries = (key, x) ∷ entries
 
 -- what the slots have of something, by key
-abbrev pub entries_of : {X : Type 0} → (Slot → Option X) → List Slot → List (List ℕ × X)
-entries_of f [] = []
-entries_of f (slot ∷ slots) = with_entry slot.key (f slot) (entries_of f slots)
+abbrev pub slot_entries : {X : Type 0} → (Slot → Option X) → List Slot → List (List ℕ × X)
+slot_entries f [] = []
+slot_entries f (slot ∷ slots) = with_optional_entry slot.key (f slot) (slot_entries f slots)
 
 -- what each slot's key has that is committed, a value or absence
 abbrev pub contents_of : List Slot → List (List ℕ × Option (List ℕ))
@@ -59,11 +59,11 @@ content_in (Some p) = (p.0, committed (slot_with First 0 [] p.1)) ∷ []
 
 -- the committed pairs of the slots
 abbrev pub committed_pairs : List Slot → List (List ℕ × List ℕ)
-committed_pairs slots = entries_of committed slots
+committed_pairs slots = slot_entries committed slots
 
 -- the writes of open transactions in the slots
 abbrev pub pending_of : List Slot → List (List ℕ × Pending)
-pending_of slots = entries_of pending_in slots
+pending_of slots = slot_entries pending_in slots
 
 -- what is seen of slots, given the queue of each number, the point of the last closed set, and the keys of the two sets
 abbrev pub table_of : ℕ → Queues → List Slot → ℕ → List (List ℕ) → List (List ℕ) → RecordsView

@@ -34,8 +34,8 @@ abbrev pub pending_at : RecordsView → List ℕ → Option Pending
 pending_at t key = find key_cmp key t.pending
 
 -- the value of a write
-abbrev pub value_of : Pending → Option (List ℕ)
-value_of p = p.value
+abbrev pub pending_value : Pending → Option (List ℕ)
+pending_value p = p.value
 
 -- the content of a key's place: what an open transaction wrote last, or else the committed value
 abbrev pub read_of : Option Pending → Option (List ℕ) → Option (List ℕ)
@@ -66,7 +66,7 @@ once_asked t key transaction mode answer = record t { rows = rows_after t.rows k
 
 -- the transaction's request to write the key was so answered: its request is in the rows, and if it is granted the write is in the
 -- key's place, in which no other transaction has one
-pub record IsAsked (old new : RecordsView) (transaction : ℕ) (class : Class) (key : List ℕ) (value : Option (List ℕ)) (answer : Outcome) : Type 0 where
+pub record IsWriteRequested (old new : RecordsView) (transaction : ℕ) (class : Class) (key : List ℕ) (value : Option (List ℕ)) (answer : Outcome) : Type 0 where
   pub rows : kept_of new ≡ record (kept_of old) { rows = rows_after old.rows key transaction Exclusive answer }
   pub pending : (q : List ℕ) → pending_at new q ≡ pending_after answer old key (record { by = transaction; class = class; value = value }) q
   pub clear : answer ≡ Granted → IsClearFor old key transaction
@@ -80,7 +80,7 @@ pending_without writes t q = if is_some (written writes q) then None else pendin
 
 -- the committed content of a key after a commit of these writes: if they write it, the content of its place
 abbrev pub made_committed : List Write → RecordsView → List ℕ → Option (Option (List ℕ))
-made_committed writes t q = if is_some (written writes q) then option_map value_of (pending_at t q) else None
+made_committed writes t q = if is_some (written writes q) then option_map pending_value (pending_at t q) else None
 
 -- each key is listed if and only if it is in the set
 pub record AreListed (t : RecordsView) : Type 0 where

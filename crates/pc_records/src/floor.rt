@@ -5,7 +5,7 @@ ghost use Rattle.pc_model.specs.Maps.{get};
 ghost use Rattle.pc_model.specs.Database.{KeysRise, database_of};
 ghost use Rattle.pc_slots.specs.Slots.{nothing_aside, put_slot, settled, undone, closed_slot};
 ghost use Rattle.pc_records.specs.Tables.{content_behind};
-ghost use Rattle.pc_records.specs.Floor.{with_spot, changed, let_go, asked, queue_of, has_spot, stands_at, stands_anywhere, waits_anywhere, newly_opened, number_of, entered, new_spot, tidied, TakesFirstSpot, first_of_closed, of_spot, copy_kept, committed_at, IsFirst, IsFloorWhole};
+ghost use Rattle.pc_records.specs.Floor.{with_spot, with_slot_changed, let_go, asked, queue_at_slot, has_spot, stands_at, stands_anywhere, waits_anywhere, newly_opened, slot_number_of, spots_with, new_spot, tidied, TakesFirstSpot, first_of_closed, of_spot, copy_kept, committed_at, IsInitialFloor, IsFloorWhole};
 
 use crate::slots;
 use pc_dirty::Dirty;
@@ -54,7 +54,7 @@ impl KeySlots {
     ) -> Result<KeySlots, AllocError>
         requires rise { KeysRise pairs.now }
         requires capacity { capacity ≤ MOST_KEYS }
-        ensures first { IfOk result (IsFirst capacity pairs.now) }
+        ensures first { IfOk result (IsInitialFloor capacity pairs.now) }
         ensures whole { IfOk result IsFloorWhole }
     {
         let table = slots::table_of(alloc, capacity, pairs, seed)?;
@@ -71,7 +71,7 @@ impl KeySlots {
 
     /// The number of the key's slot; `None` if it has none. It is looked for near the slot first.
     pub(crate) fn find(&self, key: &Key, near: Option<SlotId>) -> Option<SlotId>
-        ensures found { result ≡ number_of self.now.spots key.now }
+        ensures found { result ≡ slot_number_of self.now.spots key.now }
         ensures there { IfSome result (λ id. has_spot self.now.spots id ≡ true) }
     {
         self.table.find_near(key, near)
@@ -149,8 +149,8 @@ impl KeySlots {
     /// A slot for the key, which has none: it keeps nothing, and there is no request there. It is refused with `Full` if there are as many
     /// slots as there may be, and otherwise only if an allocation failed; then nothing changed.
     pub(crate) fn make(&mut self, alloc: Global, key: &Key) -> Result<SlotId, Refusal>
-        requires new { number_of self.old.spots key.now ≡ None }
-        ensures made { IfOk result (λ id. self.new ≡ record self.old { spots = entered (new_spot id key.now) self.old.spots }) }
+        requires new { slot_number_of self.old.spots key.now ≡ None }
+        ensures made { IfOk result (λ id. self.new ≡ record self.old { spots = spots_with (new_spot id key.now) self.old.spots }) }
         ensures fresh { IfOk result (λ id. has_spot self.old.spots id ≡ false) }
         ensures there { IfOk result (λ id. has_spot self.new.spots id ≡ true) }
         ensures room { IfOk result (λ id. (length self.old.spots == self.old.capacity) ≡ false) }
@@ -165,7 +165,7 @@ impl KeySlots {
     pub(crate) fn put(&mut self, id: SlotId, point: Point, write: Writing)
         requires there { has_spot self.old.spots id ≡ true }
         requires room { write.room.value ≡ nothing_aside }
-        ensures put { self.new ≡ with_spot (changed (put_slot point write.author.transaction write.author.class write.copy write.value)) id self.old }
+        ensures put { self.new ≡ with_spot (with_slot_changed (put_slot point write.author.transaction write.author.class write.copy write.value)) id self.old }
         ensures whole { IsFloorWhole self.new }
     {
         let side = self.sets.open_side();
@@ -181,7 +181,7 @@ impl KeySlots {
     /// Commits the write in the slot; its key goes to the end of the open set if it isn't in it.
     pub(crate) fn settle(&mut self, id: SlotId, point: Point)
         requires there { has_spot self.old.spots id ≡ true }
-        ensures settled { self.new ≡ record (with_spot (changed (settled point)) id self.old) { opened = self.old.opened ++ newly_opened self.old.spots id } }
+        ensures settled { self.new ≡ record (with_spot (with_slot_changed (settled point)) id self.old) { opened = self.old.opened ++ newly_opened self.old.spots id } }
         ensures whole { IsFloorWhole self.new }
     {
         slots::settle_slot(&mut self.table, &mut self.sets, &mut self.spares, id, point);
@@ -190,7 +190,7 @@ impl KeySlots {
     /// Undoes the write in the slot.
     pub(crate) fn undo(&mut self, id: SlotId, point: Point)
         requires there { has_spot self.old.spots id ≡ true }
-        ensures undone { self.new ≡ with_spot (changed (undone point)) id self.old }
+        ensures undone { self.new ≡ with_spot (with_slot_changed (undone point)) id self.old }
         ensures whole { IsFloorWhole self.new }
     {
         let side = self.sets.open_side();
@@ -213,7 +213,7 @@ impl KeySlots {
     /// The open set is closed, and another one begins; the closed one has to be empty. No slot is looked at.
     pub(crate) fn close(&mut self)
         requires none { self.old.closed ≡ [] }
-        ensures closed { self.new ≡ record self.old { spots = map (changed closed_slot) self.old.spots; opened = []; closed = self.old.opened } }
+        ensures closed { self.new ≡ record self.old { spots = map (with_slot_changed closed_slot) self.old.spots; opened = []; closed = self.old.opened } }
         ensures whole { IsFloorWhole self.new }
     {
         self.sets.close(&self.table);
@@ -260,7 +260,7 @@ impl KeySlots {
     /// The outcome that `request` would have.
     pub(crate) fn outcome(&self, transaction: TxnNo, id: SlotId, mode: Mode) -> Outcome
         requires there { has_spot self.now.spots id ≡ true }
-        ensures { result ≡ outcome (queue_of self.now.spots id) transaction mode }
+        ensures { result ≡ outcome (queue_at_slot self.now.spots id) transaction mode }
     {
         self.locks.outcome(&self.table, transaction, id, mode)
     }
@@ -275,7 +275,7 @@ impl KeySlots {
     ) -> Result<Outcome, AllocError>
         requires there { has_spot self.old.spots id ≡ true }
         requires ready { waits_anywhere self.old.spots transaction ≡ false }
-        ensures told { IfOk result (λ answer. answer ≡ outcome (queue_of self.old.spots id) transaction mode) }
+        ensures told { IfOk result (λ answer. answer ≡ outcome (queue_at_slot self.old.spots id) transaction mode) }
         ensures asked { IfOk result (λ answer. self.new ≡ with_spot (asked transaction mode answer) id self.old) }
         ensures same { OnErr result (self.new ≡ self.old) }
         ensures whole { IsFloorWhole self.new }

@@ -10,9 +10,9 @@ ghost use Rattle.pc_model.specs.DistinctWrites.{AreDistinct};
 ghost use Rattle.pc_slots.specs.Slots.{Pending, nothing_aside, granted_slot};
 ghost use Rattle.pc_records.specs.Rows.{record_of, stored, is_in_closed_set};
 ghost use Rattle.pc_records.specs.NewKeys.{new_keys};
-ghost use Rattle.pc_records.specs.RowSteps.{is_full_for, why_refused, outcome_on, is_waiting, released_rows, written_row, closed_row, left_rows, committed_row};
-ghost use Rattle.pc_records.specs.Tables.{kept_of, pending_at, latest, IsClearFor, IsOfClass, once_asked, IsAsked, pending_without, made_committed, AreListed, first_content, content_behind};
-ghost use Rattle.pc_records.specs.Floor.{IsFloorWhole, AreSpotsSound, IsOver, IsFloorReleased, standing, stands_anywhere, waits_anywhere, number_of, has_spot, with_spot, with_new_spot, asked, changed, with_settled, with_all_settled, with_undone, with_all_undone};
+ghost use Rattle.pc_records.specs.RowSteps.{is_full_for, why_refused, outcome_on, is_waiting_in_rows, released_rows, written_row, closed_row, left_rows, committed_row};
+ghost use Rattle.pc_records.specs.Tables.{kept_of, pending_at, latest, IsClearFor, IsOfClass, once_asked, IsWriteRequested, pending_without, made_committed, AreListed, first_content, content_behind};
+ghost use Rattle.pc_records.specs.Floor.{IsFloorWhole, AreSpotsSound, HasNoPendingWrite, IsFloorReleased, standing, stands_anywhere, waits_anywhere, slot_number_of, has_spot, with_spot, with_new_spot, asked, with_slot_changed, with_settled, with_all_settled, with_undone, with_all_undone};
 
 use crate::floor::KeySlots;
 use pc_slots::{Aside, Author, Writing};
@@ -105,7 +105,7 @@ impl Records {
 
     /// Whether a request of the transaction waits.
     pub fn is_waiting(&self, transaction: TxnNo) -> bool
-        ensures { result ≡ is_waiting self.now.rows transaction }
+        ensures { result ≡ is_waiting_in_rows self.now.rows transaction }
     {
         self.slots.is_waiting(transaction)
     }
@@ -114,7 +114,7 @@ impl Records {
     /// one unless the request dies. It is refused with `Full` if and only if the key has no record and there are as many as
     /// there may be, and otherwise only if an allocation failed; the records are then as they were.
     pub fn read(&mut self, alloc: Global, transaction: TxnNo, key: &Key) -> Result<Reading, Refusal>
-        requires ready { is_waiting self.old.rows transaction ≡ false }
+        requires ready { is_waiting_in_rows self.old.rows transaction ≡ false }
         ensures told { IfOk result (λ answer. answer.outcome ≡ outcome_on self.old.rows key.now transaction Shared) }
         ensures found { IfOk result (λ answer. answer.found ≡ latest self.old key.now) }
         ensures rows { IfOk result (λ answer. self.new ≡ once_asked self.old key.now transaction Shared answer.outcome) }
@@ -144,7 +144,7 @@ impl Records {
     pub fn look(&self, transaction: TxnNo, key: &Key) -> Look<'_>
         ensures told { result.outcome ≡ outcome_on self.now.rows key.now transaction Exclusive }
         ensures found { option_copied result.found ≡ latest self.now key.now }
-        ensures clear { is_waiting self.now.rows transaction ≡ false → result.outcome ≡ Granted → IsClearFor self.now key.now transaction }
+        ensures clear { is_waiting_in_rows self.now.rows transaction ≡ false → result.outcome ≡ Granted → IsClearFor self.now key.now transaction }
         ensures slot { is_some result.slot ≡ is_some (record_of self.now.rows key.now) }
     {
         match self.slots.find(key, None) {
@@ -174,11 +174,11 @@ impl Records {
         value: Option<Value>,
         near: Option<SlotId>,
     ) -> Result<Requested, Refusal>
-        requires ready { is_waiting self.old.rows transaction ≡ false }
+        requires ready { is_waiting_in_rows self.old.rows transaction ≡ false }
         requires outside { class ≡ Before → is_in_closed_set (record_of self.old.rows key.now) ≡ false }
         requires again { IsOfClass self.old key.now transaction class }
         ensures told { IfOk result (λ answer. answer.outcome ≡ outcome_on self.old.rows key.now transaction Exclusive) }
-        ensures written { IfOk result (λ answer. IsAsked self.old self.new transaction class key.now value answer.outcome) }
+        ensures written { IfOk result (λ answer. IsWriteRequested self.old self.new transaction class key.now value answer.outcome) }
         ensures err { OnErr result (self.new ≡ self.old) }
         ensures room { IfOk result (λ answer. is_full_for (kept_of self.old) key.now ≡ false) }
         ensures refusal { IfErr result (λ e. e ≡ why_refused (kept_of self.old) key.now) }
@@ -325,7 +325,7 @@ fn request_new(
     key: &Key,
     mode: Mode,
 ) -> Result<SlotId, Refusal>
-    requires new { number_of slots.old.spots key.now ≡ None }
+    requires new { slot_number_of slots.old.spots key.now ≡ None }
     requires ready { waits_anywhere slots.old.spots transaction ≡ false }
     ensures asked { IfOk result (λ id. slots.new ≡ with_spot (asked transaction mode Granted) id (with_new_spot id key.now slots.old)) }
     ensures made { IfOk result (λ id. IsFloorWhole (with_new_spot id key.now slots.old)) }
@@ -350,7 +350,7 @@ fn put_granted(slots: &mut KeySlots, id: SlotId, point: Point, write: Writing, a
     requires whole { IsFloorWhole slots.old }
     requires there { has_spot slots.old.spots id ≡ true }
     requires room { write.room.value ≡ nothing_aside }
-    ensures put { slots.new ≡ with_spot (changed (granted_slot answer point write.author.transaction write.author.class write.copy write.value)) id slots.old }
+    ensures put { slots.new ≡ with_spot (with_slot_changed (granted_slot answer point write.author.transaction write.author.class write.copy write.value)) id slots.old }
     ensures whole { IsFloorWhole slots.new }
 {
     match answer {
@@ -362,7 +362,7 @@ fn put_granted(slots: &mut KeySlots, id: SlotId, point: Point, write: Writing, a
 // Removes the first request of the transaction, and frees its slot if nothing keeps it then; false if there is none.
 fn release_next(slots: &mut KeySlots, transaction: TxnNo) -> bool
     requires whole { IsFloorWhole slots.old }
-    ensures left { (point : ℕ) → AreSpotsSound point slots.old.spots → IsOver transaction slots.old.spots → IsFloorReleased point transaction slots.old slots.new }
+    ensures left { (point : ℕ) → AreSpotsSound point slots.old.spots → HasNoPendingWrite transaction slots.old.spots → IsFloorReleased point transaction slots.old slots.new }
     ensures fewer { result ≡ true → standing transaction slots.new.spots < standing transaction slots.old.spots }
     ensures done { result ≡ false → stands_anywhere slots.new.spots transaction ≡ false }
     ensures whole { IsFloorWhole slots.new }
@@ -379,7 +379,7 @@ fn release_next(slots: &mut KeySlots, transaction: TxnNo) -> bool
 // Removes all requests of the transaction, in order.
 fn release(slots: &mut KeySlots, transaction: TxnNo)
     requires whole { IsFloorWhole slots.old }
-    ensures left { (point : ℕ) → AreSpotsSound point slots.old.spots → IsOver transaction slots.old.spots → IsFloorReleased point transaction slots.old slots.new }
+    ensures left { (point : ℕ) → AreSpotsSound point slots.old.spots → HasNoPendingWrite transaction slots.old.spots → IsFloorReleased point transaction slots.old slots.new }
     ensures done { stands_anywhere slots.new.spots transaction ≡ false }
     ensures whole { IsFloorWhole slots.new }
 {

@@ -11,7 +11,7 @@ ghost use Rattle.pc_records.specs.Rows.{record_of, stored};
 ghost use Rattle.pc_records.specs.Ends.{ends_in};
 ghost use Rattle.pc_records.specs.SetLists.{KeepSets, IsUnmarked, IsListed, open_keys, closed_keys, entering};
 ghost use Rattle.pc_slots.specs.Slots.{nothing_aside, base_cell, put_slot, settled, undone, taken_slot};
-ghost use Rattle.pc_records.specs.Slots.{slots_in, with_entry, content_in, cells_in, base_row, contents_of, rows_of, at_number};
+ghost use Rattle.pc_records.specs.Slots.{slots_in, with_optional_entry, content_in, cells_in, base_row, contents_of, rows_of, at_number};
 
 use pc_dirty::{Dirty, Side};
 use pc_replay::first_of_each;
@@ -99,7 +99,7 @@ fn push_value(
     key: Key,
     content: Option<Value>,
 ) -> Result<(), AllocError>
-    ensures { OnOk result (pairs.new.items ≡ pairs.old.items ++ with_entry key content []) }
+    ensures { OnOk result (pairs.new.items ≡ pairs.old.items ++ with_optional_entry key content []) }
 {
     if let Some(value) = content {
         pairs.push((key, value))?;

@@ -16,7 +16,7 @@ use Rattle.pc_model.specs.Sets.{Set, number_order}
 use Rattle.pc_model.specs.Database.{key_cmp, key_order, same_bytes}
 use Rattle.pc_model.specs.Points.{AtPoint, Triples}
 use Rattle.pc_model.specs.Files.{File, conflict, differs, same_content}
-use Rattle.pc_model.specs.TripleLists.{entries_of, entry_of, triples_of}
+use Rattle.pc_model.specs.TripleLists.{map_entries, entry_of, triples_of}
 use Rattle.pc_model.proofs.MapLaws.{get-entries, get-from_list}
 use Rattle.pc_model.proofs.PairMapLaws.{tested}
 use Rattle.pc_model.proofs.RisingLaws.{none_found}
@@ -25,25 +25,25 @@ use Rattle.pc_part.specs.Parts.{AreCovered, AreRanges, RangesFrom, points_of}
 use Rattle.pc_part.proofs.RangePointLaws.{contains-points_of}
 use Rattle.pc_merge.specs.Folds.{NoneConflict}
 use Rattle.pc_recover.specs.Recovery.{is_covered}
-use Rattle.pc_recover.specs.Reach.{IsFree, least_top, noted, top_at}
+use Rattle.pc_recover.specs.Reach.{HasFreePoints, least_top, top_with_file, top_at}
 use Rattle.pc_recover.specs.Folding.{IsOfPoints}
 use Rattle.pc_recover.proofs.Reaching.{is_in, least_there}
 
 -- a value that is found among entries of these points is of one of them
-found_of : (points : Set number_order) (es : List Triple) (q : List ℕ) (a : AtPoint) → AreCovered points es → find key_cmp q (entries_of es) ≡ Some a → sets.contains points a.point ≡ true
+found_of : (points : Set number_order) (es : List Triple) (q : List ℕ) (a : AtPoint) → AreCovered points es → find key_cmp q (map_entries es) ≡ Some a → sets.contains points a.point ≡ true
 found_of points [] q a all is = cc
 found_of points (t ∷ es) q a all is = by (same_bytes q t.key) (found_of points es q a (All-tail Covered t es all)) is
   where
     Covered : Triple → Type 0
     Covered entry = sets.contains points entry.point ≡ true
 
-    by : (b : Bool) → (find key_cmp q (entries_of es) ≡ Some a → sets.contains points a.point ≡ true) → cond b (Some (entry_of t).1) (find key_cmp q (entries_of es)) ≡ Some a → sets.contains points a.point ≡ true
+    by : (b : Bool) → (find key_cmp q (map_entries es) ≡ Some a → sets.contains points a.point ≡ true) → cond b (Some (entry_of t).1) (find key_cmp q (map_entries es)) ≡ Some a → sets.contains points a.point ≡ true
     by true rest is = let same : (entry_of t).1 ≡ a = cc in subst (λ (x : AtPoint). sets.contains points x.point ≡ true) same (All-head Covered t es all)
     by false rest is = rest is
 
 -- a key's value in a file is of one of its points, if its entries are
 pub of_points : (file : File) (es : List Triple) → triples_of es ≡ file.triples → AreCovered file.points es → IsOfPoints file
-of_points file es is all q a there = found_of file.points es q a all (sym (get-from_list key_order (entries_of es) q) ∙ ap (λ (m : Triples). get m q) is ∙ there)
+of_points file es is all q a there = found_of file.points es q a all (sym (get-from_list key_order (map_entries es) q) ∙ ap (λ (m : Triples). get m q) is ∙ there)
 
 -- ---- conflicts
 
@@ -125,15 +125,15 @@ in_bounds least (r ∷ ranges) p from among = by (is_in r p) refl among (in_boun
     by false own some rest = rest some
 
 -- if nothing is noted at any of its ranges
-pub file_free : (tops : List (Option ℕ)) (file : File) (ranges : List Range) (i : ℕ) → AreRanges ranges → points_of ranges ≡ file.points → length ranges ≤ i → AreFree tops (take i ranges) → IsFree tops file
+pub file_free : (tops : List (Option ℕ)) (file : File) (ranges : List Range) (i : ℕ) → AreRanges ranges → points_of ranges ≡ file.points → length ranges ≤ i → AreFree tops (take i ranges) → HasFreePoints tops file
 file_free tops file ranges i apart are ended free p there =
     let among : list_any (λ r. is_in r p) ranges ≡ true = sym (contains-points_of ranges p) ∙ ap (λ (s : Set number_order). sets.contains s p) are ∙ there in
     (in_bounds 1 ranges p apart.1 among, free p (ap (list_any (λ r. is_in r p)) (take_all i ranges ended) ∙ among))
 
 -- ---- one more file
 
-module _ (files : List File) (f : File) (before now : List (Option ℕ)) (so_far : AreNoted files before) (of : IsOfPoints f) (free : IsFree before f) (size : length now ≡ 65536)
-    (noted_too : (p : ℕ) → p ≤ 65535 → top_at now p ≡ noted p (top_at before p) f) where
+module _ (files : List File) (f : File) (before now : List (Option ℕ)) (so_far : AreNoted files before) (of : IsOfPoints f) (free : HasFreePoints before f) (size : length now ≡ 65536)
+    (noted_too : (p : ℕ) → p ≤ 65535 → top_at now p ≡ top_with_file p (top_at before p) f) where
   -- a point of one of them isn't free
   not_free : (g : File) → Contains files g → (p : ℕ) → sets.contains g.points p ≡ true → sets.contains f.points p ≡ true → ⊥
   not_free g there p has has_too =
@@ -147,15 +147,15 @@ module _ (files : List File) (f : File) (before now : List (Option ℕ)) (so_far
   pub one_noted : AreNoted (files ++ f ∷ []) now
   one_noted = record {
     size = size;
-    each = λ p within. noted_too p within ∙ ap (λ t. noted p t f) (so_far.each p within) ∙ sym (fold-append (noted p) None files (f ∷ []));
+    each = λ p within. noted_too p within ∙ ap (λ t. top_with_file p t f) (so_far.each p within) ∙ sym (fold-append (top_with_file p) None files (f ∷ []));
     of = λ g there. ⊎_elim (λ q. so_far.of g q) (λ is. subst IsOfPoints is of) (Contains-push_cases files f g there);
     none = one_more files f so_far.none (λ g there.
         (apart_well f g of (so_far.of g there) (λ p p_f p_g. not_free g there p p_g p_f), apart_well g f (so_far.of g there) of (λ p p_g p_f. not_free g there p p_g p_f)));
   }
 
 -- the same of the parts of a list up to one of them
-pub next_noted : (parts : List File) (i : ℕ) (x : File) (before now : List (Option ℕ)) → i < length parts → x ≡ get_or parts i x → AreNoted (take i parts) before → IsOfPoints x → IsFree before x → length now ≡ 65536 →
-    ((p : ℕ) → p ≤ 65535 → top_at now p ≡ noted p (top_at before p) x) → AreNoted (take (i + 1) parts) now
+pub next_noted : (parts : List File) (i : ℕ) (x : File) (before now : List (Option ℕ)) → i < length parts → x ≡ get_or parts i x → AreNoted (take i parts) before → IsOfPoints x → HasFreePoints before x → length now ≡ 65536 →
+    ((p : ℕ) → p ≤ 65535 → top_at now p ≡ top_with_file p (top_at before p) x) → AreNoted (take (i + 1) parts) now
 next_noted parts i x before now within is so_far of free size noted_too =
     subst (λ (fs : List File). AreNoted fs now) (ap (λ (y : File). take i parts ++ y ∷ []) is ∙ sym (take_more parts i x within)) (one_noted (take i parts) x before now so_far of free size noted_too)
 

@@ -6,7 +6,7 @@ use Rattle.pc_types.specs.declared.refusal.Refusal.{Refusal}
 use Rattle.pc_types.specs.declared.refusal.Refusal.TheVariants.{OutOfMemory}
 use Rattle.pc_io.specs.Fields.{◌>>=◌, Gives}
 use Rattle.pc_model.specs.Files.{File, BaseFile}
-use Rattle.pc_recover.specs.Recovery.{folded, with_files}
+use Rattle.pc_recover.specs.Recovery.{try_folded, with_files}
 use Rattle.pc_recover.specs.Folding.{join_due, lay_due, joined_on}
 
 -- the base with the join applied to it, if there is one
@@ -15,19 +15,19 @@ laid_on base None = Ok base
 laid_on base (Some joined) = lay_due base joined
 
 -- joining to a file is folding from it
-folded_is : (file : File) (files : List File) → joined_on (Some file) files ≡ (folded file files >>= λ joined. Ok (Some joined))
+folded_is : (file : File) (files : List File) → joined_on (Some file) files ≡ (try_folded file files >>= λ joined. Ok (Some joined))
 folded_is file [] = refl
 folded_is file (next ∷ files) = by (join_due file next) (λ joined. folded_is joined files)
   where
-    by : (r : Result File Refusal) → ((joined : File) → joined_on (Some joined) files ≡ (folded joined files >>= λ j. Ok (Some j))) →
-        (r >>= λ both. joined_on (Some both) files) ≡ ((r >>= λ joined. folded joined files) >>= λ j. Ok (Some j))
+    by : (r : Result File Refusal) → ((joined : File) → joined_on (Some joined) files ≡ (try_folded joined files >>= λ j. Ok (Some j))) →
+        (r >>= λ both. joined_on (Some both) files) ≡ ((r >>= λ joined. try_folded joined files) >>= λ j. Ok (Some j))
     by (Ok joined) rest = rest joined
     by (Err e) rest = refl
 
 -- the base with the files is the base with their join applied to it
 pub with_files_is : (base : BaseFile) (files : List File) → with_files base files ≡ (joined_on None files >>= laid_on base)
 with_files_is base [] = refl
-with_files_is base (file ∷ files) = by (folded file files) ∙ sym (ap (λ r. r >>= laid_on base) (folded_is file files))
+with_files_is base (file ∷ files) = by (try_folded file files) ∙ sym (ap (λ r. r >>= laid_on base) (folded_is file files))
   where
     by : (r : Result File Refusal) → (r >>= lay_due base) ≡ ((r >>= λ joined. Ok (Some joined)) >>= laid_on base)
     by (Ok joined) = refl

@@ -12,7 +12,7 @@ use Rattle.pc_model.specs.Files.{File, joined_file, conflict}
 use Rattle.pc_part.specs.Joins.{JoinsAssociate, JoinsMakeNoConflict}
 use Rattle.pc_merge.specs.Folds.{folded, has_other_run, NoneConflict, IsFold, IsFoldCause, Folds}
 use Rattle.pc_model.proofs.TripleCounts.{len_entries}
-use Rattle.pc_recover.specs.Recovery.{unless}
+use Rattle.pc_recover.specs.Recovery.{ok_unless}
 use Rattle.pc_recover.specs.Folding.{join_due, joined_on}
 
 -- two files of one run without conflict are joined, if they are few enough
@@ -20,9 +20,9 @@ join_is : (a b : File) → eqb b.run a.run ≡ true → conflict a.triples b.tri
 join_is a b run none within =
     let one : eqb a.run b.run ≡ true = grind (arith, nat_tests, run) in
     let fits : nat_lt 4294967295 (len (joined_file a b).triples) ≡ false = grind (arith, nat_tests, within) in
-    ap (λ x. unless (cond (not x) (Some OtherRun) (cond (conflict a.triples b.triples) (Some Conflict) (cond (nat_lt 4294967295 (len (joined_file a b).triples)) (Some Full) None))) (joined_file a b)) one
-    ∙ ap (λ x. unless (cond x (Some Conflict) (cond (nat_lt 4294967295 (len (joined_file a b).triples)) (Some Full) None)) (joined_file a b)) none
-    ∙ ap (λ x. unless (cond x (Some Full) None) (joined_file a b)) fits
+    ap (λ x. ok_unless (cond (not x) (Some OtherRun) (cond (conflict a.triples b.triples) (Some Conflict) (cond (nat_lt 4294967295 (len (joined_file a b).triples)) (Some Full) None))) (joined_file a b)) one
+    ∙ ap (λ x. ok_unless (cond x (Some Conflict) (cond (nat_lt 4294967295 (len (joined_file a b).triples)) (Some Full) None)) (joined_file a b)) none
+    ∙ ap (λ x. ok_unless (cond x (Some Full) None) (joined_file a b)) fits
 
 -- a test of two fails if both do
 both_false : (s t : Bool) → (not s || t) ≡ false → (s ≡ true) × (t ≡ false)

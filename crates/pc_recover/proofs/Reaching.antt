@@ -17,7 +17,7 @@ use Rattle.pc_part.specs.declared.ranges.Range.{Range}
 use Rattle.pc_part.specs.Parts.{points_of}
 use Rattle.pc_part.proofs.RangePointLaws.{contains-points_of}
 use Rattle.pc_recover.specs.Recovery.{read_files, is_covered, files_to}
-use Rattle.pc_recover.specs.Reach.{lesser, noted, least_top, top_at}
+use Rattle.pc_recover.specs.Reach.{lesser_point, top_with_file, least_top, top_at}
 
 -- ---- a range of the table
 
@@ -27,15 +27,15 @@ is_in r point = nat_le r.low point && nat_le point r.high
 
 -- the number at a place once the points from low on and below this end are noted
 abbrev pub noted_below : ℕ → ℕ → ℕ → ℕ → Option ℕ → Option ℕ
-noted_below low end top point was = if nat_le low point && nat_lt point end then lesser was top else was
+noted_below low end top point was = if nat_le low point && nat_lt point end then lesser_point was top else was
 
 abbrev pub NotedBelow : ℕ → ℕ → ℕ → List (Option ℕ) → List (Option ℕ) → Type 0
 NotedBelow low end top before now = (point : ℕ) → point ≤ 65535 → top_at now point ≡ noted_below low end top point (top_at before point)
 
 -- after the last place the points of the range are noted
 pub range_noted : (before now : List (Option ℕ)) (low high place top : ℕ) → NotedBelow low place top before now → high + 1 ≤ place → place ≤ max low (high + 1) →
-    (point : ℕ) → point ≤ 65535 → top_at now point ≡ (if nat_le low point && nat_le point high then lesser (top_at before point) top else top_at before point)
-range_noted before now low high place top so_far past most point within = so_far point within ∙ ap (λ t. if t then lesser (top_at before point) top else top_at before point) ends
+    (point : ℕ) → point ≤ 65535 → top_at now point ≡ (if nat_le low point && nat_le point high then lesser_point (top_at before point) top else top_at before point)
+range_noted before now low high place top so_far past most point within = so_far point within ∙ ap (λ t. if t then lesser_point (top_at before point) top else top_at before point) ends
   where
     ends : (nat_le low point && nat_lt point place) ≡ (nat_le low point && nat_le point high)
     ends = grind (arith, nat_tests)
@@ -45,40 +45,40 @@ range_noted before now low high place top so_far past most point within = so_far
 -- the number at a place once all these ranges are noted
 abbrev pub noted_in : ℕ → List Range → ℕ → Option ℕ → Option ℕ
 noted_in top [] point was = was
-noted_in top (r ∷ ranges) point was = noted_in top ranges point (if nat_le r.low point && nat_le point r.high then lesser was top else was)
+noted_in top (r ∷ ranges) point was = noted_in top ranges point (if nat_le r.low point && nat_le point r.high then lesser_point was top else was)
 
 -- noting a point twice is noting it once
-lesser_twice : (was : Option ℕ) (top : ℕ) → lesser (lesser was top) top ≡ lesser was top
+lesser_twice : (was : Option ℕ) (top : ℕ) → lesser_point (lesser_point was top) top ≡ lesser_point was top
 lesser_twice None top = ap Some (omega arith)
 lesser_twice (Some other) top = ap Some (omega arith)
 
 noted_among : (top : ℕ) (ranges : List Range) (point : ℕ) (was : Option ℕ) →
-    noted_in top ranges point was ≡ (if list_any (λ r. nat_le r.low point && nat_le point r.high) ranges then lesser was top else was)
+    noted_in top ranges point was ≡ (if list_any (λ r. nat_le r.low point && nat_le point r.high) ranges then lesser_point was top else was)
 noted_among top [] point was = refl
 noted_among top (r ∷ ranges) point was = by (nat_le r.low point && nat_le point r.high) (noted_among top ranges point)
   where
     among : Bool
     among = list_any (λ s. nat_le s.low point && nat_le point s.high) ranges
 
-    again : (b : Bool) → (if b then lesser (lesser was top) top else lesser was top) ≡ lesser was top
+    again : (b : Bool) → (if b then lesser_point (lesser_point was top) top else lesser_point was top) ≡ lesser_point was top
     again true = lesser_twice was top
     again false = refl
 
-    by : (t : Bool) → ((v : Option ℕ) → noted_in top ranges point v ≡ (if among then lesser v top else v)) →
-        noted_in top ranges point (if t then lesser was top else was) ≡ (if (t || among) then lesser was top else was)
-    by true rest = rest (lesser was top) ∙ again among
+    by : (t : Bool) → ((v : Option ℕ) → noted_in top ranges point v ≡ (if among then lesser_point v top else v)) →
+        noted_in top ranges point (if t then lesser_point was top else was) ≡ (if (t || among) then lesser_point was top else was)
+    by true rest = rest (lesser_point was top) ∙ again among
     by false rest = rest was
 
 -- the ranges of a part are its points
-pub part_noted : (file : File) (ranges : List Range) (point : ℕ) (was : Option ℕ) → points_of ranges ≡ file.points → noted_in (greatest file.points) ranges point was ≡ noted point was file
+pub part_noted : (file : File) (ranges : List Range) (point : ℕ) (was : Option ℕ) → points_of ranges ≡ file.points → noted_in (greatest file.points) ranges point was ≡ top_with_file point was file
 part_noted file ranges point was are =
     noted_among (greatest file.points) ranges point was
-    ∙ ap (λ t. if t then lesser was (greatest file.points) else was) (sym (contains-points_of ranges point) ∙ ap (λ (s : Set number_order). sets.contains s point) are)
+    ∙ ap (λ t. if t then lesser_point was (greatest file.points) else was) (sym (contains-points_of ranges point) ∙ ap (λ (s : Set number_order). sets.contains s point) are)
 
 -- after the last range the part is noted
 pub all_ranges : (file : File) (ranges : List Range) (top i : ℕ) (before now : List (Option ℕ)) → top ≡ greatest file.points → points_of ranges ≡ file.points → length ranges ≤ i →
     ((point : ℕ) → point ≤ 65535 → noted_in top (drop i ranges) point (top_at now point) ≡ noted_in top ranges point (top_at before point)) →
-    (point : ℕ) → point ≤ 65535 → top_at now point ≡ noted point (top_at before point) file
+    (point : ℕ) → point ≤ 65535 → top_at now point ≡ top_with_file point (top_at before point) file
 all_ranges file ranges top i before now is are ended so_far point within =
     ap (λ rs. noted_in top rs point (top_at now point)) (sym (drop_all i ranges ended))
     ∙ so_far point within
@@ -93,7 +93,7 @@ items_over v now w n is len was = ap (λ u. u.items) is ∙ with_items_is v now 
 
 -- the files from this place on are left to note
 abbrev pub LeftToNote : List (Result File Refusal) → ℕ → List (Option ℕ) → Type 0
-LeftToNote files i tops = (point : ℕ) → point ≤ 65535 → fold (noted point) (top_at tops point) (read_files (drop i files)) ≡ least_top (read_files files) point
+LeftToNote files i tops = (point : ℕ) → point ≤ 65535 → fold (top_with_file point) (top_at tops point) (read_files (drop i files)) ≡ least_top (read_files files) point
 
 module _ (files : List (Result File Refusal)) (i : ℕ) (x : Result File Refusal) (within : i < length files) (is : x ≡ get_or files i x) where
   first_left : drop i files ≡ x ∷ drop (i + 1) files
@@ -103,16 +103,16 @@ module _ (files : List (Result File Refusal)) (i : ℕ) (x : Result File Refusal
       next = omega arith
 
   -- once a file is noted, the others are left
-  pub file_noted : (file : File) (before now : List (Option ℕ)) → x ≡ Ok file → ((point : ℕ) → point ≤ 65535 → top_at now point ≡ noted point (top_at before point) file) → LeftToNote files i before → LeftToNote files (i + 1) now
+  pub file_noted : (file : File) (before now : List (Option ℕ)) → x ≡ Ok file → ((point : ℕ) → point ≤ 65535 → top_at now point ≡ top_with_file point (top_at before point) file) → LeftToNote files i before → LeftToNote files (i + 1) now
   file_noted file before now had steps so_far point bound =
-      ap (λ v. fold (noted point) v (read_files (drop (i + 1) files))) (steps point bound)
-      ∙ sym (ap (λ fs. fold (noted point) (top_at before point) (read_files fs)) (first_left ∙ ap (λ y. y ∷ drop (i + 1) files) had))
+      ap (λ v. fold (top_with_file point) v (read_files (drop (i + 1) files))) (steps point bound)
+      ∙ sym (ap (λ fs. fold (top_with_file point) (top_at before point) (read_files fs)) (first_left ∙ ap (λ y. y ∷ drop (i + 1) files) had))
       ∙ so_far point bound
 
   -- a file that can't be read is left out
   pub file_left_out : (why : Refusal) (tops : List (Option ℕ)) → x ≡ Err why → LeftToNote files i tops → LeftToNote files (i + 1) tops
   file_left_out why tops lost so_far point bound =
-      sym (ap (λ fs. fold (noted point) (top_at tops point) (read_files fs)) (first_left ∙ ap (λ y. y ∷ drop (i + 1) files) lost)) ∙ so_far point bound
+      sym (ap (λ fs. fold (top_with_file point) (top_at tops point) (read_files fs)) (first_left ∙ ap (λ y. y ∷ drop (i + 1) files) lost)) ∙ so_far point bound
 
 -- ---- from the table to the reach
 
@@ -130,7 +130,7 @@ or_moved true b c = refl
 or_moved false b c = refl
 
 -- the lesser of two points is not above n if one of them isn't
-lesser_to : (n last : ℕ) (t : Bool) (top : Option ℕ) → is_to n (if t then lesser top last else top) ≡ (is_to n top || (nat_le last n && t))
+lesser_to : (n last : ℕ) (t : Bool) (top : Option ℕ) → is_to n (if t then lesser_point top last else top) ≡ (is_to n top || (nat_le last n && t))
 lesser_to n last true None = by (nat_le last n)
   where
     by : (b : Bool) → b ≡ (b && true)
@@ -156,20 +156,20 @@ one_more true file files point = refl
 one_more false file files point = refl
 
 -- a file without a point above n covers the point if and only if the least greatest point is not above n
-pub least_to : (n point : ℕ) (top : Option ℕ) (files : List File) → is_to n (fold (noted point) top files) ≡ (is_to n top || is_covered (files_to n files) point)
+pub least_to : (n point : ℕ) (top : Option ℕ) (files : List File) → is_to n (fold (top_with_file point) top files) ≡ (is_to n top || is_covered (files_to n files) point)
 least_to n point top [] = or_none (is_to n top)
 least_to n point top (file ∷ files) =
-    least_to n point (noted point top file) files
+    least_to n point (top_with_file point top file) files
     ∙ ap (λ b. b || is_covered (files_to n files) point) (lesser_to n (greatest file.points) (sets.contains file.points point) top)
     ∙ or_moved (is_to n top) (nat_le (greatest file.points) n && sets.contains file.points point) (is_covered (files_to n files) point)
     ∙ ap (λ b. is_to n top || b) (sym (one_more (nat_le (greatest file.points) n) file (files_to n files) point))
 
 -- a file covers the point if and only if there is a least greatest point
-pub least_there : (point : ℕ) (top : Option ℕ) (files : List File) → is_some (fold (noted point) top files) ≡ (is_some top || is_covered files point)
+pub least_there : (point : ℕ) (top : Option ℕ) (files : List File) → is_some (fold (top_with_file point) top files) ≡ (is_some top || is_covered files point)
 least_there point top [] = or_none (is_some top)
-least_there point top (file ∷ files) = least_there point (noted point top file) files ∙ ap (λ b. b || is_covered files point) (there (sets.contains file.points point) top) ∙ or_moved (is_some top) (sets.contains file.points point) (is_covered files point)
+least_there point top (file ∷ files) = least_there point (top_with_file point top file) files ∙ ap (λ b. b || is_covered files point) (there (sets.contains file.points point) top) ∙ or_moved (is_some top) (sets.contains file.points point) (is_covered files point)
   where
-    there : (t : Bool) (was : Option ℕ) → is_some (if t then lesser was (greatest file.points) else was) ≡ (is_some was || t)
+    there : (t : Bool) (was : Option ℕ) → is_some (if t then lesser_point was (greatest file.points) else was) ≡ (is_some was || t)
     there true None = refl
     there true (Some other) = refl
     there false was = or_none (is_some was)

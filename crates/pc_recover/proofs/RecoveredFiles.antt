@@ -21,7 +21,7 @@ use Rattle.pc_model.proofs.ShelfFileLaws.{join_well, joined_of_points, run_is, t
 use Rattle.pc_part.specs.Joins.{first_cause}
 use Rattle.pc_bases.specs.Layings.{lay_causes}
 use Rattle.pc_bases.proofs.GapLaws.{greatest_bound, greatest_reached}
-use Rattle.pc_recover.specs.Recovery.{is_covered, files_to, unless, folded, with_files}
+use Rattle.pc_recover.specs.Recovery.{is_covered, files_to, ok_unless, try_folded, with_files}
 use Rattle.pc_recover.proofs.RecoveredPoints.{holds_at, holds_at_all, finds_none}
 
 -- a result, if only the entry limit may refuse it
@@ -43,7 +43,7 @@ module _ (run : ℕ) (start : Database) (log : List Entry) where
     pub of : IsOfItsPoints run start log joined
     pub points : (p : ℕ) → set.contains joined.points p ≡ (set.contains file.points p || is_covered files p)
 
-  pub fold_gives : (file : File) (files : List File) → IsOfItsPoints run start log file → AllByRecursion (IsOfItsPoints run start log) files → UnlessFull (folded file files) (IsJoin file files)
+  pub fold_gives : (file : File) (files : List File) → IsOfItsPoints run start log file → AllByRecursion (IsOfItsPoints run start log) files → UnlessFull (try_folded file files) (IsJoin file files)
   fold_gives file [] of others = record { of = of; points = λ p. sym (or_false (set.contains file.points p)) }
     where
       or_false : (t : Bool) → (t || false) ≡ t
@@ -63,10 +63,10 @@ module _ (run : ℕ) (start : Database) (log : List Entry) where
       on_result (Ok joined) is = one_more joined is
       on_result (Err why) is = is
 
-      by : (full : Bool) → first_cause (join_causes (Some file) (Some next)) ≡ cond full (Some Full) None → UnlessFull (folded (joined_file file next) files) (IsJoin (joined_file file next) files)
-          → UnlessFull (unless (first_cause (join_causes (Some file) (Some next))) (joined_file file next) >>= λ joined. folded joined files) (IsJoin file (next ∷ files))
+      by : (full : Bool) → first_cause (join_causes (Some file) (Some next)) ≡ cond full (Some Full) None → UnlessFull (try_folded (joined_file file next) files) (IsJoin (joined_file file next) files)
+          → UnlessFull (ok_unless (first_cause (join_causes (Some file) (Some next))) (joined_file file next) >>= λ joined. try_folded joined files) (IsJoin file (next ∷ files))
       by true limit given = rw limit refl
-      by false limit given = rw limit (on_result (folded (joined_file file next) files) given)
+      by false limit given = rw limit (on_result (try_folded (joined_file file next) files) given)
 
   -- the files that are used: all have a text by the log, and no point is above n
   pub record IsUsed (n : ℕ) (file : File) : Type 0 where
@@ -125,7 +125,7 @@ module _ (run : ℕ) (start : Database) (log : List Entry) where
 
     -- a file of the run with these points, applied to the base
     lays : (joined : File) → IsOfItsPoints run start log joined → ((p : ℕ) → set.contains joined.points p ≡ true → p ≤ n) → ((p : ℕ) → b < p → p ≤ n → set.contains joined.points p ≡ true)
-        → UnlessFull (unless (first_cause (lay_causes base joined)) (laid_file base joined)) (λ laid. laid.pairs ≡ state_at start log n)
+        → UnlessFull (ok_unless (first_cause (lay_causes base joined)) (laid_file base joined)) (λ laid. laid.pairs ≡ state_at start log n)
     lays joined of most all =
         by (nat_lt 4294967295 (map.len (laid (state_at start log b) b joined.triples))) (lay_limit joined (run_is run start log joined of) (no_gap joined most all (bound (greatest_reached joined.points))))
       where
@@ -133,7 +133,7 @@ module _ (run : ℕ) (start : Database) (log : List Entry) where
         bound (inl none) = omega (arith, none)
         bound (inr there) = most (greatest joined.points) there
 
-        by : (full : Bool) → first_cause (lay_causes base joined) ≡ cond full (Some Full) None → UnlessFull (unless (first_cause (lay_causes base joined)) (laid_file base joined)) (λ laid. laid.pairs ≡ state_at start log n)
+        by : (full : Bool) → first_cause (lay_causes base joined) ≡ cond full (Some Full) None → UnlessFull (ok_unless (first_cause (lay_causes base joined)) (laid_file base joined)) (λ laid. laid.pairs ≡ state_at start log n)
         by true limit = rw limit refl
         by false limit = rw limit (is_state joined of most all)
 
@@ -144,10 +144,10 @@ module _ (run : ℕ) (start : Database) (log : List Entry) where
         by : (t : Bool) → nat_lt b n ≡ t → state_at start log b ≡ state_at start log n
         by true less = let none : false ≡ true = holds_at (is_covered []) b n n reached (grind (arith, nat_tests)) (omega arith) in absurd (grind arith)
         by false same = ap (state_at start log) (grind (arith, nat_tests, low))
-    files_give (file ∷ files) used reached = on_join (folded file files) (fold_gives file files used.0.of (of_used n files used.1))
+    files_give (file ∷ files) used reached = on_join (try_folded file files) (fold_gives file files used.0.of (of_used n files used.1))
       where
         on_join : (r : Result File Refusal) → UnlessFull r (IsJoin file files)
-            → UnlessFull (r >>= λ joined. unless (first_cause (lay_causes base joined)) (laid_file base joined)) (λ laid. laid.pairs ≡ state_at start log n)
+            → UnlessFull (r >>= λ joined. ok_unless (first_cause (lay_causes base joined)) (laid_file base joined)) (λ laid. laid.pairs ≡ state_at start log n)
         on_join (Ok joined) is =
             lays joined is.of (λ p there. covered_most n p (file ∷ files) used (sym (is.points p) ∙ there))
             (λ p less more. is.points p ∙ holds_at (is_covered (file ∷ files)) b n p reached less more)

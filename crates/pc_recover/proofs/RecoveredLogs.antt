@@ -8,7 +8,7 @@ use Rattle.pc_types.specs.declared.Entry.{Entry}
 use Rattle.pc_types.specs.declared.Entry.TheVariants.{Commit, Token}
 use Rattle.pc_types.specs.Phases.{next_phase, next_point}
 use Rattle.pc_model.specs.Database.{Database, applied_all}
-use Rattle.pc_model.specs.Log.{after, front, behind, has_token, is_token_of, state_at}
+use Rattle.pc_model.specs.Log.{after, front, log_after_point, has_token, is_token_of, state_at}
 use Rattle.pc_model.specs.Standing.{PrecedesNext}
 use Rattle.pc_model.proofs.LogPieceLaws.{in_front}
 use Rattle.pc_log.specs.Orders.{FollowFrom, InOrder}
@@ -98,17 +98,17 @@ to_token db n (Token phase m ∷ log) there = by (is_token_of n phase m) refl th
         ap (λ k. after db (take k (Token phase m ∷ log))) count ∙ again h
 
 -- those of the first p entries after the token, applied to the state before it, give the first entries as far as p or the token
-after_token : (db : Database) (n p : ℕ) (log : List Entry) → has_token n log ≡ true → after (after db (front n log)) (behind n (take p log)) ≡ after db (take (max p (length (front n log) + 1)) log)
+after_token : (db : Database) (n p : ℕ) (log : List Entry) → has_token n log ≡ true → after (after db (front n log)) (log_after_point n (take p log)) ≡ after db (take (max p (length (front n log) + 1)) log)
 after_token db n zero log there =
-    ap (λ xs. after (after db (front n log)) (behind n xs)) (take_none log) ∙ sym (to_token db n log there) ∙ ap (λ k. after db (take k log)) (omega arith)
+    ap (λ xs. after (after db (front n log)) (log_after_point n xs)) (take_none log) ∙ sym (to_token db n log there) ∙ ap (λ k. after db (take k log)) (omega arith)
 after_token db n (suc p) [] there = absurd (no_both there)
 after_token db n (suc p) (Commit session writes ∷ log) there =
     let count : suc (max p (length (front n log) + 1)) ≡ max (suc p) (suc (length (front n log)) + 1) = omega arith in
     after_token (applied_all db writes) n p log there ∙ ap (λ k. after db (take k (Commit session writes ∷ log))) count
 after_token db n (suc p) (Token phase m ∷ log) there = by (is_token_of n phase m) refl there (λ h. after_token db n p log h)
   where
-    by : (b : Bool) → is_token_of n phase m ≡ b → cond b true (has_token n log) ≡ true → (has_token n log ≡ true → after (after db (front n log)) (behind n (take p log)) ≡ after db (take (max p (length (front n log) + 1)) log))
-        → after (after db (cond b [] (Token phase m ∷ front n log))) (cond b (take p log) (behind n (take p log))) ≡ after db (take (max (suc p) (length (cond b [] (Token phase m ∷ front n log)) + 1)) (Token phase m ∷ log))
+    by : (b : Bool) → is_token_of n phase m ≡ b → cond b true (has_token n log) ≡ true → (has_token n log ≡ true → after (after db (front n log)) (log_after_point n (take p log)) ≡ after db (take (max p (length (front n log) + 1)) log))
+        → after (after db (cond b [] (Token phase m ∷ front n log))) (cond b (take p log) (log_after_point n (take p log))) ≡ after db (take (max (suc p) (length (cond b [] (Token phase m ∷ front n log)) + 1)) (Token phase m ∷ log))
     by true is h again = let count : suc p ≡ max (suc p) 1 = omega arith in ap (λ k. after db (take k (Token phase m ∷ log))) count
     by false is h again =
         let count : suc (max p (length (front n log) + 1)) ≡ max (suc p) (suc (length (front n log)) + 1) = omega arith in

@@ -23,7 +23,7 @@ use Rattle.pc_log.specs.Reading.{LogRead, log_at}
 use Rattle.pc_log.specs.Laws.{IsLog, CutLogsAreRead, cut_read, left_behind}
 use Rattle.pc_log.proofs.EntriesAgain.{header_length}
 use Rattle.pc_recover.specs.declared.recovered.Skipped.{Skipped}
-use Rattle.pc_recover.specs.Recovery.{Recovery, recovery, recovery_on, recovered_point, read_files, files_of, files_to, with_files, log_of_run, entries_after, unused_from, first_missing, is_covered, reaches}
+use Rattle.pc_recover.specs.Recovery.{Recovery, recovery, recovery_on, recovered_point, read_files, decoded_files, files_to, with_files, log_of_run, entries_after, unused_from, first_missing, is_covered, reaches}
 use Rattle.pc_recover.specs.Restarts.{AreWhole, IsRestored, EveryCutIsRecovered, base_of_point, token_number}
 use Rattle.pc_recover.proofs.RecoveredPoints.{last_is_reached, last_from_base, holds_at}
 use Rattle.pc_recover.proofs.RecoveredFiles.{UnlessFull, IsUsed, are_used, covered_token, files_give}
@@ -31,16 +31,16 @@ use Rattle.pc_recover.proofs.RecoveredLogs.{all_in_order, restored_entries, take
 
 -- the files that are had are those of the run's points
 files_had : (run : ℕ) (start : Database) (log : List Entry) (parts : List (List ℕ)) → AllByRecursion (λ bytes. (file : File) → part_at bytes ≡ Ok file → file.run ≡ run → IsOfItsPoints run start log file) parts
-    → AllByRecursion (IsOfItsPoints run start log) (read_files (files_of run parts))
+    → AllByRecursion (IsOfItsPoints run start log) (read_files (decoded_files run parts))
 files_had run start log [] all = tt
 files_had run start log (bytes ∷ parts) all = by (part_at bytes) refl (files_had run start log parts all.1)
   where
-    by : (r : Result File Refusal) → part_at bytes ≡ r → AllByRecursion (IsOfItsPoints run start log) (read_files (files_of run parts))
-        → AllByRecursion (IsOfItsPoints run start log) (read_files ((r >>= λ file. where_true (eqb file.run run) OtherRun file) ∷ files_of run parts))
+    by : (r : Result File Refusal) → part_at bytes ≡ r → AllByRecursion (IsOfItsPoints run start log) (read_files (decoded_files run parts))
+        → AllByRecursion (IsOfItsPoints run start log) (read_files ((r >>= λ file. where_true (eqb file.run run) OtherRun file) ∷ decoded_files run parts))
     by (Err why) is others = others
     by (Ok file) is others = by_run (eqb file.run run) refl
       where
-        by_run : (t : Bool) → eqb file.run run ≡ t → AllByRecursion (IsOfItsPoints run start log) (read_files (cond t (Ok file) (Err OtherRun) ∷ files_of run parts))
+        by_run : (t : Bool) → eqb file.run run ≡ t → AllByRecursion (IsOfItsPoints run start log) (read_files (cond t (Ok file) (Err OtherRun) ∷ decoded_files run parts))
         by_run true same = (all.0 file is (grind (arith, nat_tests)), others)
         by_run false other = others
 
@@ -158,9 +158,9 @@ restart_on format run start log b n c skipped had cuts fits is_log has base_seal
     (files_give run start log b n low (all_in_order log is_log.in_order n sealed) (files_to n had) used reached)
 
 -- the rules on a base that was read
-on_base : (base : List ℕ) (read : BaseFile) (parts : List (List ℕ)) (bytes : List ℕ) → base_at base ≡ Ok read → recovery base parts bytes ≡ recovery_on read (files_of read.run parts) bytes
+on_base : (base : List ℕ) (read : BaseFile) (parts : List (List ℕ)) (bytes : List ℕ) → base_at base ≡ Ok read → recovery base parts bytes ≡ recovery_on read (decoded_files read.run parts) bytes
 unfolding recovery
-on_base base read parts bytes is = ap (λ (r : Result BaseFile Refusal). r >>= λ b. recovery_on b (files_of b.run parts) bytes) is
+on_base base read parts bytes is = ap (λ (r : Result BaseFile Refusal). r >>= λ b. recovery_on b (decoded_files b.run parts) bytes) is
 
 in_turn : (read : BaseFile) (files : List (Result File Refusal)) (bytes : List ℕ)
     → recovery_on read files bytes ≡ laid_then_read (recovered_point read.point (read_files files)) (unused_from 0 (recovered_point read.point (read_files files)) (first_missing read.point (read_files files)) files) read.run bytes
@@ -173,13 +173,13 @@ restarts bases_read cuts format run start log b base parts c is_log has files =
     let point : BaseFile = base_of_point run start log b in
     let base_read : base_at base ≡ Ok point = bases_read base point files.base_fits files.base_is in
     let of = files_had run start log parts (recursion_from_All _ parts files.parts_are) in
-    let had = read_files (files_of run parts) in
+    let had = read_files (decoded_files run parts) in
     let low = last_from_base b had 65535 files.base_fits.point in
-    let given = restart_on format run start log b (recovered_point b had) c (unused_from 0 (recovered_point b had) (first_missing b had) (files_of run parts)) had cuts files.base_fits.run is_log has files.base_sealed of low (last_is_reached b had 65535) in
-    subst (λ (r : Result Recovery Refusal). UnlessFull r (IsRestored format run start log b parts c)) (sym (on_base base point parts (cut format run log c) base_read ∙ in_turn point (files_of run parts) (cut format run log c)))
-    (as_restored (laid_then_read (recovered_point b had) (unused_from 0 (recovered_point b had) (first_missing b had) (files_of run parts)) run (cut format run log c) (with_files point (files_to (recovered_point b had) had))) given)
+    let given = restart_on format run start log b (recovered_point b had) c (unused_from 0 (recovered_point b had) (first_missing b had) (decoded_files run parts)) had cuts files.base_fits.run is_log has files.base_sealed of low (last_is_reached b had 65535) in
+    subst (λ (r : Result Recovery Refusal). UnlessFull r (IsRestored format run start log b parts c)) (sym (on_base base point parts (cut format run log c) base_read ∙ in_turn point (decoded_files run parts) (cut format run log c)))
+    (as_restored (laid_then_read (recovered_point b had) (unused_from 0 (recovered_point b had) (first_missing b had) (decoded_files run parts)) run (cut format run log c) (with_files point (files_to (recovered_point b had) had))) given)
   where
-    as_restored : (r : Result Recovery Refusal) → UnlessFull r (IsRestoredAt format run start log b (recovered_point b (read_files (files_of run parts))) c (unused_from 0 (recovered_point b (read_files (files_of run parts))) (first_missing b (read_files (files_of run parts))) (files_of run parts)))
+    as_restored : (r : Result Recovery Refusal) → UnlessFull r (IsRestoredAt format run start log b (recovered_point b (read_files (decoded_files run parts))) c (unused_from 0 (recovered_point b (read_files (decoded_files run parts))) (first_missing b (read_files (decoded_files run parts))) (decoded_files run parts)))
         → UnlessFull r (IsRestored format run start log b parts c)
     as_restored (Ok found) is = record { point = is.point; entries = is.entries; pairs = is.pairs; fault = is.fault }
     as_restored (Err why) is = is

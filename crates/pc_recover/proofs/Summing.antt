@@ -16,7 +16,7 @@ use Rattle.pc_recover.specs.declared.recovered.Recovered.{Recovered}
 use Rattle.pc_recover.specs.declared.recovered.Skipped.{Skipped}
 use Rattle.pc_recover.specs.Reach.{IsReach}
 use Rattle.pc_recover.specs.Replaying.{Replay, replay_of, log_replay}
-use Rattle.pc_recover.specs.Recovery.{Recovery, recovery, recovery_of, recovery_on, recovered_point, first_missing, read_files, files_of, files_to, with_files, log_of_run, entries_after, unused_from}
+use Rattle.pc_recover.specs.Recovery.{Recovery, recovery, recovery_of, recovery_on, recovered_point, first_missing, read_files, decoded_files, files_to, with_files, log_of_run, entries_after, unused_from}
 
 -- a refusal is that of the rules, or an allocation failed
 pub refused_with : (e : Refusal) (r : Result Recovered Refusal) (read : Result Recovery Refusal) → IsErr r × IsErrAnd r (λ why. why ≡ e) → (e ≢ OutOfMemory → read ≡ Err e) → Gives recovery_of r read
@@ -49,20 +49,20 @@ recovery_with n missing base files log_bytes = do
 on_files : (base : BaseFile) (files : List (Result File Refusal)) (log : List ℕ) → recovery_on base files log ≡ recovery_with (recovered_point base.point (read_files files)) (first_missing base.point (read_files files)) base files log
 on_files base files log = refl
 
-on_base : (bytes : List ℕ) (parts : List (List ℕ)) (log : List ℕ) → recovery bytes parts log ≡ (base_at bytes >>= λ base. recovery_on base (files_of base.run parts) log)
+on_base : (bytes : List ℕ) (parts : List (List ℕ)) (log : List ℕ) → recovery bytes parts log ≡ (base_at bytes >>= λ base. recovery_on base (decoded_files base.run parts) log)
 unfolding recovery
 on_base bytes parts log = refl
 
 -- the base's fault
 pub base_refused : (bytes : List ℕ) (parts : List (List ℕ)) (log : List ℕ) (e : Refusal) → base_at bytes ≡ Err e → recovery bytes parts log ≡ Err e
-base_refused bytes parts log e is = on_base bytes parts log ∙ ap (λ r. r >>= λ base. recovery_on base (files_of base.run parts) log) is
+base_refused bytes parts log e is = on_base bytes parts log ∙ ap (λ r. r >>= λ base. recovery_on base (decoded_files base.run parts) log) is
 
-module _ (bytes : List ℕ) (parts : List (List ℕ)) (log : List ℕ) (base : BaseFile) (read : base_at bytes ≡ Ok base) (run : ℕ) (run_is : run ≡ base.run) (files : List (Result File Refusal)) (files_are : files ≡ files_of run parts)
+module _ (bytes : List ℕ) (parts : List (List ℕ)) (log : List ℕ) (base : BaseFile) (read : base_at bytes ≡ Ok base) (run : ℕ) (run_is : run ≡ base.run) (files : List (Result File Refusal)) (files_are : files ≡ decoded_files run parts)
     (point : ℕ) (point_is : point ≡ base.point) (seen : List (Result File Refusal)) (seen_are : seen ≡ files) (reach : Reach) (reached : IsReach point (read_files seen) reach) where
   on_reach : recovery bytes parts log ≡ recovery_with reach.point reach.missing base files log
   on_reach = on_base bytes parts log
-      ∙ ap (λ r. r >>= λ b. recovery_on b (files_of b.run parts) log) read
-      ∙ ap (λ n. recovery_on base (files_of n parts) log) (sym run_is)
+      ∙ ap (λ r. r >>= λ b. recovery_on b (decoded_files b.run parts) log) read
+      ∙ ap (λ n. recovery_on base (decoded_files n parts) log) (sym run_is)
       ∙ ap (λ fs. recovery_on base fs log) (sym files_are)
       ∙ on_files base files log
       ∙ ap (λ n. recovery_with n (first_missing base.point (read_files files)) base files log) (sym (at_base.point))

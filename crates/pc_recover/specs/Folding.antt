@@ -10,15 +10,15 @@ use Rattle.pc_model.specs.LaidFiles.{laid_file}
 use Rattle.pc_model.specs.Replies.{join_causes}
 use Rattle.pc_part.specs.Joins.{first_cause}
 use Rattle.pc_bases.specs.Layings.{lay_causes}
-use Rattle.pc_recover.specs.Recovery.{unless}
+use Rattle.pc_recover.specs.Recovery.{ok_unless}
 
 -- the join of two files, unless it is refused
 abbrev pub join_due : File → File → Result File Refusal
-join_due a b = unless (first_cause (join_causes (Some a) (Some b))) (joined_file a b)
+join_due a b = ok_unless (first_cause (join_causes (Some a) (Some b))) (joined_file a b)
 
 -- the base with the file applied to it, unless that is refused
 abbrev pub lay_due : BaseFile → File → Result BaseFile Refusal
-lay_due base file = unless (first_cause (lay_causes base file)) (laid_file base file)
+lay_due base file = ok_unless (first_cause (lay_causes base file)) (laid_file base file)
 
 -- the join so far, with the files joined to it
 abbrev pub joined_on : Option File → List File → Result (Option File) Refusal

@@ -10,7 +10,7 @@ use Rattle.pc_model.specs.Sets as set
 use Rattle.pc_model.specs.Database.{Database, database_of}
 use Rattle.pc_model.specs.Files.{File, BaseFile, joined_file, numbers_to}
 use Rattle.pc_model.specs.LaidFiles.{laid_file, greatest}
-use Rattle.pc_model.specs.Log.{after, behind}
+use Rattle.pc_model.specs.Log.{after, log_after_point}
 use Rattle.pc_model.specs.Replies.{join_causes}
 use Rattle.pc_part.specs.Joins.{first_cause}
 use Rattle.pc_bases.specs.Layings.{lay_causes}
@@ -23,8 +23,8 @@ use Rattle.pc_recover.specs.declared.recovered.Recovered.{Recovered}
 -- ---- which files there are
 
 -- the file of a part's bytes, if they are the text of a part of the run
-abbrev pub file_at : ℕ → List ℕ → Result File Refusal
-file_at run bytes = do
+abbrev pub decoded_file : ℕ → List ℕ → Result File Refusal
+decoded_file run bytes = do
   file ← part_at bytes
   where_true (file.run == run) OtherRun file
 
@@ -82,23 +82,23 @@ unused_from place n gap (file ∷ others) = with_reason place (why_unused n gap 
 -- ---- the database at the point
 
 -- the result, if no cause of a refusal holds
-abbrev pub unless : {X : Type 0} → Option Refusal → X → Result X Refusal
-unless None x = Ok x
-unless (Some why) x = Err why
+abbrev pub ok_unless : {X : Type 0} → Option Refusal → X → Result X Refusal
+ok_unless None x = Ok x
+ok_unless (Some why) x = Err why
 
 -- the join of a file with others, in order
-abbrev pub folded : File → List File → Result File Refusal
-folded file [] = Ok file
-folded file (next ∷ files) = do
-  joined ← unless (first_cause (join_causes (Some file) (Some next))) (joined_file file next)
-  folded joined files
+abbrev pub try_folded : File → List File → Result File Refusal
+try_folded file [] = Ok file
+try_folded file (next ∷ files) = do
+  joined ← ok_unless (first_cause (join_causes (Some file) (Some next))) (joined_file file next)
+  try_folded joined files
 
 -- the base with the join of the files applied to it, if there are any
 abbrev pub with_files : BaseFile → List File → Result BaseFile Refusal
 with_files base [] = Ok base
 with_files base (file ∷ files) = do
-  joined ← folded file files
-  unless (first_cause (lay_causes base joined)) (laid_file base joined)
+  joined ← try_folded file files
+  ok_unless (first_cause (lay_causes base joined)) (laid_file base joined)
 
 -- ---- the log
 
@@ -108,7 +108,7 @@ log_of_run run bytes = if nat_lt (length bytes) 20 then Ok (record { run = run; 
 
 -- the entries that the state of n lacks: all if n is 0, otherwise those after its token, none if it has none there
 abbrev pub entries_after : ℕ → List Entry → List Entry
-entries_after n entries = if n == 0 then entries else behind n entries
+entries_after n entries = if n == 0 then entries else log_after_point n entries
 
 -- ---- all of it
 
@@ -122,8 +122,8 @@ pub record Recovery : Type 0 where
   pub fault : Option Refusal
 
 -- the parts' files
-abbrev pub files_of : ℕ → List (List ℕ) → List (Result File Refusal)
-files_of run parts = map (file_at run) parts
+abbrev pub decoded_files : ℕ → List (List ℕ) → List (Result File Refusal)
+decoded_files run parts = map (decoded_file run) parts
 
 -- the recovery on a base of these files and these bytes of a log: the files without a point above the recovered one are applied to
 -- the base, and then the log's entries that came after that point
@@ -140,7 +140,7 @@ recovery_on base files log_bytes =
 unfoldable pub recovery : List ℕ → List (List ℕ) → List ℕ → Result Recovery Refusal
 recovery base_bytes parts log_bytes = do
   base ← base_at base_bytes
-  recovery_on base (files_of base.run parts) log_bytes
+  recovery_on base (decoded_files base.run parts) log_bytes
 
 -- the bytes are the text of a base of this run
 abbrev pub IsOfRun : List ℕ → ℕ → Type 0

@@ -5,7 +5,7 @@ use Rattle.pc_types.specs.declared.Entry.TheVariants.{Commit, Token}
 use Rattle.pc_types.specs.declared.refusal.Refusal.{Refusal}
 use Rattle.pc_io.specs.Fields.{◌>>=◌}
 use Rattle.pc_model.specs.Database.{Database}
-use Rattle.pc_model.specs.Log.{after, behind, is_token_of}
+use Rattle.pc_model.specs.Log.{after, log_after_point, is_token_of}
 use Rattle.pc_log.specs.Reading.{LogReading}
 use Rattle.pc_recover.specs.declared.replaying.Replayed.{Replayed}
 use Rattle.pc_recover.specs.Recovery.{entries_after, log_of_run}
@@ -17,7 +17,7 @@ is_point_token point (Token phase m) = is_token_of point phase m
 
 -- the entries that count: all if the point's token is before them, otherwise those after it
 abbrev pub counting : Bool → ℕ → List Entry → List Entry
-counting is_behind point entries = if is_behind then entries else behind point entries
+counting is_behind point entries = if is_behind then entries else log_after_point point entries
 
 -- the effect of a log on a database: the database after the entries that count, the number of entries, and the fault of the log's rest
 pub record Replay : Type 0 where

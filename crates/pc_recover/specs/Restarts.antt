@@ -11,7 +11,7 @@ use Rattle.pc_bases.specs.Lawful.{IsBaseFile, IsBaseText}
 use Rattle.pc_part.specs.Reading.{part_at}
 use Rattle.pc_log.specs.Texts.{log_text_in, HasLog}
 use Rattle.pc_log.specs.Laws.{IsLog}
-use Rattle.pc_recover.specs.Recovery.{Recovery, recovery, recovered_point, read_files, files_of}
+use Rattle.pc_recover.specs.Recovery.{Recovery, recovery, recovered_point, read_files, decoded_files}
 
 -- the base of a run at a point: the state of the point, by the log
 abbrev pub base_of_point : ℕ → Database → List Entry → ℕ → BaseFile
@@ -39,7 +39,7 @@ pub record AreWhole (format : Format) (run : ℕ) (log : List Entry) (c p : ℕ)
 -- The recovery from these files and the first c bytes of the log: the database after the first entries, up to the last that is
 -- whole in these bytes, or up to the recovered point's token if that is further.
 pub record IsRestored (format : Format) (run : ℕ) (start : Database) (log : List Entry) (b : ℕ) (parts : List (List ℕ)) (c : ℕ) (found : Recovery) : Type 0 where
-  pub point : found.point ≡ recovered_point b (read_files (files_of run parts))
+  pub point : found.point ≡ recovered_point b (read_files (decoded_files run parts))
   pub entries : AreWhole format run log c found.entries
   pub pairs : found.pairs ≡ after start (take (max found.entries (token_number found.point log)) log)
   pub fault : (found.fault ≡ None) ⊎ (found.fault ≡ Some Short)

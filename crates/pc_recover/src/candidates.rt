@@ -1,6 +1,6 @@
 //! The parts that can be read: those whose bytes are a part of the run.
 ghost use Rattle.std.specs.Prelude.{◌≡◌, map, IfOk, IfErr};
-ghost use Rattle.pc_recover.specs.Recovery.{file_at, files_of};
+ghost use Rattle.pc_recover.specs.Recovery.{decoded_file, decoded_files};
 
 use pc_part::Part;
 use pc_types::Refusal;
@@ -15,7 +15,7 @@ pub(crate) fn candidates(
     run: u64,
     parts: &[&[u8]],
 ) -> Result<Vec<Candidate>, Refusal>
-    ensures files { IfOk result (λ files. files.items ≡ files_of run (map (λ part. part.now) parts.now)) }
+    ensures files { IfOk result (λ files. files.items ≡ decoded_files run (map (λ part. part.now) parts.now)) }
     ensures memory { IfErr result (λ e. e ≡ Refusal.OutOfMemory) }
 {
     let mut files = Vec::new(alloc);
@@ -27,7 +27,7 @@ pub(crate) fn candidates(
 
 // The part of these bytes, if it can be read.
 fn candidate(alloc: Global, run: u64, bytes: &[u8]) -> Result<Candidate, Refusal>
-    ensures file { IfOk result (λ file. file ≡ file_at run bytes.now) }
+    ensures file { IfOk result (λ file. file ≡ decoded_file run bytes.now) }
     ensures memory { IfErr result (λ e. e ≡ Refusal.OutOfMemory) }
 {
     match Part::decode(alloc, bytes) {

@@ -2,7 +2,7 @@
 ghost use Rattle.std.specs.Prelude.{◌≡◌, ℕ, ◌≤◌, length, nat_le, None, ◌&&◌, IfOk, IsTrue, if◌then◌else◌};
 ghost use Rattle.pc_model.specs.LaidFiles.{greatest};
 ghost use Rattle.pc_recover.specs.Recovery.{read_files};
-ghost use Rattle.pc_recover.specs.Reach.{AreTops, IsFree, IsReach, lesser, noted, top_at};
+ghost use Rattle.pc_recover.specs.Reach.{AreTops, HasFreePoints, IsReach, lesser_point, top_with_file, top_at};
 
 use crate::candidates::Candidate;
 use pc_part::{Part, Range};
@@ -79,7 +79,7 @@ pub(crate) fn no_tops(alloc: Global, places: usize) -> Result<Vec<Option<Point>>
 pub(crate) fn note_part(tops: &mut [Option<Point>], part: &Part)
     requires { length tops.old ≡ PLACES }
     ensures len { length tops.new ≡ PLACES }
-    ensures tops { (point : ℕ) → point ≤ MOST_POINTS → top_at tops.new point ≡ noted point (top_at tops.old point) part.now }
+    ensures tops { (point : ℕ) → point ≤ MOST_POINTS → top_at tops.new point ≡ top_with_file point (top_at tops.old point) part.now }
 {
     let top = greatest_point(part);
     for range in part.ranges() {
@@ -91,7 +91,7 @@ pub(crate) fn note_part(tops: &mut [Option<Point>], part: &Part)
 fn note_range(tops: &mut [Option<Point>], range: Range, top: Point)
     requires { length tops.old ≡ PLACES }
     ensures len { length tops.new ≡ PLACES }
-    ensures tops { (point : ℕ) → point ≤ MOST_POINTS → top_at tops.new point ≡ (if nat_le range.low point && nat_le point range.high then lesser (top_at tops.old point) top else top_at tops.old point) }
+    ensures tops { (point : ℕ) → point ≤ MOST_POINTS → top_at tops.new point ≡ (if nat_le range.low point && nat_le point range.high then lesser_point (top_at tops.old point) top else top_at tops.old point) }
 {
     for place in usize::from(range.low.0)..usize::from(range.high.0) + 1 {
         tops[place] = lesser(tops[place], top);
@@ -101,7 +101,7 @@ fn note_range(tops: &mut [Option<Point>], range: Range, top: Point)
 /// Whether nothing is noted at any of the part's points.
 pub(crate) fn is_free(tops: &[Option<Point>], part: &Part) -> bool
     requires { length tops.now ≡ PLACES }
-    ensures { IsTrue result → IsFree tops.now part.now }
+    ensures { IsTrue result → HasFreePoints tops.now part.now }
 {
     for range in part.ranges() {
         if !is_range_free(tops, *range) {
@@ -126,7 +126,7 @@ fn is_range_free(tops: &[Option<Point>], range: Range) -> bool
 
 // The lesser of two points, the first of which may be missing.
 fn lesser(other: Option<Point>, top: Point) -> Option<Point>
-    ensures { result ≡ lesser other top }
+    ensures { result ≡ lesser_point other top }
 {
     match other {
         Some(other) if other.0 <= top.0 => Some(other),

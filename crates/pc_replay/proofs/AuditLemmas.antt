@@ -10,7 +10,7 @@ use Rattle.pc_types.specs.declared.Triple.{Triple}
 use Rattle.pc_model.specs.Database.{Database, KeysRise}
 use Rattle.pc_model.specs.Log.{after, front, has_token, is_token_of}
 use Rattle.pc_model.specs.Points.{laid}
-use Rattle.pc_model.specs.TripleLists.{entries_of}
+use Rattle.pc_model.specs.TripleLists.{map_entries}
 use Rattle.pc_replay.specs.Laying.{laid_in_turn}
 use Rattle.pc_replay.specs.Audits.{triples_from, TriplesRise, IsRight, IsRightInTurn}
 use Rattle.pc_replay.specs.declared.audits.CompleteFile.{CompleteFile}
@@ -56,8 +56,8 @@ after_more db log at to low = sym (after-append db (take at log) (take (to - at)
     together = omega arith
 
 -- triples that ascend by key, laid in turn, are laid
-pub laid_list : (db : Database) (triples : List Triple) → KeysRise (entries_of triples) → laid_in_turn db 0 triples ≡ laid db 0 (triples_from triples)
-laid_list db triples rise = laid_in_turn_is db 0 triples (triples_from triples) (pairs.entries_of (entries_of triples) rise)
+pub laid_list : (db : Database) (triples : List Triple) → KeysRise (map_entries triples) → laid_in_turn db 0 triples ≡ laid db 0 (triples_from triples)
+laid_list db triples rise = laid_in_turn_is db 0 triples (triples_from triples) (pairs.entries_of (map_entries triples) rise)
 
 -- files whose triples ascend are correct if and only if they are correct in turn
 pub all_in_turn : (base : Database) (log : List Entry) (files : List CompleteFile) → All TriplesRise files → All (IsRightInTurn base log) files ↔ All (IsRight base log) files

@@ -7,7 +7,7 @@ use Rattle.pc_types.specs.declared.Triple.{Triple}
 use Rattle.pc_model.specs.Maps.{get}
 use Rattle.pc_model.specs.Database.{Database, key_cmp, same_bytes, put}
 use Rattle.pc_model.specs.Points.{Triples, laid_at, laid}
-use Rattle.pc_model.specs.TripleLists.{entry_of, entries_of}
+use Rattle.pc_model.specs.TripleLists.{entry_of, map_entries}
 use Rattle.pc_replay.specs.Laying.{laid_one, laid_in_turn}
 use Rattle.pc_model.proofs.MapLaws.{get-entries}
 use Rattle.pc_model.proofs.RisingLaws.{none_below, both}
@@ -26,24 +26,24 @@ get_laid_one db point t q = by_point (nat_lt point t.point)
     by_point true = get_put db t.key q t.content
     by_point false = kept (same_bytes q t.key) refl
 
-get_in_turn : (db : Database) (point : ℕ) (ts : List Triple) (q : List ℕ) → is_sorted key_cmp (entries_of ts) ≡ true → get (laid_in_turn db point ts) q ≡ laid_at (get db q) point (find key_cmp q (entries_of ts))
+get_in_turn : (db : Database) (point : ℕ) (ts : List Triple) (q : List ℕ) → is_sorted key_cmp (map_entries ts) ≡ true → get (laid_in_turn db point ts) q ≡ laid_at (get db q) point (find key_cmp q (map_entries ts))
 get_in_turn db point [] q rise = refl
 get_in_turn db point (t ∷ ts) q rise =
-    let parts = both (below_all key_cmp t.key (entries_of ts)) (is_sorted key_cmp (entries_of ts)) rise in
+    let parts = both (below_all key_cmp t.key (map_entries ts)) (is_sorted key_cmp (map_entries ts)) rise in
     get_in_turn (laid_one db point t) point ts q parts.1
-    ∙ ap (λ c. laid_at c point (find key_cmp q (entries_of ts))) (get_laid_one db point t q)
+    ∙ ap (λ c. laid_at c point (find key_cmp q (map_entries ts))) (get_laid_one db point t q)
     ∙ by_key (same_bytes q t.key) refl parts.0
   where
-    by_key : (b : Bool) → same_bytes q t.key ≡ b → below_all key_cmp t.key (entries_of ts) ≡ true →
-        laid_at (cond b (laid_at (get db t.key) point (Some (entry_of t).1)) (get db q)) point (find key_cmp q (entries_of ts)) ≡ laid_at (get db q) point (cond b (Some (entry_of t).1) (find key_cmp q (entries_of ts)))
+    by_key : (b : Bool) → same_bytes q t.key ≡ b → below_all key_cmp t.key (map_entries ts) ≡ true →
+        laid_at (cond b (laid_at (get db t.key) point (Some (entry_of t).1)) (get db q)) point (find key_cmp q (map_entries ts)) ≡ laid_at (get db q) point (cond b (Some (entry_of t).1) (find key_cmp q (map_entries ts)))
     by_key true same below =
         let here : q ≡ t.key = one_key q t.key same in
-        ap (laid_at (laid_at (get db t.key) point (Some (entry_of t).1)) point) (ap (λ k. find key_cmp k (entries_of ts)) here ∙ none_below t.key (entries_of ts) below)
+        ap (laid_at (laid_at (get db t.key) point (Some (entry_of t).1)) point) (ap (λ k. find key_cmp k (map_entries ts)) here ∙ none_below t.key (map_entries ts) below)
         ∙ ap (λ k. laid_at (get db k) point (Some (entry_of t).1)) (sym here)
     by_key false same below = refl
 
 -- triples that ascend by key, laid in turn, are laid
-pub laid_in_turn_is : (db : Database) (point : ℕ) (ts : List Triple) (m : Triples) → m.entries ≡ entries_of ts → laid_in_turn db point ts ≡ laid db point m
+pub laid_in_turn_is : (db : Database) (point : ℕ) (ts : List Triple) (m : Triples) → m.entries ≡ map_entries ts → laid_in_turn db point ts ≡ laid db point m
 laid_in_turn_is db point ts m is = same_database _ _ (λ q.
     get_in_turn db point ts q (rw (← is) (tested m.rises))
     ∙ ap (λ es. laid_at (get db q) point (find key_cmp q es)) (sym is)

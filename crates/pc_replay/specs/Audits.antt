@@ -7,16 +7,16 @@ use Rattle.pc_model.specs.Maps.{from_list}
 use Rattle.pc_model.specs.Database.{Database, KeysRise}
 use Rattle.pc_model.specs.Log.{has_token, state_at}
 use Rattle.pc_model.specs.Points.{Triples, laid}
-use Rattle.pc_model.specs.TripleLists.{entries_of}
+use Rattle.pc_model.specs.TripleLists.{map_entries}
 use Rattle.pc_replay.specs.Laying.{laid_in_turn}
 
 -- the triples of a list
 abbrev pub triples_from : List Triple → Triples
-triples_from triples = from_list (entries_of triples)
+triples_from triples = from_list (map_entries triples)
 
 -- the file's triples ascend strictly by key
 abbrev pub TriplesRise : CompleteFile → Type 0
-TriplesRise file = KeysRise (entries_of file.triples.items)
+TriplesRise file = KeysRise (map_entries file.triples.items)
 
 -- the log has the token of the file's point, and the file, applied to the base, which is at 0, is the state of the point
 pub record IsRight (base : Database) (log : List Entry) (file : CompleteFile) : Type 0 where

@@ -1,7 +1,7 @@
 //! Laying a file's triples on a base, as the definition says it.
 ghost use Rattle.std.specs.Prelude.{◌≡◌, IfOk, OnOk};
 ghost use Rattle.pc_model.specs.Points.{Triples, laid};
-ghost use Rattle.pc_model.specs.TripleLists.{entries_of};
+ghost use Rattle.pc_model.specs.TripleLists.{map_entries};
 ghost use Rattle.pc_replay.specs.Laying.{laid_one, laid_in_turn};
 
 use crate::pairs::Pairs;
@@ -17,7 +17,7 @@ pub fn lay_plain(
     point: Point,
     triples: &[Triple],
 ) -> Result<Pairs, AllocError>
-    ensures { (m : Triples) → m.entries ≡ entries_of triples.now → IfOk result (λ pairs. pairs ≡ laid base.now point m) }
+    ensures { (m : Triples) → m.entries ≡ map_entries triples.now → IfOk result (λ pairs. pairs ≡ laid base.now point m) }
 {
     let pairs = lay_in_turn(alloc, base, point, triples)?;
     Ok(pairs)

@@ -21,7 +21,7 @@ use Rattle.pc_bases.specs.Texts.{base_magic}
 use Rattle.pc_log.specs.Reading as log_text
 use Rattle.pc_log.specs.Texts.{log_magic}
 use Rattle.pc_restore.specs.Recoveries.{IsRulesRefusal}
-use Rattle.pc_recover.specs.Recovery.{files_of, files_to, folded, log_of_run, read_files, recovered_point, recovery, unless, with_files}
+use Rattle.pc_recover.specs.Recovery.{decoded_files, files_to, try_folded, log_of_run, read_files, recovered_point, recovery, ok_unless, with_files}
 
 -- a refusal here is one of the rules
 abbrev pub IsOfRules : {X : Type 0} → Result X Refusal → Type 0
@@ -93,16 +93,16 @@ abbrev AreOfRules : List (Bool × Refusal) → Type 0
 AreOfRules [] = ⊤
 AreOfRules (c ∷ causes) = IsRulesRefusal c.1 × AreOfRules causes
 
-rules_unless : {X : Type 0} (causes : List (Bool × Refusal)) (x : X) → AreOfRules causes → IsOfRules (unless (first_cause causes) x)
+rules_unless : {X : Type 0} (causes : List (Bool × Refusal)) (x : X) → AreOfRules causes → IsOfRules (ok_unless (first_cause causes) x)
 rules_unless [] x h = tt
 rules_unless ((true, e) ∷ causes) x h = h.0
 rules_unless ((false, e) ∷ causes) x h = rules_unless causes x h.1
 
-rules_folded : (file : File) (files : List File) → IsOfRules (folded file files)
+rules_folded : (file : File) (files : List File) → IsOfRules (try_folded file files)
 rules_folded file [] = tt
 rules_folded file (next ∷ files) = rules_then _ _ (rules_unless (join_causes (Some file) (Some next)) (joined_file file next) (tt, (tt, (tt, tt)))) (λ joined. rules_folded joined files)
 
-rules_laid : (base : BaseFile) (joined : File) → IsOfRules (unless (first_cause (lay_causes base joined)) (laid_file base joined))
+rules_laid : (base : BaseFile) (joined : File) → IsOfRules (ok_unless (first_cause (lay_causes base joined)) (laid_file base joined))
 rules_laid base joined = rules_unless (lay_causes base joined) (laid_file base joined) (tt, by (gap_above base.point joined.points))
   where
     by : (gap : Option ℕ) → AreOfRules (gap_causes gap ++ limit_causes base.pairs base.point joined.triples)
@@ -128,7 +128,7 @@ rules_log_of run bytes = by (ltb (length bytes) 20)
 pub rules_recovery : (base : List ℕ) (parts : List (List ℕ)) (log : List ℕ) → IsOfRules (recovery base parts log)
 unfolding recovery
 rules_recovery base parts log = rules_then _ _ (rules_base base)
-    (λ first. rules_then _ _ (rules_with_files first (files_to (recovered_point first.point (read_files (files_of first.run parts))) (read_files (files_of first.run parts)))) (λ laid. rules_then _ _ (rules_log_of first.run log) (λ read. tt)))
+    (λ first. rules_then _ _ (rules_with_files first (files_to (recovered_point first.point (read_files (decoded_files first.run parts))) (read_files (decoded_files first.run parts)))) (λ laid. rules_then _ _ (rules_log_of first.run log) (λ read. tt)))
 
 pub of_rules : {X : Type 0} (r : Result X Refusal) (e : Refusal) → IsOfRules r → r ≡ Err e → IsRulesRefusal e
 of_rules (Ok x) e h is = absurd (let no : Ok x ≡ Err e = is in cc)

@@ -13,15 +13,15 @@ use Rattle.pc_restore.specs.Reports.{is_cut}
 -- ---- the state of the log
 
 -- the state of the log's header, if the log is there or not, and this is read of its bytes
-abbrev pub header_of : Bool → Result LogRead Refusal → LogHeader
-header_of false read = Missing
-header_of true (Err why) = Cut
-header_of true (Ok log) = Whole
+abbrev pub log_header_state : Bool → Result LogRead Refusal → LogHeader
+log_header_state false read = Missing
+log_header_state true (Err why) = Cut
+log_header_state true (Ok log) = Whole
 
 -- the whole entries that are read of a log's bytes
-abbrev pub entries_of : Result LogRead Refusal → List Entry
-entries_of (Err why) = []
-entries_of (Ok log) = log.entries
+abbrev pub entries_read : Result LogRead Refusal → List Entry
+entries_read (Err why) = []
+entries_read (Ok log) = log.entries
 
 -- the count of a log's entries, if none of them is used: the recovered point isn't 0, and its token isn't one of them
 abbrev pub unused_of : ℕ → ℕ → List Entry → Option ℕ
@@ -30,39 +30,39 @@ unused_of point count entries = if point == 0 then None else if has_token point 
 -- the gaps of a recovery with this result, if the log is there or not, and has these bytes
 abbrev pub lacks_of : Bool → List ℕ → Recovery → Lacks
 lacks_of is_there log found = record {
-  header = header_of is_there (log_at log);
+  header = log_header_state is_there (log_at log);
   fault = found.fault;
-  unused = unused_of found.point found.entries (entries_of (log_at log));
+  unused = unused_of found.point found.entries (entries_read (log_at log));
   skipped = length found.skipped;
 }
 
 -- ---- the size of the gaps
 
 -- the header is whole
-abbrev pub is_there : LogHeader → Bool
-is_there Whole = true
-is_there other = false
+abbrev pub is_header_whole : LogHeader → Bool
+is_header_whole Whole = true
+is_header_whole other = false
 
 -- a log's rest has a fault, and was not only truncated
-abbrev pub is_bad : Option Refusal → Bool
-is_bad None = false
-is_bad (Some fault) = not (is_cut fault)
+abbrev pub is_rest_faulty : Option Refusal → Bool
+is_rest_faulty None = false
+is_rest_faulty (Some fault) = not (is_cut fault)
 
 -- nothing is lacking: the log has its header, its rest has no fault, it reaches the recovered point's token, and no part was skipped
 abbrev pub is_whole : Lacks → Bool
-is_whole lacks = is_there lacks.header && not (is_some lacks.fault) && not (is_some lacks.unused) && (lacks.skipped == 0)
+is_whole lacks = is_header_whole lacks.header && not (is_some lacks.fault) && not (is_some lacks.unused) && (lacks.skipped == 0)
 
 -- More is lacking than a killed process leaves out: the log has no whole header, its rest was not only truncated, or a part was
 -- skipped. A killed process leaves a log that is truncated, maybe before the token of a point whose file is there.
 abbrev pub is_damaged : Lacks → Bool
-is_damaged lacks = not (is_there lacks.header) || is_bad lacks.fault || not (lacks.skipped == 0)
+is_damaged lacks = not (is_header_whole lacks.header) || is_rest_faulty lacks.fault || not (lacks.skipped == 0)
 
 -- ---- the consequences
 
 -- the status of a recovery: 1 if not all went out; otherwise 0, or 4 if it is strict and has gaps
-abbrev pub status_of : Bool → Option Lacks → ℕ
-status_of is_strict None = 1
-status_of is_strict (Some lacks) = if is_strict && not (is_whole lacks) then 4 else 0
+abbrev pub recovery_status : Bool → Option Lacks → ℕ
+recovery_status is_strict None = 1
+recovery_status is_strict (Some lacks) = if is_strict && not (is_whole lacks) then 4 else 0
 
 -- a run doesn't start from a folder with these gaps
 abbrev pub refuses : Bool → Lacks → Bool

@@ -1,7 +1,7 @@
 -- The output of `pcalc recover`.
 use Rattle.std.specs.Prelude.{ℕ, Bool, true, false, if◌then◌else◌, List, [], ◌++◌, Option, Some, None, slice_get, codes, decimal}
 use Rattle.std.specs.List.{flat_map}
-use Rattle.pc_types.specs.Names.{name_of}
+use Rattle.pc_types.specs.Names.{refusal_name}
 use Rattle.pc_types.specs.declared.refusal.Refusal.{Refusal}
 use Rattle.pc_types.specs.declared.refusal.Refusal.TheVariants as why
 use Rattle.pc_model.specs.Maps.{len}
@@ -21,7 +21,7 @@ is_cut other = false
 -- the line of the fault of the log's rest; none if it was only truncated
 abbrev pub log_line : Option Refusal → List ℕ
 log_line None = []
-log_line (Some fault) = if is_cut fault then [] else codes "log " ++ (name_of fault ++ codes "\n")
+log_line (Some fault) = if is_cut fault then [] else codes "log " ++ (refusal_name fault ++ codes "\n")
 
 -- the name of a place
 abbrev pub name_at : Option (List ℕ) → List ℕ

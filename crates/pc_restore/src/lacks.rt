@@ -5,7 +5,7 @@ ghost use Rattle.pc_log.specs.Orders.{no_token};
 ghost use Rattle.pc_log.specs.Reading.{all_at, log_at};
 ghost use Rattle.pc_recover.specs.Recovery.{recovery_of};
 ghost use Rattle.pc_recover.specs.Replaying.{is_point_token};
-ghost use Rattle.pc_restore.specs.Lacks.{entries_of, header_of, is_bad, is_damaged, is_there, is_whole, lacks_of, unused_of};
+ghost use Rattle.pc_restore.specs.Lacks.{entries_read, log_header_state, is_rest_faulty, is_damaged, is_header_whole, is_whole, lacks_of, unused_of};
 
 use crate::reports::is_cut;
 use pc_io::Format;
@@ -59,7 +59,7 @@ impl Lacks {
 }
 
 fn is_there(header: LogHeader) -> bool
-    ensures { result ≡ is_there header }
+    ensures { result ≡ is_header_whole header }
 {
     match header {
         LogHeader::Whole => true,
@@ -69,7 +69,7 @@ fn is_there(header: LogHeader) -> bool
 
 // Whether a log's rest has a fault, and was not only truncated.
 fn is_bad(fault: Option<Refusal>) -> bool
-    ensures { result ≡ is_bad fault }
+    ensures { result ≡ is_rest_faulty fault }
 {
     match fault {
         Some(why) => !is_cut(why),
@@ -96,7 +96,7 @@ pub(crate) fn lacks_of(
 
 #[tactic(auto, unfolding(pc_log::specs::Reading::log_at))]
 fn header_of(is_there: bool, log: &[u8]) -> LogHeader
-    ensures { result ≡ header_of is_there (log_at log.now) }
+    ensures { result ≡ log_header_state is_there (log_at log.now) }
 {
     if !is_there {
         return LogHeader::Missing;
@@ -114,7 +114,7 @@ fn unused_of(
     count: usize,
     log: &[u8],
 ) -> Result<Option<usize>, AllocError>
-    ensures { IfOk result (λ unused. unused ≡ unused_of point count (entries_of (log_at log.now))) }
+    ensures { IfOk result (λ unused. unused ≡ unused_of point count (entries_read (log_at log.now))) }
 {
     if point == Point(0) {
         return Ok(None);
@@ -128,7 +128,7 @@ fn unused_of(
 // Whether one of the log's whole entries is the token of the point.
 #[tactic(auto, unfolding(pc_log::specs::Reading::log_at))]
 fn has_token(alloc: Global, point: Point, log: &[u8]) -> Result<bool, AllocError>
-    ensures { IfOk result (λ has. has ≡ has_token point (entries_of (log_at log.now))) }
+    ensures { IfOk result (λ has. has ≡ has_token point (entries_read (log_at log.now))) }
 {
     match read_header(log) {
         Ok((format, _, entries)) => has_token_in(alloc, format, point, entries),

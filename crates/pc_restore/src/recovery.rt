@@ -8,7 +8,7 @@ ghost use Rattle.pc_io.specs.Fields.{Gives};
 ghost use Rattle.pc_model.specs.Database.{KeysRise};
 ghost use Rattle.pc_recover.specs.Recovery.{IsOfRun, recovery, recovery_of};
 ghost use Rattle.pc_restore.specs.declared.recovery.Lost.{Lost};
-ghost use Rattle.pc_restore.specs.Lacks.{lacks_of, status_of};
+ghost use Rattle.pc_restore.specs.Lacks.{lacks_of, recovery_status};
 ghost use Rattle.pc_restore.specs.Recoveries.{AreAllOpened, GoesOutUnrecovered, HoldsAll, IsLacking, IsLost, IsRecoveryTold, PrintsAll, bytes_of, names_of, reason_text};
 
 use crate::lacks::{Lacks, lacks_of};
@@ -74,7 +74,7 @@ pub fn run_recover<R: Read + Drop, W: Write, E: Write>(
     out: &mut Tally<W>,
     errors: &mut Tally<E>,
 ) -> EndedRecovery<R>
-    ensures status { result.status ≡ status_of is_strict result.lacks }
+    ensures status { result.status ≡ recovery_status is_strict result.lacks }
     ensures lacks { IfSome result.lacks (IsLacking R.remaining folder) }
     ensures statuses { (result.status ≡ 0) ⊎ (result.status ≡ 1) ⊎ (result.status ≡ 4) }
     ensures recovered { ¬ (result.status ≡ 1) → PrintsAll R.remaining W.contents folder out.old out.new }
@@ -106,7 +106,7 @@ pub fn run_recover<R: Read + Drop, W: Write, E: Write>(
 
 // The status of a recovery with these gaps, if all of the output went out.
 fn status_of(is_strict: bool, lacks: &Lacks) -> u8
-    ensures given { result ≡ status_of is_strict (Some lacks.now) }
+    ensures given { result ≡ recovery_status is_strict (Some lacks.now) }
     ensures statuses { (result ≡ 0) ⊎ (result ≡ 4) }
 {
     if is_strict && !lacks.is_whole() {

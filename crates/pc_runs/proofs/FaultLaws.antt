@@ -17,7 +17,7 @@ use Rattle.pc_texts.specs.declared.file_names.FileName.{FileName}
 use Rattle.pc_texts.proofs.StatePairLaws.{pairs_of}
 use Rattle.pc_outcomes.specs.Leaving.{IsUntoldAfter, has_point}
 use Rattle.pc_threads.specs.Clients.{clients_in, jobs_of, transactions_in}
-use Rattle.pc_threads.specs.Faults.{IsThreadsEnd, fault_of}
+use Rattle.pc_threads.specs.Faults.{IsThreadsEnd, lost_file_fault}
 use Rattle.pc_threads.specs.Files.{HasWritten}
 use Rattle.pc_threads.specs.declared.fault.ThreadsFault.{ThreadsFault}
 use Rattle.pc_threads.specs.declared.fault.ThreadsFault.TheVariants as fault
@@ -81,7 +81,7 @@ module _ (st : Setting) (workload : Workload) (there : Bool) where
   memory_ends given is = subst (EndsRun st workload there) (sym is) tt
 
   -- one of a file of the folder
-  pub lost_ends : {T : Type 0} (given : FileFault T) → IsTrue there → EndsRun st workload there (fault_of given)
+  pub lost_ends : {T : Type 0} (given : FileFault T) → IsTrue there → EndsRun st workload there (lost_file_fault given)
   lost_ends (lost.Unmade file why) is = is
   lost_ends (lost.Failed file) is = is
 

@@ -9,7 +9,7 @@ use Rattle.pc_io.specs.declared.tally.Tally.{Tally}
 use Rattle.pc_model.specs.Files.{BaseFile, File}
 use Rattle.pc_model.specs.Sets as set
 use Rattle.pc_model.specs.Sets.{Set, number_order}
-use Rattle.pc_model.specs.Standing.{IsOfItsPoints, file_of}
+use Rattle.pc_model.specs.Standing.{IsOfItsPoints, file_of_points}
 use Rattle.pc_log.specs.Texts.{entry_text, header_text, log_text}
 use Rattle.pc_part.specs.Texts.{part_text}
 use Rattle.pc_bases.specs.Texts.{base_text}
@@ -31,10 +31,10 @@ log_whole run logged log given is =
 module _ (base : BaseFile) (log : List Entry) where
   -- a file of one point, if it is that of its points
   abbrev one_point : ℕ → File
-  one_point point = file_of base.run base.pairs log (set.insert set.empty point)
+  one_point point = file_of_points base.run base.pairs log (set.insert set.empty point)
 
   is_one : (file : File) (point : ℕ) → IsOfItsPoints base.run base.pairs log file → file.points ≡ set.insert set.empty point → part_text file ≡ part_text (one_point point)
-  is_one file point worth is = ap part_text (worth.is ∙ ap (λ (points : Set number_order). file_of base.run base.pairs log points) is)
+  is_one file point worth is = ap part_text (worth.is ∙ ap (λ (points : Set number_order). file_of_points base.run base.pairs log points) is)
 
   parts_left : (had has : FileName → List ℕ → Type 0) (points : ℕ) (files : List File) → KeepsOtherFiles had has Log → length files ≡ points → HasParts had files → All (IsOfItsPoints base.run base.pairs log) files
       → (point : ℕ) → 1 ≤ point → point ≤ points → has (Part point) (part_text (one_point point))

@@ -14,10 +14,10 @@ use Rattle.pc_jobs.specs.declared.phrases.TheConstants.{MOST_FILL, MOST_RUN_POIN
 use Rattle.pc_jobs.specs.declared.works.Client.{Client}
 use Rattle.pc_jobs.specs.declared.works.Workload.{Workload}
 use Rattle.pc_jobs.specs.declared.workloads.WorkloadReading.TheVariants as reading
-use Rattle.pc_jobs.specs.Phrases.{add_line, client_line, del_line, fill_line, get_line, key_of, number_within, points_line, prefix_of, put_line, spelled, spelled_by, two_words, value_of, within}
+use Rattle.pc_jobs.specs.Phrases.{add_op_line, client_line, del_op_line, fill_line, get_op_line, spelled_key, number_within, points_line, prefix_of, put_op_line, spelled_phrase, phrase_of_words, two_word_phrase, spelled_value, within}
 use Rattle.pc_jobs.specs.Workloads as workloads
 use Rattle.pc_model.specs.Replies.{Setting}
-use Rattle.pc_shared.specs.Sitters.{HasAll, Sitter, is_there, new_sitters, sitter}
+use Rattle.pc_shared.specs.Sitters.{HasAll, Sitter, has_sitter, new_sitters, sitter}
 use Rattle.pc_threads.specs.Clients.{AreSeated, HaveSeats, HaveWorked, clients_in, is_taken}
 use Rattle.pc_threads.proofs.SeatLaws.{neither}
 use Rattle.pc_runs.proofs.DealingLaws.{same_total, to_dealt, total}
@@ -60,29 +60,29 @@ module _ (n : ℕ) where
           omega (arith, here, behind)
       by false at few = let here = ap count_of at in omega (arith, here, few)
 
-each_there : (sessions : List Sitter) (clients : List Client) → HaveSeats sessions clients → All (λ (c : Client). is_there sessions c.session ≡ true) clients
-each_there sessions [] seats = All-nil (λ (c : Client). is_there sessions c.session ≡ true)
-each_there sessions (c ∷ clients) (there, apart, rest) = All-cons (λ (k : Client). is_there sessions k.session ≡ true) c clients there (each_there sessions clients rest)
+each_there : (sessions : List Sitter) (clients : List Client) → HaveSeats sessions clients → All (λ (c : Client). has_sitter sessions c.session ≡ true) clients
+each_there sessions [] seats = All-nil (λ (c : Client). has_sitter sessions c.session ≡ true)
+each_there sessions (c ∷ clients) (there, apart, rest) = All-cons (λ (k : Client). has_sitter sessions k.session ≡ true) c clients there (each_there sessions clients rest)
 
-seats_from : (sessions : List Sitter) (clients : List Client) → All (λ (c : Client). is_there sessions c.session ≡ true) clients → ((n : ℕ) → total (has n) clients ≤ 1) → HaveSeats sessions clients
+seats_from : (sessions : List Sitter) (clients : List Client) → All (λ (c : Client). has_sitter sessions c.session ≡ true) clients → ((n : ℕ) → total (has n) clients ≤ 1) → HaveSeats sessions clients
 seats_from sessions [] there few = tt
 seats_from sessions (c ∷ clients) there few =
     let itself : (c.session == c.session) ≡ true = grind (arith, nat_tests) in
     let here = ap count_of itself in
     let own = few c.session in (
-      All-head (λ (k : Client). is_there sessions k.session ≡ true) c clients there,
+      All-head (λ (k : Client). has_sitter sessions k.session ≡ true) c clients there,
       when_none c.session clients (omega (arith, here, own)),
-      seats_from sessions clients (All-tail (λ (k : Client). is_there sessions k.session ≡ true) c clients there) (λ n. let all = few n in omega (arith, all)),
+      seats_from sessions clients (All-tail (λ (k : Client). has_sitter sessions k.session ≡ true) c clients there) (λ n. let all = few n in omega (arith, all)),
     )
 
 -- clients that are dealt to workers have their seats
 pub dealt_seats : (sessions : List Sitter) (workers : ℕ) (clients : List Client) (dealt : List (List Client)) → 1 ≤ workers → IsDealt workers clients dealt → HaveSeats sessions clients → HaveSeats sessions (clients_in dealt)
 dealt_seats sessions workers clients dealt some is seats =
-    seats_from sessions (clients_in dealt) (to_dealt (λ (c : Client). is_there sessions c.session ≡ true) workers clients dealt is (each_there sessions clients seats))
+    seats_from sessions (clients_in dealt) (to_dealt (λ (c : Client). has_sitter sessions c.session ≡ true) workers clients dealt is (each_there sessions clients seats))
     (λ n. let same = same_total (has n) workers clients dealt some is in let few = at_most n sessions clients seats in omega (arith, same, few))
 
 -- each number from 1 on is that of a new session
-is_new : (count n : ℕ) → 1 ≤ n → n ≤ count → is_there (new_sitters count) n ≡ true
+is_new : (count n : ℕ) → 1 ≤ n → n ≤ count → has_sitter (new_sitters count) n ≡ true
 is_new zero n low high = absurd (omega (arith, low, high))
 is_new (suc count) n low high = list_any-append (λ (s : Sitter). s.number == n) (new_sitters count) (sitter (suc count) [] [] ∷ []) ∙ by (suc count == n) refl (is_new count n low)
   where
@@ -90,8 +90,8 @@ is_new (suc count) n low high = list_any-append (λ (s : Sitter). s.number == n)
     any true = refl
     any false = refl
 
-    by : (mine : Bool) → (suc count == n) ≡ mine → (n ≤ count → is_there (new_sitters count) n ≡ true) → (is_there (new_sitters count) n || (mine || false)) ≡ true
-    by true at rest = any (is_there (new_sitters count) n)
+    by : (mine : Bool) → (suc count == n) ≡ mine → (n ≤ count → has_sitter (new_sitters count) n ≡ true) → (has_sitter (new_sitters count) n || (mine || false)) ≡ true
+    by true at rest = any (has_sitter (new_sitters count) n)
     by false at rest =
         let below : n ≤ count = grind (arith, nat_tests) in
         ap (λ b. b || false) (rest below)
@@ -115,17 +115,17 @@ new_seats count (c ∷ clients) (off, apart) range =
     (is_new count c.session low.0 low.1, none_later c.session clients off, new_seats count clients apart (All-tail (IsOfCount count) c clients range))
 
 -- the sessions of the clients that have worked
-same_there : (st : Setting) (n : ℕ) (clients : List Client) (given_up : ℕ) (sessions : List Sitter) → HaveWorked st clients given_up sessions → is_there sessions n ≡ is_taken clients n
+same_there : (st : Setting) (n : ℕ) (clients : List Client) (given_up : ℕ) (sessions : List Sitter) → HaveWorked st clients given_up sessions → has_sitter sessions n ≡ is_taken clients n
 same_there st n [] given_up [] have = refl
 same_there st n (c ∷ clients) given_up (s ∷ sessions) (own, others, sum, has, have) =
-    ap (λ m. (m == n) || is_there sessions n) has.run.committed.number ∙ ap (λ b. (c.session == n) || b) (same_there st n clients others sessions have)
+    ap (λ m. (m == n) || has_sitter sessions n) has.run.committed.number ∙ ap (λ b. (c.session == n) || b) (same_there st n clients others sessions have)
 same_there st n [] given_up (s ∷ sessions) have = absurd have
 same_there st n (c ∷ clients) given_up [] have = absurd have
 
 -- if the clients' sessions come back, all are there
 pub all_back : (st : Setting) (count : ℕ) (clients : List Client) (given_up : ℕ) (idle worked : List Sitter) → AreSeated clients (new_sitters count) idle → HaveWorked st clients given_up worked → HasAll count (idle ++ worked)
 all_back st count clients given_up idle worked seated have k low =
-    list_any-append (λ (s : Sitter). s.number == k + 1) idle worked ∙ ap (λ b. is_there idle (k + 1) || b) (same_there st (k + 1) clients given_up worked have)
+    list_any-append (λ (s : Sitter). s.number == k + 1) idle worked ∙ ap (λ b. has_sitter idle (k + 1) || b) (same_there st (k + 1) clients given_up worked have)
     ∙ seated (k + 1) (is_new count (k + 1) (omega arith) (omega (arith, low)))
 
 -- a line that a client's work begins with names a session of the given number
@@ -153,20 +153,20 @@ points_range : (o : Option ℕ) → IsInRange (points_line o)
 points_range None = tt
 points_range (Some n) = tt
 
-get_range : (o : Option (List ℕ)) → IsInRange (get_line o)
+get_range : (o : Option (List ℕ)) → IsInRange (get_op_line o)
 get_range None = tt
 get_range (Some key) = tt
 
-del_range : (o : Option (List ℕ)) → IsInRange (del_line o)
+del_range : (o : Option (List ℕ)) → IsInRange (del_op_line o)
 del_range None = tt
 del_range (Some key) = tt
 
-put_range : (key value : Option (List ℕ)) → IsInRange (put_line key value)
+put_range : (key value : Option (List ℕ)) → IsInRange (put_op_line key value)
 put_range None value = tt
 put_range (Some k) None = tt
 put_range (Some k) (Some v) = tt
 
-add_range : (key : Option (List ℕ)) (delta : Option ℤ) → IsInRange (add_line key delta)
+add_range : (key : Option (List ℕ)) (delta : Option ℤ) → IsInRange (add_op_line key delta)
 add_range None delta = tt
 add_range (Some k) None = tt
 add_range (Some k) (Some d) = tt
@@ -177,37 +177,37 @@ fill_range (Some p) None value = tt
 fill_range (Some p) (Some n) None = tt
 fill_range (Some p) (Some n) (Some v) = tt
 
-two_range : (verb word : List ℕ) → IsInRange (two_words verb word)
+two_range : (verb word : List ℕ) → IsInRange (two_word_phrase verb word)
 two_range verb word =
     if_range (bytes_eq verb (codes "points")) (points_line (number_within 0 MOST_RUN_POINTS word)) _ (points_range (number_within 0 MOST_RUN_POINTS word))
     (if_range (bytes_eq verb (codes "client")) (client_line (number_within 1 MOST_SESSIONS word)) _ (client_word word)
-    (if_range (bytes_eq verb (codes "get")) (get_line (key_of word)) _ (get_range (key_of word))
-    (if_range (bytes_eq verb (codes "del")) (del_line (key_of word)) phrase.Malformed (del_range (key_of word)) tt)))
+    (if_range (bytes_eq verb (codes "get")) (get_op_line (spelled_key word)) _ (get_range (spelled_key word))
+    (if_range (bytes_eq verb (codes "del")) (del_op_line (spelled_key word)) phrase.Malformed (del_range (spelled_key word)) tt)))
 
-words_range : (words : List (List ℕ)) → IsInRange (spelled_by words)
+words_range : (words : List (List ℕ)) → IsInRange (phrase_of_words words)
 words_range [] = tt
 words_range (verb ∷ []) = if_range (bytes_eq verb (codes "txn")) phrase.Begin _ tt (if_range (bytes_eq verb (codes "end")) phrase.End phrase.Malformed tt tt)
 words_range (verb ∷ word ∷ []) = two_range verb word
 words_range (verb ∷ key ∷ word ∷ []) =
-    if_range (bytes_eq verb (codes "put")) (put_line (key_of key) (value_of word)) _ (put_range (key_of key) (value_of word))
-    (if_range (bytes_eq verb (codes "add")) _ phrase.Malformed (add_range (key_of key) _) tt)
+    if_range (bytes_eq verb (codes "put")) (put_op_line (spelled_key key) (spelled_value word)) _ (put_range (spelled_key key) (spelled_value word))
+    (if_range (bytes_eq verb (codes "add")) _ phrase.Malformed (add_range (spelled_key key) _) tt)
 words_range (verb ∷ prefix ∷ count ∷ value ∷ []) =
-    if_range (bytes_eq verb (codes "fill")) (fill_line (prefix_of prefix) (number_within 1 MOST_FILL count) (value_of value)) phrase.Malformed
-    (fill_range (prefix_of prefix) (number_within 1 MOST_FILL count) (value_of value)) tt
+    if_range (bytes_eq verb (codes "fill")) (fill_line (prefix_of prefix) (number_within 1 MOST_FILL count) (spelled_value value)) phrase.Malformed
+    (fill_range (prefix_of prefix) (number_within 1 MOST_FILL count) (spelled_value value)) tt
 words_range (a ∷ b ∷ c ∷ d ∷ e ∷ words) = tt
 
-line_range : (silent : Bool) (words : List (List ℕ)) → IsInRange (if silent then phrase.Silent else spelled_by words)
-line_range silent words = if_range silent phrase.Silent (spelled_by words) tt (words_range words)
+line_range : (silent : Bool) (words : List (List ℕ)) → IsInRange (if silent then phrase.Silent else phrase_of_words words)
+line_range silent words = if_range silent phrase.Silent (phrase_of_words words) tt (words_range words)
 
-text_range : (text : List ℕ) → IsInRange (spelled text)
+text_range : (text : List ℕ) → IsInRange (spelled_phrase text)
 text_range text = search (line_range)
 
-clients_range : (lines : List (List ℕ)) → All (IsOfCount MOST_SESSIONS) (workloads.clients_in (map spelled lines))
+clients_range : (lines : List (List ℕ)) → All (IsOfCount MOST_SESSIONS) (workloads.clients_of_lines (map spelled_phrase lines))
 clients_range [] = All-nil (IsOfCount MOST_SESSIONS)
-clients_range (text ∷ lines) = by (spelled text) (text_range text) (clients_range lines)
+clients_range (text ∷ lines) = by (spelled_phrase text) (text_range text) (clients_range lines)
   where
-    by : (p : Phrase) → IsInRange p → All (IsOfCount MOST_SESSIONS) (workloads.clients_in (map spelled lines)) → All (IsOfCount MOST_SESSIONS) (workloads.clients_in (p ∷ map spelled lines))
-    by (phrase.Client session) range rest = All-cons (IsOfCount MOST_SESSIONS) _ (workloads.clients_in (map spelled lines)) range rest
+    by : (p : Phrase) → IsInRange p → All (IsOfCount MOST_SESSIONS) (workloads.clients_of_lines (map spelled_phrase lines)) → All (IsOfCount MOST_SESSIONS) (workloads.clients_of_lines (p ∷ map spelled_phrase lines))
+    by (phrase.Client session) range rest = All-cons (IsOfCount MOST_SESSIONS) _ (workloads.clients_of_lines (map spelled_phrase lines)) range rest
     by (phrase.Points points) range rest = rest
     by phrase.Begin range rest = rest
     by (phrase.Does op) range rest = rest
@@ -216,11 +216,11 @@ clients_range (text ∷ lines) = by (spelled text) (text_range text) (clients_ra
     by phrase.Malformed range rest = rest
     by phrase.Silent range rest = rest
 
-the_workload : (o : Option ℕ) (v w : Workload) → workloads.outcome o v ≡ reading.Runs w → v ≡ w
+the_workload : (o : Option ℕ) (v w : Workload) → workloads.reading_of_workload o v ≡ reading.Runs w → v ≡ w
 the_workload (Some line) v w is = absurd cc
 the_workload None v w is = cc
 
-read_clients : (text : List ℕ) → All (IsOfCount MOST_SESSIONS) (workloads.clients_in (workloads.phrases_in text))
+read_clients : (text : List ℕ) → All (IsOfCount MOST_SESSIONS) (workloads.clients_of_lines (workloads.phrases_in text))
 read_clients text = search (clients_range)
 
 -- the sessions of a workload that was read are those of a run

@@ -8,7 +8,7 @@ use Rattle.pc_model.specs.History.{History, log_of}
 use Rattle.pc_model.specs.Replies.{Setting}
 use Rattle.pc_jobs.specs.declared.works.Client.{Client}
 use Rattle.pc_jobs.specs.Dealing.{IsDealt}
-use Rattle.pc_shared.specs.Sitters.{Sitter, IsSitterSettled, HasAll, is_there, new_sitters, sitter}
+use Rattle.pc_shared.specs.Sitters.{Sitter, IsSitterSettled, HasAll, has_sitter, new_sitters, sitter}
 use Rattle.pc_workers.specs.Clients.{marked}
 use Rattle.pc_threads.specs.Clients.{HasWorked, HaveWorked, IsFresh, clients_in, is_taken, jobs_of}
 use Rattle.pc_runs.specs.Worked.{HasRunBy, HaveRunBy, commits_of, left_over}
@@ -50,31 +50,31 @@ module _ (st : Setting) (h : History) where
   clients_ran (c ∷ clients) given_up [] have settled = absurd have
 
   -- the session of the number has committed nothing if it is one without calls
-  idle_alone : (n : ℕ) (idle : List Sitter) → All IsFresh idle → All (IsSitterSettled st h) idle → is_there idle n ≡ true → commits_of n (log_of h) ≡ []
+  idle_alone : (n : ℕ) (idle : List Sitter) → All IsFresh idle → All (IsSitterSettled st h) idle → has_sitter idle n ≡ true → commits_of n (log_of h) ≡ []
   idle_alone n [] fresh settled there = absurd (cc (there))
   idle_alone n (s ∷ idle) fresh settled there =
       by (s.number == n) refl there (idle_alone n idle (All-tail IsFresh s idle fresh) (All-tail (IsSitterSettled st h) s idle settled))
     where
-      by : (mine : Bool) → (s.number == n) ≡ mine → (mine || is_there idle n) ≡ true → (is_there idle n ≡ true → commits_of n (log_of h) ≡ []) → commits_of n (log_of h) ≡ []
+      by : (mine : Bool) → (s.number == n) ≡ mine → (mine || has_sitter idle n) ≡ true → (has_sitter idle n ≡ true → commits_of n (log_of h) ≡ []) → commits_of n (log_of h) ≡ []
       by true is some rest =
           let at : s.number ≡ n = grind (arith, nat_tests) in
           ap (λ m. commits_of m (log_of h)) (sym at) ∙ committed s (All-head (IsSitterSettled st h) s idle settled) ∙ ap (λ (r : Sitter). written_in r.receipts) (All-head IsFresh s idle fresh)
       by false is some rest = rest some
 
   -- otherwise it is a client's
-  taken : (n : ℕ) (clients : List Client) (given_up : ℕ) (sessions : List Sitter) → HaveWorked st clients given_up sessions → All (λ (c : Client). (c.session == n) ≡ false) clients → is_there sessions n ≡ false
+  taken : (n : ℕ) (clients : List Client) (given_up : ℕ) (sessions : List Sitter) → HaveWorked st clients given_up sessions → All (λ (c : Client). (c.session == n) ≡ false) clients → has_sitter sessions n ≡ false
   taken n [] given_up [] have none = refl
   taken n (c ∷ clients) given_up (s ∷ sessions) (own, others, sum, has, have) none =
       let other : (s.number == n) ≡ false = ap (λ m. m == n) has.run.committed.number ∙ All-head (λ (k : Client). (k.session == n) ≡ false) c clients none in
-      ap (λ b. b || is_there sessions n) other ∙ taken n clients others sessions have (All-tail (λ (k : Client). (k.session == n) ≡ false) c clients none)
+      ap (λ b. b || has_sitter sessions n) other ∙ taken n clients others sessions have (All-tail (λ (k : Client). (k.session == n) ≡ false) c clients none)
   taken n [] given_up (s ∷ sessions) have none = absurd have
   taken n (c ∷ clients) given_up [] have none = absurd have
 
-  there_append : (n : ℕ) (xs ys : List Sitter) → is_there ys n ≡ false → is_there (xs ++ ys) n ≡ true → is_there xs n ≡ true
+  there_append : (n : ℕ) (xs ys : List Sitter) → has_sitter ys n ≡ false → has_sitter (xs ++ ys) n ≡ true → has_sitter xs n ≡ true
   there_append n [] ys none some = absurd (cc (none, some))
   there_append n (x ∷ xs) ys none some = by (x.number == n) some (there_append n xs ys none)
     where
-      by : (mine : Bool) → (mine || is_there (xs ++ ys) n) ≡ true → (is_there (xs ++ ys) n ≡ true → is_there xs n ≡ true) → (mine || is_there xs n) ≡ true
+      by : (mine : Bool) → (mine || has_sitter (xs ++ ys) n) ≡ true → (has_sitter (xs ++ ys) n ≡ true → has_sitter xs n ≡ true) → (mine || has_sitter xs n) ≡ true
       by true is rest = refl
       by false is rest = rest is
 
@@ -105,7 +105,7 @@ module _ (st : Setting) (h : History) where
       alone : (session : ℕ) → 1 ≤ session → session ≤ st.sessions → IsFalse (is_taken clients session) → commits_of session (log_of h) ≡ []
       alone (suc k) low high free =
           let none = to_dealt (λ (c : Client). (c.session == suc k) ≡ false) workers clients dealt is (none_taken (suc k) clients free) in
-          let there : is_there (idle ++ worked) (suc k) ≡ true = ap (is_there (idle ++ worked)) (omega arith) ∙ all k (omega (arith, high)) in
+          let there : has_sitter (idle ++ worked) (suc k) ≡ true = ap (has_sitter (idle ++ worked)) (omega arith) ∙ all k (omega (arith, high)) in
           idle_alone (suc k) idle fresh (first_ones (IsSitterSettled st h) idle worked settled) (there_append (suc k) idle worked (taken (suc k) (clients_in dealt) given_up worked have none) there)
       alone zero low high free = absurd (omega (arith, low))
 

@@ -7,7 +7,7 @@ use Rattle.pc_io.specs.declared.tally.Tally.{Tally}
 use Rattle.pc_model.specs.Files.{BaseFile}
 use Rattle.pc_model.specs.Replies.{Setting}
 use Rattle.pc_model.specs.Sets as set
-use Rattle.pc_model.specs.Standing.{file_of}
+use Rattle.pc_model.specs.Standing.{file_of_points}
 use Rattle.pc_log.specs.Texts.{log_text}
 use Rattle.pc_part.specs.Texts.{part_text}
 use Rattle.pc_bases.specs.Texts.{base_text}
@@ -26,7 +26,7 @@ base_of st = record { run = st.run; point = 0; pairs = st.base }
 -- to the last one of the file that the log gives it.
 pub record HasFiles (holds : FileName → List ℕ → Type 0) (base : BaseFile) (log : List Entry) (points : ℕ) : Type 0 where
   pub base_is : holds Base (base_text base)
-  pub parts_are : (point : ℕ) → 1 ≤ point → point ≤ points → holds (Part point) (part_text (file_of base.run base.pairs log (set.insert set.empty point)))
+  pub parts_are : (point : ℕ) → 1 ≤ point → point ≤ points → holds (Part point) (part_text (file_of_points base.run base.pairs log (set.insert set.empty point)))
   pub log_is : holds Log (log_text base.run log)
 
 -- the same of the folder that is left, if there is one

@@ -6,13 +6,13 @@ use Rattle.pc_jobs.specs.declared.works.ClientTask.{ClientTask}
 use Rattle.pc_jobs.specs.declared.works.ClientTask.TheVariants as work
 
 -- the number of the work's transactions
-abbrev pub count_of : ClientTask → ℕ
-count_of (work.Once job) = 1
-count_of (work.Fill fill) = fill.count
+abbrev pub transaction_count : ClientTask → ℕ
+transaction_count (work.Once job) = 1
+transaction_count (work.Fill fill) = fill.count
 
 -- the number of the client's, up to the greatest number of 32 bits
 abbrev pub most_in : Client → ℕ
-most_in client = min (sum_by count_of client.works) (2 ^ 32 - 1)
+most_in client = min (sum_by transaction_count client.works) (2 ^ 32 - 1)
 
 -- the number that commit between two points: the one that is asked for, or those of the clients, up to that limit, divided by the points
 abbrev pub every_of : Option ℕ → ℕ → List Client → ℕ

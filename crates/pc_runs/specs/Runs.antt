@@ -30,12 +30,12 @@ use Rattle.pc_outcomes.specs.declared.run_report.RunReport.{RunReport}
 use Rattle.pc_outcomes.specs.declared.run_report.Printed.{Printed}
 use Rattle.pc_outcomes.specs.declared.run_report.Printed.TheVariants as printed
 use Rattle.pc_outcomes.specs.Leaving.{commits_in, IsLegacy}
-use Rattle.pc_outcomes.specs.Outcomes.{printed_text, status_of}
+use Rattle.pc_outcomes.specs.Outcomes.{printed_text, run_status}
 use Rattle.pc_workers.specs.Covering.{HaveJustTo}
 use Rattle.pc_runs.specs.Faults.{EndsRun}
 use Rattle.pc_runs.specs.Folders.{LeavesFiles, base_of}
 use Rattle.pc_runs.specs.Worked.{HaveRunBy}
-use Rattle.pc_texts.specs.FileNames.{name_of}
+use Rattle.pc_texts.specs.FileNames.{name_of_file}
 use Rattle.pc_texts.specs.declared.file_names.FileName.{FileName}
 
 -- the store of a run over this base: 64 sessions, and room for this many keys
@@ -44,9 +44,9 @@ run_setting base capacity = record { run = base.run; base = base.pairs; sessions
 
 -- It is the base that a run starts from. Without a folder it has no pairs and the run's number, and nothing is reported; otherwise
 -- it is made of the folder, which isn't damaged if that is not accepted, and its damage was reported.
-abbrev pub IsStart : {S T : Type 0} → (S → Option (List ℕ)) → (T → Option (List ℕ)) → Start S → Tally T → Tally T → BaseFile → Type 0
-IsStart remaining contents (start.Empty run) old new base = (base ≡ record { run = run; point = 0; pairs = database_of [] }) × (new ≡ old)
-IsStart remaining contents (start.Folder old_run) old new base = IsBaseMade remaining contents old_run.folder old_run.accepts_damage old new base
+abbrev pub IsRunBase : {S T : Type 0} → (S → Option (List ℕ)) → (T → Option (List ℕ)) → Start S → Tally T → Tally T → BaseFile → Type 0
+IsRunBase remaining contents (start.Empty run) old new base = (base ≡ record { run = run; point = 0; pairs = database_of [] }) × (new ≡ old)
+IsRunBase remaining contents (start.Folder old_run) old new base = IsBaseMade remaining contents old_run.folder old_run.accepts_damage old new base
 
 -- A run was to start from the folder of this name, and there is no base of it for this reason: nothing was reported yet, or, if the
 -- folder is damaged and that is not accepted, its damage.
@@ -66,7 +66,7 @@ pub data Beginning (R S : Type 0) : Type 0 where
 abbrev pub RunBegins : {R S T : Type 0} → (S → Option (List ℕ)) → (T → Option (List ℕ)) → Origin S → Tally T → Tally T → Beginning R S → Type 0
 RunBegins remaining contents origin old new NotBegun = new ≡ old
 RunBegins remaining contents origin old new (Unstarted why) = IsUnstarted remaining contents origin.start old new why
-RunBegins remaining contents origin old new (Begun st) = (base : BaseFile) × IsStart remaining contents origin.start old new base × (st ≡ run_setting base origin.capacity)
+RunBegins remaining contents origin old new (Begun st) = (base : BaseFile) × IsRunBase remaining contents origin.start old new base × (st ≡ run_setting base origin.capacity)
 
 -- The workload was run over a store of this setting, in one legal history of it: its clients have run, this many transactions were
 -- committed and this many given up; the result is that of some files, which have just the points from 1 to the last one that was
@@ -114,9 +114,9 @@ IsAnswer remaining holds opened folder begins left (printed.Whole outcome) = IsU
     × ((st : Setting) × begins (Begun st) × IsWorkloadRun holds st workload (is_some folder) left outcome))
 
 -- the output of the workload of the file went out, all of it, and this is its status, and the folder that is left
-abbrev pub GoesOut : {R S D T : Type 0} → (R → Option (List ℕ)) → (D → FileName → List ℕ → Type 0) → (T → Option (List ℕ)) → Result R Refusal → Option (RunFolder D) → (Beginning R S → Type 0) → Tally T → Tally T
+abbrev pub IsOutputWritten : {R S D T : Type 0} → (R → Option (List ℕ)) → (D → FileName → List ℕ → Type 0) → (T → Option (List ℕ)) → Result R Refusal → Option (RunFolder D) → (Beginning R S → Type 0) → Tally T → Tally T
     → Option D → ℕ → Type 0
-GoesOut remaining holds contents opened folder begins old new left status = (some : Printed) × IsAnswer remaining holds opened folder begins left some × (status ≡ status_of some)
+IsOutputWritten remaining holds contents opened folder begins old new left status = (some : Printed) × IsAnswer remaining holds opened folder begins left some × (status ≡ run_status some)
     × Appends (contents (inner_of old)) (contents (inner_of new)) (printed_text some) × (failures_of new ≡ failures_of old)
 
 -- Why nothing is printed: if the file wasn't opened, the reason for that; if it was, that it couldn't be read, or that an
@@ -140,7 +140,7 @@ IsCauseOfUnprinted remaining holds contents opened folder begins old new other =
 abbrev pub IsRunTold : {R S T : Type 0} → (T → Option (List ℕ)) → Tally T → Tally T → List ℕ → RunFailure R S → Type 0
 IsRunTold contents old new name (failure.Unread why) = TellsOf contents old new name (refusal_of why)
 IsRunTold contents old new name (failure.Run (fault.Refused why)) = TellsOf contents old new name why
-IsRunTold contents old new name (failure.Run (fault.Unmade file why)) = TellsOf contents old new (name_of file) why
+IsRunTold contents old new name (failure.Run (fault.Unmade file why)) = TellsOf contents old new (name_of_file file) why
 IsRunTold contents old new name (failure.Run fault.NoThread) = recoveries.TellsReason contents old new name (codes "NoThread")
 IsRunTold contents old new name (failure.Folder folder unusable.NotEmpty) = recoveries.TellsReason contents old new folder.items (codes "NotEmpty")
 IsRunTold contents old new name (failure.Folder folder (unusable.Unlisted why)) = TellsOf contents old new folder.items why

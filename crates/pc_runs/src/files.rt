@@ -4,7 +4,7 @@ ghost use Rattle.pc_io.specs.Tallies.{Puts, inner_of};
 ghost use Rattle.pc_bases.specs.Texts.{base_text};
 ghost use Rattle.pc_texts.specs.Files.{report_text};
 ghost use Rattle.pc_texts.specs.declared.file_names.FileName.TheVariants as file;
-ghost use Rattle.pc_texts.specs.FileNames.{name_of};
+ghost use Rattle.pc_texts.specs.FileNames.{name_of_file};
 ghost use Rattle.pc_threads.specs.Faults.{IsFileLost};
 ghost use Rattle.pc_runs.specs.Folders.{IsBeginLost};
 
@@ -37,7 +37,7 @@ pub fn report_unmade<E: Write>(
     why: Refusal,
     errors: &mut Tally<E>,
 ) -> Result<(), Refusal>
-    ensures { Puts E.contents errors.old errors.new result (report_text (name_of file) why) }
+    ensures { Puts E.contents errors.old errors.new result (report_text (name_of_file file) why) }
 {
     match file {
         FileName::Base => report(b"base.pcb", why, errors),

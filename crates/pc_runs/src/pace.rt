@@ -1,14 +1,14 @@
 //! How the points of a run are spread over its transactions.
 ghost use Rattle.std.specs.Prelude.{◌≡◌, ◌-◌, ◌^◌, min};
 ghost use Rattle.std.specs.List.{sum_by};
-ghost use Rattle.pc_runs.specs.Pace.{count_of, every_of, most_in};
+ghost use Rattle.pc_runs.specs.Pace.{transaction_count, every_of, most_in};
 
 use pc_jobs::{Client, ClientTask};
 use pc_types::Items;
 
 // The number of the work's transactions.
 fn count_of(work: &ClientTask) -> u32
-    ensures { result ≡ count_of work.now }
+    ensures { result ≡ transaction_count work.now }
 {
     match work {
         ClientTask::Once(_) => 1,
@@ -18,7 +18,7 @@ fn count_of(work: &ClientTask) -> u32
 
 // The number of the works' transactions, up to the greatest number of 32 bits.
 fn transactions_in(works: &[ClientTask]) -> u32
-    ensures { result ≡ min (sum_by count_of works.now) (2 ^ 32 - 1) }
+    ensures { result ≡ min (sum_by transaction_count works.now) (2 ^ 32 - 1) }
 {
     let mut count = 0u32;
     for work in works {

@@ -5,7 +5,7 @@ ghost use Rattle.pc_shared.specs.Sitters.{new_sitters};
 ghost use Rattle.pc_threads.specs.Clients.{HaveSeats};
 ghost use Rattle.pc_runs.specs.Faults.{EndsRun};
 ghost use Rattle.pc_runs.specs.Folders.{HasBegunFiles, IsBeginLost};
-ghost use Rattle.pc_runs.specs.Runs.{RunBegins, GoesOut, IsAnswer, IsCauseOfUnprinted, IsFailed, IsWorkloadRun, IsRunUnanswered, run_setting};
+ghost use Rattle.pc_runs.specs.Runs.{RunBegins, IsOutputWritten, IsAnswer, IsCauseOfUnprinted, IsFailed, IsWorkloadRun, IsRunUnanswered, run_setting};
 
 use crate::crew::Crew;
 use crate::failure::{RunFailure, print, usable};
@@ -80,7 +80,7 @@ pub fn run_workload<
 ) -> Finished<R, S, D>
     ensures status { (result.status ≡ 0) ⊎ (result.status ≡ 1) ⊎ (result.status ≡ 3) }
     ensures opened { ¬ (result.status ≡ 1) → IsOk workload.opened }
-    ensures printed { ¬ (result.status ≡ 1) → GoesOut R.remaining D.holds W.contents workload.opened folder (RunBegins S.remaining E.contents origin errors.old errors.new) out.old out.new result.folder result.status }
+    ensures printed { ¬ (result.status ≡ 1) → IsOutputWritten R.remaining D.holds W.contents workload.opened folder (RunBegins S.remaining E.contents origin errors.old errors.new) out.old out.new result.folder result.status }
     ensures cause { result.status ≡ 1 → IsFailed E.contents workload.name.items errors.new result.failure
         (λ between. IsCauseOfUnprinted R.remaining D.holds W.contents workload.opened folder (RunBegins S.remaining E.contents origin errors.old between) out.old out.new) }
 {
@@ -120,7 +120,7 @@ fn run_opened<
     errors: &mut Tally<E>,
 ) -> Result<Finished<R, S, D>, RunFailure<R, S>>
     ensures opened { OnOk result (IsOk opened) }
-    ensures printed { IfOk result (λ finished. GoesOut R.remaining D.holds W.contents opened folder (RunBegins S.remaining E.contents origin errors.old errors.new) out.old out.new finished.folder finished.status) }
+    ensures printed { IfOk result (λ finished. IsOutputWritten R.remaining D.holds W.contents opened folder (RunBegins S.remaining E.contents origin errors.old errors.new) out.old out.new finished.folder finished.status) }
     ensures cause { IfErr result (IsCauseOfUnprinted R.remaining D.holds W.contents opened folder (RunBegins S.remaining E.contents origin errors.old errors.new) out.old out.new) }
 {
     let (printed, folder) = answer(rt, alloc, seed, opened, origin, crew, folder, errors)?;

@@ -1,6 +1,6 @@
 //! The base from which a run starts.
 ghost use Rattle.std.specs.Prelude.{◌≡◌, IfErr, IfOk};
-ghost use Rattle.pc_runs.specs.Runs.{IsStart, IsUnstarted};
+ghost use Rattle.pc_runs.specs.Runs.{IsRunBase, IsUnstarted};
 
 use crate::failure::RunFailure;
 use crate::origin::{NamedFolder, Start};
@@ -18,7 +18,7 @@ pub fn base_of<R, S: Read + Drop, E: Write>(
     errors: &mut Tally<E>,
 ) -> Result<Base, RunFailure<R, S>>
     ensures point { IfOk result (λ base. base.point ≡ 0) }
-    ensures start { IfOk result (IsStart S.remaining E.contents start errors.old errors.new) }
+    ensures start { IfOk result (IsRunBase S.remaining E.contents start errors.old errors.new) }
     ensures cause { IfErr result (IsUnstarted S.remaining E.contents start errors.old errors.new) }
 {
     match start {

@@ -24,7 +24,7 @@ use Rattle.pc_script.specs.declared.script.Status.{Status}
 use Rattle.pc_script.specs.declared.script.Status.TheVariants as status
 use Rattle.pc_script.specs.declared.setup.Setup.{Setup}
 use Rattle.pc_lines.specs.Lines.{lines_in, spelled}
-use Rattle.pc_script.specs.Scripts.{ScriptStage, setting, AnswersLine, AnswersFirst, AnswersAtStage, answer_text, Prints, PrintsFrom, is_malformed, has_bad_line, status_of, IsScriptAnswered, IsAnsweredInPart}
+use Rattle.pc_script.specs.Scripts.{ScriptStage, setting, AnswersLine, AnswersFirst, AnswersAtStage, answer_text, Prints, PrintsFrom, is_malformed, has_bad_line, script_status, IsScriptAnswered, IsAnsweredInPart}
 use Rattle.pc_script.specs.Scripts.ScriptStage.{Reading, Running, Ended}
 use Rattle.pc_script.specs.Holding.{StageHolds, IsSaid, IsSaidInPart, is_ended}
 use Rattle.pc_texts.proofs.Begun.{whole_begins}
@@ -124,7 +124,7 @@ as_status : (b : Bool) → status_after b ≡ (if b then status.BadLines else st
 as_status true = refl
 as_status false = refl
 
-goes_status : (stage : ScriptStage) (lines : List (List ℕ)) → Goes stage → status_after (has_bad_line lines) ≡ status_of stage lines
+goes_status : (stage : ScriptStage) (lines : List (List ℕ)) → Goes stage → status_after (has_bad_line lines) ≡ script_status stage lines
 goes_status (Reading base) lines g = as_status (has_bad_line lines)
 goes_status (Running base history) lines g = as_status (has_bad_line lines)
 goes_status Ended lines g = absurd g

@@ -45,6 +45,6 @@ AnswersInPart remaining contents setup opened old new = IfOk opened (λ reader. 
 
 -- Why the status is 1, and what is reported: the output failed, which was counted, or the store couldn't be made, and nothing is
 -- reported; or there is a reason, which is handed back, and reported by its refusal.
-abbrev pub IsCause : {R T : Type 0} → (R → Option (List ℕ)) → (T → Option (List ℕ)) → Setup → Result R Refusal → Tally T → Tally T → Option (Unread R) → Type 0 → (Refusal → Type 0) → Type 0
-IsCause remaining contents setup opened old new handed Quiet Told = (HasRisen (failures_of old) (failures_of new) × Quiet)
+abbrev pub IsScriptFailure : {R T : Type 0} → (R → Option (List ℕ)) → (T → Option (List ℕ)) → Setup → Result R Refusal → Tally T → Tally T → Option (Unread R) → Type 0 → (Refusal → Type 0) → Type 0
+IsScriptFailure remaining contents setup opened old new handed Quiet Told = (HasRisen (failures_of old) (failures_of new) × Quiet)
     ⊎ (MatchOption handed ⊥ (λ why. IsScriptUnanswered opened old new why × Told (refusal_of why)) ⊎ (Quiet × AnswersAll remaining contents setup opened old new status.NoStore))

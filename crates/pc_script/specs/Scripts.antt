@@ -105,14 +105,14 @@ abbrev pub has_bad_line : List (List ℕ) → Bool
 has_bad_line lines = list_any (λ l. is_malformed (spelled l)) lines
 
 -- how a script ended whose lines led to this stage
-abbrev pub status_of : ScriptStage → List (List ℕ) → Status
-status_of Ended lines = status.NoStore
-status_of (Reading base) lines = if has_bad_line lines then status.BadLines else status.Done
-status_of (Running base history) lines = if has_bad_line lines then status.BadLines else status.Done
+abbrev pub script_status : ScriptStage → List (List ℕ) → Status
+script_status Ended lines = status.NoStore
+script_status (Reading base) lines = if has_bad_line lines then status.BadLines else status.Done
+script_status (Running base history) lines = if has_bad_line lines then status.BadLines else status.Done
 
 -- the script's answers may be this text and this status
 abbrev pub IsScriptAnswered : Setup → List ℕ → Status → List ℕ → Type 0
-IsScriptAnswered setup script status text = (last : ScriptStage) × PrintsFrom setup (lines_in script) text last × (status ≡ status_of last (lines_in script))
+IsScriptAnswered setup script status text = (last : ScriptStage) × PrintsFrom setup (lines_in script) text last × (status ≡ script_status last (lines_in script))
 
 -- some first lines of the script may print this text
 abbrev pub IsAnsweredInPart : Setup → List ℕ → List ℕ → Type 0

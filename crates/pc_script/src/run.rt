@@ -5,7 +5,7 @@ ghost use Rattle.pc_types.specs.declared.refusal.Refusal.{Refusal};
 ghost use Rattle.pc_io.specs.Tallies.{inner_of, failures_of};
 ghost use Rattle.pc_io.specs.Counted.{HasRisen};
 ghost use Rattle.pc_script.specs.declared.script.Status.{Status};
-ghost use Rattle.pc_script.specs.Runs.{exit_of, AnswersAll, AnswersInPart, IsCause, IsFault};
+ghost use Rattle.pc_script.specs.Runs.{exit_of, AnswersAll, AnswersInPart, IsScriptFailure, IsFault};
 ghost use Rattle.pc_texts.specs.Files.{TellsOf};
 ghost use Rattle.pc_texts.specs.declared.files.Unread.TheVariants as Unread;
 
@@ -56,7 +56,7 @@ pub fn run_script<R: Read + Drop, W: Write, E: Write>(
     ensures quiet { ¬ (result.status ≡ 1) → Keeps (E.contents (inner_of errors.old)) (E.contents (inner_of errors.new)) }
     ensures told { IfErr opened (λ why. (result.status ≡ 1) × (out.new ≡ out.old) × TellsOf E.contents errors.old errors.new name.now why) }
     ensures in_part { result.status ≡ 1 → AnswersInPart R.remaining W.contents setup opened out.old out.new }
-    ensures cause { result.status ≡ 1 → IsCause R.remaining W.contents setup opened out.old out.new result.unread (errors.new ≡ errors.old) (TellsOf E.contents errors.old errors.new name.now) }
+    ensures cause { result.status ≡ 1 → IsScriptFailure R.remaining W.contents setup opened out.old out.new result.unread (errors.new ≡ errors.old) (TellsOf E.contents errors.old errors.new name.now) }
 {
     match answer_opened(alloc, setup, seed, opened, out) {
         Ok(status) => {

@@ -29,12 +29,12 @@ use Rattle.pc_script.specs.Scripts.{answer_text}
 use Rattle.pc_script.specs.Views.{AnswersView, ShowsState, ShowsText, base_of}
 use Rattle.pc_texts.specs.Texts.{reply_text}
 use Rattle.pc_serving.specs.Requests.{request_of}
-use Rattle.pc_serving.specs.Serving.{AnswersServed, granted_text, is_of_client, wrong_phase}
+use Rattle.pc_serving.specs.Serving.{AnswersServed, granted_text, is_of_client, wrong_phase_text}
 use Rattle.pc_serving.specs.declared.request.Request.{Request}
 use Rattle.pc_serving.specs.declared.request.Request.TheVariants as request
 use Rattle.pc_server.specs.Acts.{Act, Lead, AnswersRequest, answers_of}
 use Rattle.pc_server.specs.Acts.Act.{Answered, WentOn}
-use Rattle.pc_server.specs.Answered.{IsAnswered, IsCommitEntry, committed_line}
+use Rattle.pc_server.specs.Answered.{IsCommitAnswered, IsCommitEntry, committed_line}
 use Rattle.pc_server.proofs.ServerLaws.{Extends, answer_extends, answers_on, step_extends}
 
 -- the first byte
@@ -230,7 +230,7 @@ module _ (st : Setting) (after : History) (n : ℕ) (fits : n < 2 ^ 64) (few : l
     where
       by : (b : Bool) → MatchBool b
           ((reply : Reply) × IsLegal st before event reply × (after ≡ record { event = event; reply = reply } ∷ before) × (text ≡ (reply_text reply ++ codes "\n") ++ granted_text st (record { event = event; reply = reply }) before))
-          ((text ≡ wrong_phase) × (after ≡ before))
+          ((text ≡ wrong_phase_text) × (after ≡ before))
           → Tells text
       by true (reply, legal, is, t) =
           subst Tells (sym t) (reply_tells before event reply (granted_text st (record { event = event; reply = reply }) before) x legal is (sym (ap (λ u. u ++ x) t) ∙ e))
@@ -274,7 +274,7 @@ acts_tell st from to (Answered line text ∷ acts) n x y fits few (between, led,
     goes_on between on told (inr entry) = inr (commit_stays between to n on entry)
 
 -- Of acts whose answers were sent in part, a line that went out whole is that of a commit.
-pub answered_entry : (st : Setting) (at : History) (gone : List Act) (sent more : List ℕ) (n : ℕ) → n < 2 ^ 64 → length (log_of at) < 2 ^ 64 → Lead st [] gone at → answers_of gone ≡ sent ++ more → IsAnswered gone sent n → IsCommitEntry (log_of at) n
+pub answered_entry : (st : Setting) (at : History) (gone : List Act) (sent more : List ℕ) (n : ℕ) → n < 2 ^ 64 → length (log_of at) < 2 ^ 64 → Lead st [] gone at → answers_of gone ≡ sent ++ more → IsCommitAnswered gone sent n → IsCommitEntry (log_of at) n
 answered_entry st at gone sent more n fits few led all (later, earlier, rest, these, is) =
     let split = lead_apart st [] at earlier later (subst (λ acts. Lead st [] acts at) these led) in
     let whole : answers_of earlier ++ answers_of later ≡ answers_of earlier ++ (committed_line n ++ (rest ++ more)) =

@@ -30,14 +30,14 @@ use Rattle.pc_lines.specs.declared.lines.Line.TheVariants as line
 use Rattle.pc_serving.specs.Points.{IsShelvedAs, is_checkpoint}
 use Rattle.pc_serving.specs.Requests.{request_of}
 use Rattle.pc_texts.specs.Texts.{reply_text}
-use Rattle.pc_serving.specs.Serving.{granted_text, is_of_client, wrong_phase}
+use Rattle.pc_serving.specs.Serving.{granted_text, is_of_client, wrong_phase_text}
 use Rattle.pc_serving.specs.declared.pace.Turned.{Turned}
 use Rattle.pc_serving.specs.declared.pace.Turned.TheVariants as turned
 use Rattle.pc_serving.specs.declared.request.Request.{Request}
 use Rattle.pc_serving.specs.declared.request.Request.TheVariants as request
 use Rattle.pc_server.specs.Acts.{Act, Lead, AnswersRequest}
 use Rattle.pc_server.specs.Acts.Act.{Answered, WentOn}
-use Rattle.pc_server.specs.Files.{AreOfPoints, HasAllFiles, HasFile, HasNoMore, HasOnlyFiles, IsOfPoint, IsTextOf, KeepsOthers, Shelves}
+use Rattle.pc_server.specs.Files.{AreOfPoints, HasAllFiles, HasFile, HasNoMore, HasOnlyFiles, IsOfPoint, IsTextOf, KeepsOthers, ExtendsShelf}
 use Rattle.pc_server.specs.Inputs.{shelved}
 use Rattle.pc_model.proofs.LogLimits.{done_idle}
 
@@ -147,7 +147,7 @@ module _ (first old new : ℕ → List ℕ → Type 0) (files there : List File)
       by (Err e) kept = only_kept first old new files file points only more
 
   -- the file that was put on the shelf was given
-  pub shelf_kept : (t : Turned) (number : ℕ) → shelved t ≡ Some number → Shelves t files there → AreOfPoints there → HasAllFiles old files → HasOnlyFiles first old files
+  pub shelf_kept : (t : Turned) (number : ℕ) → shelved t ≡ Some number → ExtendsShelf t files there → AreOfPoints there → HasAllFiles old files → HasOnlyFiles first old files
       → ((file : File) → file_at there number ≡ Some file → OnOk result (HasFile new file) × KeepsOthers old new file × HasNoMore old new file) → Kept there
   shelf_kept (turned.Shelved n) number is (file, e, last) points all only kept =
       let same : n ≡ number = some_same n number is in
@@ -162,7 +162,7 @@ module _ (first old new : ℕ → List ℕ → Type 0) (files there : List File)
   shelf_kept turned.On number is shelves points all only kept = absurd (cc (is))
 
 -- nothing was put there
-pub none_kept : (first old : ℕ → List ℕ → Type 0) (files there : List File) (t : Turned) → shelved t ≡ None → Shelves t files there → HasAllFiles old files → HasOnlyFiles first old files → HasAllFiles old there × HasOnlyFiles first old there
+pub none_kept : (first old : ℕ → List ℕ → Type 0) (files there : List File) (t : Turned) → shelved t ≡ None → ExtendsShelf t files there → HasAllFiles old files → HasOnlyFiles first old files → HasAllFiles old there × HasOnlyFiles first old there
 none_kept first old files there (turned.Shelved n) is shelves all only = absurd (cc (is))
 none_kept first old files there turned.Nothing is e all only = (subst (HasAllFiles old) (sym e) all, subst (HasOnlyFiles first old) (sym e) only)
 none_kept first old files there turned.On is e all only = (subst (HasAllFiles old) (sym e) all, subst (HasOnlyFiles first old) (sym e) only)
@@ -222,7 +222,7 @@ quiet other (Err e) is none = tt
 
 -- what a turn of the checkpointer's leaves of a shelf
 abbrev pub LeavesShelf : Result Turned Refusal → List File → List File → Type 0
-LeavesShelf result old new = MatchResult result (λ t. Shelves t old new) (λ _. new ≡ old)
+LeavesShelf result old new = MatchResult result (λ t. ExtendsShelf t old new) (λ _. new ≡ old)
 
 same_left : (result : Result Turned Refusal) (old new : List File) → IsQuiet result → new ≡ old → LeavesShelf result old new
 same_left (Ok (turned.Shelved file)) old new q e = absurd q
@@ -302,7 +302,7 @@ request_steps st before after (request.Line (line.Asks event)) text a = by (is_o
   where
     by : (b : Bool) → is_of_client event ≡ b → MatchBool b
         ((reply : Reply) × IsLegal st before event reply × (after ≡ record { event = event; reply = reply } ∷ before) × (text ≡ (reply_text reply ++ codes "\n") ++ granted_text st (record { event = event; reply = reply }) before))
-        ((text ≡ wrong_phase) × (after ≡ before))
+        ((text ≡ wrong_phase_text) × (after ≡ before))
         → IsStepped before after
     by true is (reply, legal, e, t) = inr (event, reply, is, e)
     by false is (t, e) = inl e

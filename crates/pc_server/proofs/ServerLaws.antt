@@ -25,14 +25,14 @@ use Rattle.pc_texts.specs.Texts.{reply_text}
 use Rattle.pc_lines.specs.declared.lines.Line.{Line}
 use Rattle.pc_lines.specs.declared.lines.Line.TheVariants as line
 use Rattle.pc_types.specs.declared.Entry.{Entry}
-use Rattle.pc_turn.specs.Turns.{IsKept, IsLogOut, TurnEnds, is_due, rest_text}
+use Rattle.pc_turn.specs.Turns.{IsKept, IsLogOut, TurnEnds, exceeds_lag, rest_text}
 use Rattle.pc_turn.specs.declared.turn.TurnEnd.{TurnEnd}
 use Rattle.pc_turn.specs.declared.turn.TurnEnd.TheVariants as end
 use Rattle.pc_serving.specs.OpenSessions.{open_after, open_now}
 use Rattle.pc_serving.proofs.OpenLaws.{open_told}
 use Rattle.pc_serving.specs.Points.{due_in, is_checkpoint, IsShelvedAs, IsTurn}
 use Rattle.pc_serving.specs.Requests.{request_of}
-use Rattle.pc_serving.specs.Serving.{AnswersServed, Serves, awaits, granted_text, is_of_client, is_wait, wrong_phase}
+use Rattle.pc_serving.specs.Serving.{AnswersServed, Serves, awaits, granted_text, is_of_client, is_wait, wrong_phase_text}
 use Rattle.pc_serving.specs.declared.answers.Served.{Served}
 use Rattle.pc_serving.specs.declared.pace.Pace.{Pace}
 use Rattle.pc_serving.specs.declared.pace.Turned.{Turned}
@@ -135,7 +135,7 @@ line_extends st before after (line.Asks event) text a = by (is_of_client event) 
   where
     by : (b : Bool) → MatchBool b
         ((reply : Reply) × IsLegal st before event reply × (after ≡ record { event = event; reply = reply } ∷ before) × (text ≡ (reply_text reply ++ codes "\n") ++ granted_text st (record { event = event; reply = reply }) before))
-        ((text ≡ wrong_phase) × (after ≡ before))
+        ((text ≡ wrong_phase_text) × (after ≡ before))
         → Extends before after
     by true (reply, legal, e, t) = one_more before after (record { event = event; reply = reply }) e
     by false (t, e) = same_extends before after e
@@ -265,9 +265,9 @@ same_ends written kept contents entries log lag sent answers before after log_ol
 
 -- if the log went out, at most as many entries as the lag are not kept
 pub kept_enough : {T : Type 0} (written kept : T → Option (List ℕ)) (log : List Entry) (lag before after : ℕ) (old new : T) → IsLogOut written kept log lag before after old new true → length log ≤ after + lag
-kept_enough written kept log lag before after old new out = by (is_due lag before log) refl out
+kept_enough written kept log lag before after old new out = by (exceeds_lag lag before log) refl out
   where
-    by : (b : Bool) → is_due lag before log ≡ b → MatchBool b (IsKept written kept (rest_text before log) old new true × (after ≡ length log)) ((new ≡ old) × (after ≡ before)) → length log ≤ after + lag
+    by : (b : Bool) → exceeds_lag lag before log ≡ b → MatchBool b (IsKept written kept (rest_text before log) old new true × (after ≡ length log)) ((new ≡ old) × (after ≡ before)) → length log ≤ after + lag
     by true e (kept, all) = omega (arith, all)
     by false e (same, none) = grind (arith, nat_tests, e, none)
 

@@ -16,7 +16,7 @@ use Rattle.pc_model.specs.History.{History, log_of}
 use Rattle.pc_model.specs.Replies.{Setting}
 use Rattle.pc_log.specs.Texts.{entry_text}
 use Rattle.pc_turn.specs.Devices.{Grows}
-use Rattle.pc_turn.specs.Turns.{IsKept, IsLogOut, TurnEnds, is_due, rest_text}
+use Rattle.pc_turn.specs.Turns.{IsKept, IsLogOut, TurnEnds, exceeds_lag, rest_text}
 use Rattle.pc_turn.specs.declared.turn.TurnEnd.TheVariants as end
 use Rattle.pc_serving.specs.Points.{IsShelvedAs}
 use Rattle.pc_serving.specs.Requests.{request_of}
@@ -25,7 +25,7 @@ use Rattle.pc_serving.specs.declared.pace.Turned.TheVariants as turned
 use Rattle.pc_server.specs.Acts.{Act, AnswersRequest, answers_of}
 use Rattle.pc_server.specs.Acts.Act.{Answered, WentOn}
 use Rattle.pc_server.specs.Turns.{Stays}
-use Rattle.pc_server.specs.Inputs.{IsRead, ServesOn}
+use Rattle.pc_server.specs.Inputs.{IsInputRead, ServesOn}
 use Rattle.pc_server.specs.Services.{GrowsFrom, Holds, IsCutOff, entries_text, first_text}
 use Rattle.pc_server.specs.declared.server.Server.{Server}
 use Rattle.pc_server.specs.declared.service.Service.{Service}
@@ -125,7 +125,7 @@ module _ {T U : Type 0} (written keeps : T → Option (List ℕ)) (contents : U 
   -- what has gone out of the log
   log_is_out : (turn_log : List Entry) (lag before after : ℕ) (a b : T) → Appends log (written a) (first_text before turn_log) → GrowsFrom log (keeps a) (first_text before turn_log) → IsLogOut written keeps turn_log lag before after a b true
       → Appends log (written b) (first_text after turn_log) × GrowsFrom log (keeps b) (first_text after turn_log)
-  log_is_out turn_log lag before after a b logged kept is_out = by (is_due lag before turn_log) is_out
+  log_is_out turn_log lag before after a b logged kept is_out = by (exceeds_lag lag before turn_log) is_out
     where
       by : (due : Bool) → MatchBool due (IsKept written keeps (rest_text before turn_log) a b true × (after ≡ length turn_log)) ((b ≡ a) × (after ≡ before)) → Appends log (written b) (first_text after turn_log) × GrowsFrom log (keeps b) (first_text after turn_log)
       by true ((appended, all, grown), e) =
@@ -203,7 +203,7 @@ module _ {T U : Type 0} (written keeps : T → Option (List ℕ)) (contents : U 
       }
 
 -- of the input nothing was read
-pub none_read : (input : Option (List ℕ)) → IsRead input input []
+pub none_read : (input : Option (List ℕ)) → IsInputRead input input []
 none_read None = tt
 none_read (Some text) = refl
 

@@ -15,7 +15,7 @@ use Rattle.pc_serving.specs.declared.pace.Turned.TheVariants as turned
 use Rattle.pc_server.specs.Acts.{Act, AnswersRequest, is_quit, lines_of}
 use Rattle.pc_server.specs.Acts.Act.{Answered, WentOn}
 use Rattle.pc_server.specs.Files.{AreOfPoints, HasAllFiles, HasOnlyFiles, WithFiles, WithSomeFiles}
-use Rattle.pc_server.specs.Inputs.{AreAllLines, AreFirstLines, EndsServed, EndsWithin, HasSent, HasServed, HasStopped, IsEnd, IsRead, ServesLine, ServesOn, Serving, StopsAt}
+use Rattle.pc_server.specs.Inputs.{AreAllLines, AreFirstLines, EndsServed, EndsWithin, HasSent, HasServed, HasStopped, IsEnd, IsInputRead, ServesLine, ServesOn, Serving, StopsAt}
 use Rattle.pc_server.specs.Services.{Holds, IsCutOff}
 use Rattle.pc_server.specs.declared.serve.ServeFault.{ServeFault}
 use Rattle.pc_server.specs.declared.serve.Stopped.{Stopped}
@@ -26,7 +26,7 @@ use Rattle.pc_server.proofs.FileLaws.{LeavesShelf, files_of_points, line_leaves,
 use Rattle.pc_server.proofs.ServiceLaws.{held_cut}
 
 -- what was read are some first lines
-pub first_lines : (input left : Option (List ℕ)) (lines : List (List ℕ)) → IsRead input left lines → AreFirstLines input lines
+pub first_lines : (input left : Option (List ℕ)) (lines : List (List ℕ)) → IsInputRead input left lines → AreFirstLines input lines
 first_lines None left lines read = tt
 first_lines (Some text) None lines read = absurd read
 first_lines (Some text) (Some rest) lines read = (whole_lines rest, read)
@@ -43,12 +43,12 @@ lines_on gone (Answered line text ∷ turn) = ap (λ l. l ++ line ∷ []) (lines
 lines_on gone (WentOn step ∷ turn) = lines_on gone turn
 
 -- a line was read, or none was left
-pub next_read : (input before left : Option (List ℕ)) (line : List ℕ) (lines : List (List ℕ)) (some : Bool) → IsRead input before lines → IfSome before (λ rest. IsNextLine rest some line left) → MatchBool some (IsRead input left (lines ++ line ∷ [])) (AreAllLines input lines)
+pub next_read : (input before left : Option (List ℕ)) (line : List ℕ) (lines : List (List ℕ)) (some : Bool) → IsInputRead input before lines → IfSome before (λ rest. IsNextLine rest some line left) → MatchBool some (IsInputRead input left (lines ++ line ∷ [])) (AreAllLines input lines)
 next_read None before left line lines true read next = tt
 next_read None before left line lines false read next = tt
 next_read (Some text) None left line lines some read next = absurd read
 next_read (Some text) (Some rest) left line lines true read (behind, is, e) =
-    subst (λ o. IsRead (Some text) o (lines ++ line ∷ [])) (sym is) (read ∙ ap (λ l. lines ++ l) e ∙ sym (append_assoc lines (line ∷ []) (whole_lines behind)))
+    subst (λ o. IsInputRead (Some text) o (lines ++ line ∷ [])) (sym is) (read ∙ ap (λ l. lines ++ l) e ∙ sym (append_assoc lines (line ∷ []) (whole_lines behind)))
 next_read (Some text) (Some rest) left line lines false read e = read ∙ ap (λ l. lines ++ l) e ∙ append-nil lines
 
 -- what asks for the end
@@ -172,7 +172,7 @@ module _ {T U : Type 0} (written keeps : T → Option (List ℕ)) (contents : U 
       LineOutcome new result = MatchResult result (λ b. WithFiles first now (λ files. ServesLine written keeps contents log out input st lag left files new b)) (λ _. WithSomeFiles first now (λ files. EndsServed written keeps contents log out input st lag files new.log (inner_of new.out)))
 
       -- the next line was answered
-      pub next_served : (lines : List (List ℕ)) (line : List ℕ) (new : Service T U) (result : Result Bool ServeFault) → IsRead input left (lines ++ line ∷ []) → IfOk result (λ goes_on. goes_on ≡ not (is_quit (request_of line)))
+      pub next_served : (lines : List (List ℕ)) (line : List ℕ) (new : Service T U) (result : Result Bool ServeFault) → IsInputRead input left (lines ++ line ∷ []) → IfOk result (λ goes_on. goes_on ≡ not (is_quit (request_of line)))
           → FilesOutcome (lines ++ line ∷ []) (lines ++ line ∷ []) new result → LineOutcome new result
       next_served lines line new (Ok true) read asks (files, serving, all, only) = (files, (lines ++ line ∷ [], read, serving), all, only)
       next_served lines line new (Ok false) read asks (files, serving, all, only) =
@@ -233,10 +233,10 @@ stopped_sent written keeps contents log out input left st lag files service stop
 
 -- one line more was read
 pub read_more : (input before left : Option (List ℕ)) (line : List ℕ) (lines : List (List ℕ)) (result : Result Bool ServeFault) → result ≡ Ok true
-    → IfOk result (λ some. MatchBool some (IsRead input left (lines ++ line ∷ [])) (AreAllLines input lines)) → IsRead input left (lines ++ line ∷ [])
-read_more input before left line lines result is read = subst (λ r. IfOk r (λ some. MatchBool some (IsRead input left (lines ++ line ∷ [])) (AreAllLines input lines))) is read
+    → IfOk result (λ some. MatchBool some (IsInputRead input left (lines ++ line ∷ [])) (AreAllLines input lines)) → IsInputRead input left (lines ++ line ∷ [])
+read_more input before left line lines result is read = subst (λ r. IfOk r (λ some. MatchBool some (IsInputRead input left (lines ++ line ∷ [])) (AreAllLines input lines))) is read
 
 -- or none was left
 pub read_none : (input before left : Option (List ℕ)) (line : List ℕ) (lines : List (List ℕ)) (result : Result Bool ServeFault) → result ≡ Ok false
-    → IfOk result (λ some. MatchBool some (IsRead input left (lines ++ line ∷ [])) (AreAllLines input lines)) → AreAllLines input lines
-read_none input before left line lines result is read = subst (λ r. IfOk r (λ some. MatchBool some (IsRead input left (lines ++ line ∷ [])) (AreAllLines input lines))) is read
+    → IfOk result (λ some. MatchBool some (IsInputRead input left (lines ++ line ∷ [])) (AreAllLines input lines)) → AreAllLines input lines
+read_none input before left line lines result is read = subst (λ r. IfOk r (λ some. MatchBool some (IsInputRead input left (lines ++ line ∷ [])) (AreAllLines input lines))) is read

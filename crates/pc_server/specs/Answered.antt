@@ -22,8 +22,8 @@ abbrev pub committed_line : ℕ → List ℕ
 committed_line number = reply_text (told.Committed number) ++ codes "\n"
 
 -- that line went out whole: after the answers of some first acts the bytes that were sent go on with it
-abbrev pub IsAnswered : List Act → List ℕ → ℕ → Type 0
-IsAnswered acts sent number = (later earlier : List Act) × (rest : List ℕ) × (acts ≡ later ++ earlier) × (sent ≡ answers_of earlier ++ (committed_line number ++ rest))
+abbrev pub IsCommitAnswered : List Act → List ℕ → ℕ → Type 0
+IsCommitAnswered acts sent number = (later earlier : List Act) × (rest : List ℕ) × (acts ≡ later ++ earlier) × (sent ≡ answers_of earlier ++ (committed_line number ++ rest))
 
 -- the log's entry of this number, from 1 on, is a commit
 abbrev pub IsCommitEntry : List Entry → ℕ → Type 0
@@ -34,7 +34,7 @@ IsCommitEntry log number = (before later : List Entry) × (session : ℕ) × (wr
 pub record KeepsAnswered (st : Setting) (lag : ℕ) (acts : List Act) (sent : List ℕ) (log : List Entry) (found : Recovery) : Type 0 where
   pub first : ℕ
   pub pairs : found.pairs ≡ after st.base (take first log)
-  pub answered : (number : ℕ) → number < 2 ^ 64 → IsAnswered acts sent number → IsCommitEntry log number × (number ≤ first + lag)
+  pub answered : (number : ℕ) → number < 2 ^ 64 → IsCommitAnswered acts sent number → IsCommitEntry log number × (number ≤ first + lag)
 
 -- The files that came back: a text of the base, texts that the points' files have, or none of the run, and of the log all that was kept,
 -- and no more than was written.

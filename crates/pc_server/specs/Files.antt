@@ -48,6 +48,6 @@ abbrev pub WithSomeFiles : (ℕ → List ℕ → Type 0) → (ℕ → List ℕ �
 WithSomeFiles first now Holds = (files : List File) × Holds files × HasOnlyFiles first now files
 
 -- this was put on the shelf, if anything was
-abbrev pub Shelves : Turned → List File → List File → Type 0
-Shelves (turned.Shelved number) old new = (file : File) × (new ≡ old ++ file ∷ []) × (number ≡ length old + 1)
-Shelves other old new = new ≡ old
+abbrev pub ExtendsShelf : Turned → List File → List File → Type 0
+ExtendsShelf (turned.Shelved number) old new = (file : File) × (new ≡ old ++ file ∷ []) × (number ≡ length old + 1)
+ExtendsShelf other old new = new ≡ old

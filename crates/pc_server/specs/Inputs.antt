@@ -19,10 +19,10 @@ shelved (turned.Shelved number) = Some number
 shelved other = None
 
 -- of the input these whole lines were read, and this is left; nothing is said of an input whose bytes aren't known
-abbrev pub IsRead : Option (List ℕ) → Option (List ℕ) → List (List ℕ) → Type 0
-IsRead None left lines = ⊤
-IsRead (Some text) None lines = ⊥
-IsRead (Some text) (Some rest) lines = whole_lines text ≡ lines ++ whole_lines rest
+abbrev pub IsInputRead : Option (List ℕ) → Option (List ℕ) → List (List ℕ) → Type 0
+IsInputRead None left lines = ⊤
+IsInputRead (Some text) None lines = ⊥
+IsInputRead (Some text) (Some rest) lines = whole_lines text ≡ lines ++ whole_lines rest
 
 -- these are some first whole lines of the input
 abbrev pub AreFirstLines : Option (List ℕ) → List (List ℕ) → Type 0
@@ -65,7 +65,7 @@ EndsServed written keeps contents log out input st lag files log_device out_devi
 
 -- The lines that were read are answered.
 abbrev pub ServesOn : {T U : Type 0} → (T → Option (List ℕ)) → (T → Option (List ℕ)) → (U → Option (List ℕ)) → Option (List ℕ) → Option (List ℕ) → Option (List ℕ) → Setting → ℕ → Option (List ℕ) → List File → Service T U → Type 0
-ServesOn written keeps contents log out input st lag left files service = (lines : List (List ℕ)) × IsRead input left lines × Serving written keeps contents log out st lag lines files service
+ServesOn written keeps contents log out input st lag left files service = (lines : List (List ℕ)) × IsInputRead input left lines × Serving written keeps contents log out st lag lines files service
 
 -- Nothing more is to be answered.
 abbrev pub HasServed : {T U : Type 0} → (T → Option (List ℕ)) → (T → Option (List ℕ)) → (U → Option (List ℕ)) → Option (List ℕ) → Option (List ℕ) → Option (List ℕ) → Setting → ℕ → List File → Service T U → Type 0
@@ -84,4 +84,4 @@ StopsAt written keeps contents log out input st lag left files service stopped.F
 -- And all answers were sent: to all lines, or to those that were read before the generation was full.
 abbrev pub HasStopped : {T U : Type 0} → (T → Option (List ℕ)) → (T → Option (List ℕ)) → (U → Option (List ℕ)) → Option (List ℕ) → Option (List ℕ) → Option (List ℕ) → Setting → ℕ → Option (List ℕ) → List File → Service T U → Stopped → Type 0
 HasStopped written keeps contents log out input st lag left files service stopped.Ended = (lines : List (List ℕ)) × IsEnd input lines × HasSent written keeps contents log out st lag lines files service
-HasStopped written keeps contents log out input st lag left files service stopped.Filled = (lines : List (List ℕ)) × IsRead input left lines × HasSent written keeps contents log out st lag lines files service
+HasStopped written keeps contents log out input st lag left files service stopped.Filled = (lines : List (List ℕ)) × IsInputRead input left lines × HasSent written keeps contents log out st lag lines files service

@@ -6,9 +6,9 @@ ghost use Rattle.pc_model.specs.Files.{File, file_at};
 ghost use Rattle.pc_model.specs.Replies.{Setting};
 ghost use Rattle.pc_serving.specs.Requests.{request_of};
 ghost use Rattle.pc_server.specs.Acts.{is_quit};
-ghost use Rattle.pc_server.specs.Files.{AreOfPoints, HasAllFiles, HasFile, HasNoMore, HasOnlyFiles, KeepsOthers, Shelves, WithFiles, WithSomeFiles};
+ghost use Rattle.pc_server.specs.Files.{AreOfPoints, HasAllFiles, HasFile, HasNoMore, HasOnlyFiles, KeepsOthers, ExtendsShelf, WithFiles, WithSomeFiles};
 ghost use Rattle.pc_server.specs.Generations.{is_filled};
-ghost use Rattle.pc_server.specs.Inputs.{shelved, IsRead, AreAllLines, Serving, HasSent, EndsWithin, EndsServed, ServesOn, ServesLine, StopsAt, HasServed, HasStopped};
+ghost use Rattle.pc_server.specs.Inputs.{shelved, IsInputRead, AreAllLines, Serving, HasSent, EndsWithin, EndsServed, ServesOn, ServesLine, StopsAt, HasServed, HasStopped};
 
 use crate::service::{CutOff, Service};
 use pc_part::Part;
@@ -58,8 +58,8 @@ pub trait PointFiles {
 
 // The next line is read into the vector; false at the end of the input.
 fn read_next<R: BufRead>(input: &mut R, line: &mut Vec<u8>) -> Result<bool, ServeFault>
-    ensures read { (text : Option (List ℕ)) (lines : List (List ℕ)) → IsRead text (R.remaining input.old) lines
-        → IfOk result (λ some. MatchBool some (IsRead text (R.remaining input.new) (lines ++ line.new.items ∷ [])) (AreAllLines text lines)) }
+    ensures read { (text : Option (List ℕ)) (lines : List (List ℕ)) → IsInputRead text (R.remaining input.old) lines
+        → IfOk result (λ some. MatchBool some (IsInputRead text (R.remaining input.new) (lines ++ line.new.items ∷ [])) (AreAllLines text lines)) }
 {
     match next_line(input, line) {
         Ok(some) => Ok(some),
@@ -153,7 +153,7 @@ fn keep_shelved<L: LogDevice + Drop, W: Write + Drop, P: PointFiles>(
     points: &mut P,
     turned: Turned,
 ) -> Result<(), ServeFault>
-    ensures { (first : P) (files : List File) → Shelves turned files service.now.server.served.world.shelf → AreOfPoints service.now.server.served.world.shelf → HasAllFiles (P.holds points.old) files → HasOnlyFiles (P.holds first) (P.holds points.old) files
+    ensures { (first : P) (files : List File) → ExtendsShelf turned files service.now.server.served.world.shelf → AreOfPoints service.now.server.served.world.shelf → HasAllFiles (P.holds points.old) files → HasOnlyFiles (P.holds first) (P.holds points.old) files
         → MatchResult result
         (λ _. HasAllFiles (P.holds points.new) service.now.server.served.world.shelf × HasOnlyFiles (P.holds first) (P.holds points.new) service.now.server.served.world.shelf)
         (λ _. HasOnlyFiles (P.holds first) (P.holds points.new) service.now.server.served.world.shelf) }

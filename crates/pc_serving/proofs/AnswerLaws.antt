@@ -27,7 +27,7 @@ use Rattle.pc_script.specs.Scripts.{AnswersLine, answer_text}
 use Rattle.pc_texts.specs.Texts.{reply_text}
 use Rattle.pc_serving.specs.Points.{is_checkpoint}
 use Rattle.pc_serving.specs.Serving.{AnswersEvent, AnswersServed, Serves, awaits, granted_text, is_of_client, is_wait}
-use Rattle.pc_serving.specs.Sweeps.{IsTold, swept_to, waits_now}
+use Rattle.pc_serving.specs.Sweeps.{IsTextSent, swept_to, waits_now}
 use Rattle.pc_serving.proofs.SweepLaws.{sweep_is_granting}
 
 -- a client's event is none of the checkpointer's
@@ -90,7 +90,7 @@ asked_by Then Else false e so = cc
 
 module _ {T : Type 0} (contents : T → Option (List ℕ)) where
   -- a text that went out, and then one that is printed
-  pub told_then : (a b c : Tally T) (result : Result (Unit {0}) Refusal) (x y : List ℕ) → Puts contents a b (Ok tt) x → IsTold contents b c result y → IsTold contents a c result (x ++ y)
+  pub told_then : (a b c : Tally T) (result : Result (Unit {0}) Refusal) (x y : List ℕ) → Puts contents a b (Ok tt) x → IsTextSent contents b c result y → IsTextSent contents a c result (x ++ y)
   told_then a b c (Ok u) x y p q = puts_then contents a b c (Ok tt) x y p q
   told_then a b c (Err e) x y p q = (q.0, omega (arith, q.1, p.1))
 
@@ -98,7 +98,7 @@ module _ {T : Type 0} (contents : T → Option (List ℕ)) where
   pub event_answered : (st : Setting) (h : History) (event : Event) (reply : Reply) (own : ℕ) (old world new : Store) (was left : ℕ) (a b : Tally T) (result : Result (Unit {0}) Refusal) → Serves st old was h → Follows (setting_of old) h event reply world
       → setting_of world ≡ setting_of old → is_of_client event ≡ true → own ≡ session_of event → new ≡ world
       → OnOk result ((s : ℕ) → has_session left s ≡ ((has_session was s || (is_wait reply && (is_number own && (eqb s own)))) && waits_now world s))
-      → IsTold contents a b result ((reply_text reply ++ codes "\n") ++ swept_to (waits_now world) (λ s. has_session was s || (is_wait reply && (is_number own && (eqb s own)))) own MOST_SESSIONS)
+      → IsTextSent contents a b result ((reply_text reply ++ codes "\n") ++ swept_to (waits_now world) (λ s. has_session was s || (is_wait reply && (is_number own && (eqb s own)))) own MOST_SESSIONS)
       → OnOk result ((next : History) × (text : List ℕ) × Serves st new left next × AnswersEvent st h event text next × Puts contents a b (Ok tt) text)
   event_answered st h event reply own old world new was left a b (Err e) serves follows kept client asks same swept told = tt
   event_answered st h event reply own old world new was left a b (Ok u) serves follows kept client asks same swept told = (

@@ -41,13 +41,13 @@ due_in pace Capture = if pace.has_left then Some asked.Take else Some asked.Done
 due_in pace Complete = Some asked.Rest
 
 -- what is due after the reply: commits are counted from where a point begins, and keys are left until the reply says that none is
-abbrev pub noted : Pace → Reply → Pace
-noted pace told.NoneLeft = record pace { has_left = false }
-noted pace (told.Phase Prepare point) = record pace { commits = 0; has_left = true }
-noted pace other = pace
+abbrev pub pace_after_reply : Pace → Reply → Pace
+pace_after_reply pace told.NoneLeft = record pace { has_left = false }
+pace_after_reply pace (told.Phase Prepare point) = record pace { commits = 0; has_left = true }
+pace_after_reply pace other = pace
 
 -- The checkpointer had its turn: nothing was due, and nothing was asked; or it asked the event that was, which had a legal reply, and is
 -- told of it.
 abbrev pub IsTurn : Setting → Pace → History → Pace → History → Result Turned Refusal → Type 0
 IsTurn st old before new after result = ((due_in old (phase_of before) ≡ None) × (after ≡ before) × (new ≡ old) × (result ≡ Ok turned.Nothing))
-    ⊎ ((event : Event) × (reply : Reply) × (due_in old (phase_of before) ≡ Some event) × IsLegal st before event reply × (after ≡ record { event = event; reply = reply } ∷ before) × (new ≡ noted old reply) × IsShelvedAs reply result)
+    ⊎ ((event : Event) × (reply : Reply) × (due_in old (phase_of before) ≡ Some event) × IsLegal st before event reply × (after ≡ record { event = event; reply = reply } ∷ before) × (new ≡ pace_after_reply old reply) × IsShelvedAs reply result)

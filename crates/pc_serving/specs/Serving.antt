@@ -56,8 +56,8 @@ abbrev pub granted_text : Setting → Step → History → List ℕ
 granted_text st step history = granted_to st step history MOST_SESSIONS
 
 -- the text of a refusal, with the end of its line
-abbrev pub wrong_phase : List ℕ
-wrong_phase = answer_text (refusal_answer why.WrongPhase)
+abbrev pub wrong_phase_text : List ℕ
+wrong_phase_text = answer_text (refusal_answer why.WrongPhase)
 
 -- An event of a client has some legal reply, and the history grows by it; the reply is printed, and after it whose requests it
 -- has granted. One that isn't a client's is refused, and changes nothing.
@@ -66,7 +66,7 @@ AnswersEvent st before event text after =
     MatchBool (is_of_client event)
     ((reply : Reply) × IsLegal st before event reply × (after ≡ record { event = event; reply = reply } ∷ before)
     × (text ≡ (reply_text reply ++ codes "\n") ++ granted_text st (record { event = event; reply = reply }) before))
-    ((text ≡ wrong_phase) × (after ≡ before))
+    ((text ≡ wrong_phase_text) × (after ≡ before))
 
 -- what a line may be answered, and the history then; no line but an event's changes anything
 abbrev pub AnswersServed : Setting → History → Line → List ℕ → History → Type 0

@@ -23,6 +23,6 @@ swept_to waits was own zero = []
 swept_to waits was own (suc n) = swept_to waits was own n ++ swept_line waits was own (suc n)
 
 -- All of the text went out, and nothing failed; or the device failed, which was counted.
-abbrev pub IsTold : {T : Type 0} → (T → Option (List ℕ)) → Tally T → Tally T → Result (Unit {0}) Refusal → List ℕ → Type 0
-IsTold contents old new (Ok u) text = Puts contents old new (Ok tt) text
-IsTold contents old new (Err e) text = (e ≡ Device) × HasRisen old.failures new.failures
+abbrev pub IsTextSent : {T : Type 0} → (T → Option (List ℕ)) → Tally T → Tally T → Result (Unit {0}) Refusal → List ℕ → Type 0
+IsTextSent contents old new (Ok u) text = Puts contents old new (Ok tt) text
+IsTextSent contents old new (Err e) text = (e ≡ Device) × HasRisen old.failures new.failures

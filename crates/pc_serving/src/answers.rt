@@ -14,7 +14,7 @@ ghost use Rattle.pc_script.specs.declared.script.LineAnswer.{LineAnswer};
 ghost use Rattle.pc_texts.specs.Texts.{reply_text};
 ghost use Rattle.pc_serving.specs.OpenSessions.{open_after, open_now};
 ghost use Rattle.pc_serving.specs.Serving.{AnswersEvent, AnswersServed, Serves, granted_line, is_of_client, is_wait};
-ghost use Rattle.pc_serving.specs.Sweeps.{IsTold, swept_line, swept_to, waits_now};
+ghost use Rattle.pc_serving.specs.Sweeps.{IsTextSent, swept_line, swept_to, waits_now};
 
 use itoa::Buffer;
 use pc_engine::World;
@@ -117,7 +117,7 @@ impl Served {
     ) -> Result<(), Refusal>
         ensures world { self.new.world ≡ self.old.world }
         ensures left { OnOk result ((s : ℕ) → has_session self.new.waiting s ≡ ((has_session self.old.waiting s || (is_wait reply.now && (is_number own && (s == own)))) && waits_now self.old.world s)) }
-        ensures told { IsTold W.contents out.old out.new result ((reply_text reply.now ++ codes "\n") ++ swept_to (waits_now self.old.world) (λ s. has_session self.old.waiting s || (is_wait reply.now && (is_number own && (s == own)))) own MOST_SESSIONS) }
+        ensures told { IsTextSent W.contents out.old out.new result ((reply_text reply.now ++ codes "\n") ++ swept_to (waits_now self.old.world) (λ s. has_session self.old.waiting s || (is_wait reply.now && (is_number own && (s == own)))) own MOST_SESSIONS) }
     {
         self.note(own, reply);
         put_reply(out, reply)?;
@@ -139,7 +139,7 @@ impl Served {
     fn sweep<W: Write>(&mut self, own: SessionNo, out: &mut Tally<W>) -> Result<(), Refusal>
         ensures world { self.new.world ≡ self.old.world }
         ensures left { OnOk result ((s : ℕ) → has_session self.new.waiting s ≡ (has_session self.old.waiting s && waits_now self.old.world s)) }
-        ensures told { IsTold W.contents out.old out.new result (swept_to (waits_now self.old.world) (has_session self.old.waiting) own MOST_SESSIONS) }
+        ensures told { IsTextSent W.contents out.old out.new result (swept_to (waits_now self.old.world) (has_session self.old.waiting) own MOST_SESSIONS) }
     {
         for place in 0..MOST_SESSIONS {
             self.grant(SessionNo(u32::from(place) + 1), own, out)?;

@@ -3,7 +3,7 @@ ghost use Rattle.std.specs.Prelude.{◌≡◌, ◌+◌, ◌-◌, ◌^◌, min, t
 ghost use Rattle.pc_model.specs.History.{History};
 ghost use Rattle.pc_engine.specs.Stands.{Stands};
 ghost use Rattle.pc_engine.specs.Store.{setting_of};
-ghost use Rattle.pc_serving.specs.Points.{due_in, noted, IsShelvedAs, IsTurn};
+ghost use Rattle.pc_serving.specs.Points.{due_in, pace_after_reply, IsShelvedAs, IsTurn};
 
 use pc_engine::World;
 use pc_types::{Event, FileNo, Phase, Refusal, Reply};
@@ -65,7 +65,7 @@ impl Pace {
     // Notes how the event was answered.
     fn note(&mut self, reply: &Reply) -> Result<Turned, Refusal>
         ensures told { IsShelvedAs reply.now result }
-        ensures noted { self.new ≡ noted self.old reply.now }
+        ensures noted { self.new ≡ pace_after_reply self.old reply.now }
     {
         match reply {
             Reply::Refused(why) => Err(*why),

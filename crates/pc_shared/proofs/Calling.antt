@@ -20,14 +20,14 @@ use Rattle.pc_txn.specs.declared.got.Got.{Got}
 use Rattle.pc_tie.specs.declared.sight.Sitting.{Sitting}
 use Rattle.pc_tie.specs.Rules.{sitting}
 use Rattle.pc_latch.specs.Asked.{IsAsked}
-use Rattle.pc_shared.specs.Asked.{is_wait, IsGot, IsWriteMade, IsAdded, got_in, made_in, sum_in}
+use Rattle.pc_shared.specs.Asked.{is_waiting_reply, IsGot, IsWriteMade, IsAdded, got_in, made_in, answered_sum}
 
 -- a refusal that doesn't say that the request still waits
-not_still : (e : Refusal) → is_wait (told.Refused e) ≡ false → e ≢ why.StillWaiting
-not_still e calm is = absurd (true≢false (subst (λ (x : Refusal). is_wait (told.Refused x) ≡ false) is calm))
+not_still : (e : Refusal) → is_waiting_reply (told.Refused e) ≡ false → e ≢ why.StillWaiting
+not_still e calm is = absurd (true≢false (subst (λ (x : Refusal). is_waiting_reply (told.Refused x) ≡ false) is calm))
 
 -- if the request waits nothing has changed for the session
-pub still : (st : Setting) (before after : Sitting) (event : Event) (reply : Reply) → is_wait reply ≡ true → IsAsked st before event reply after → after ≡ before
+pub still : (st : Setting) (before after : Sitting) (event : Event) (reply : Reply) → is_waiting_reply reply ≡ true → IsAsked st before event reply after → after ≡ before
 still st before after event told.Wait waits asked = λ k. sitting (asked.number k) (asked.moves k)
 still st before after event (told.Refused e) waits asked = λ k. sitting (asked.number k) (asked.moves k)
 still st before after event (told.Begun t) waits asked = absurd (true≢false (sym waits))
@@ -54,12 +54,12 @@ module _ (st : Setting) (before after : Sitting) where
       × IfErr r (λ e. e ≢ why.StillWaiting)
       × OnErr r (after.seen ≡ before.seen)
 
-  pub begin_told : (r : Result ℕ Refusal) → is_wait (begin_reply r) ≡ false → IsAsked st before (event.Begin before.number) (begin_reply r) after →
+  pub begin_told : (r : Result ℕ Refusal) → is_waiting_reply (begin_reply r) ≡ false → IsAsked st before (event.Begin before.number) (begin_reply r) after →
       Told (event.Begin before.number) (λ t. Extends st before.seen (step_of (event.Begin before.number) (told.Begun t)) after.seen) r
   begin_told (Ok t) calm asked = (asked.moves, tt, tt, tt)
   begin_told (Err e) calm asked = (tt, asked.answered, not_still e calm, asked.moves)
 
-  pub get_told : (key : List ℕ) (own : Bool) (r : Result GetAnswer Refusal) → is_wait (get_reply r) ≡ false → IsAsked st before (event.Get before.number key) (get_reply r) after →
+  pub get_told : (key : List ℕ) (own : Bool) (r : Result GetAnswer Refusal) → is_waiting_reply (get_reply r) ≡ false → IsAsked st before (event.Get before.number key) (get_reply r) after →
       Told (event.Get before.number key) (λ (g : Got × Bool). IsGot st before.seen before.number key g.0 after.seen) (got_in own r)
   get_told key own (Ok (read.Found value)) calm asked = (asked.moves, tt, tt, tt)
   get_told key own (Ok read.Absent) calm asked = (asked.moves, tt, tt, tt)
@@ -67,26 +67,26 @@ module _ (st : Setting) (before after : Sitting) where
   get_told key own (Ok read.Died) calm asked = (asked.moves, tt, tt, tt)
   get_told key own (Err e) calm asked = (tt, asked.answered, not_still e calm, asked.moves)
 
-  pub write_told : (write : Event) (r : Result Outcome Refusal) → is_wait (write_reply r) ≡ false → IsAsked st before write (write_reply r) after →
+  pub write_told : (write : Event) (r : Result Outcome Refusal) → is_waiting_reply (write_reply r) ≡ false → IsAsked st before write (write_reply r) after →
       Told write (λ made. IsWriteMade st before.seen write made after.seen) (made_in r)
   write_told write (Ok Granted) calm asked = (asked.moves, tt, tt, tt)
   write_told write (Ok Queued) calm asked = absurd (true≢false calm)
   write_told write (Ok Died) calm asked = (asked.moves, tt, tt, tt)
   write_told write (Err e) calm asked = (tt, asked.answered, not_still e calm, asked.moves)
 
-  pub add_told : (add : Event) (r : Result AddAnswer Refusal) → is_wait (add_reply r) ≡ false → IsAsked st before add (add_reply r) after →
-      Told add (λ sum. IsAdded st before.seen add sum after.seen) (sum_in r)
+  pub add_told : (add : Event) (r : Result AddAnswer Refusal) → is_waiting_reply (add_reply r) ≡ false → IsAsked st before add (add_reply r) after →
+      Told add (λ sum. IsAdded st before.seen add sum after.seen) (answered_sum r)
   add_told add (Ok (added.Sum sum)) calm asked = (asked.moves, tt, tt, tt)
   add_told add (Ok added.Wait) calm asked = absurd (true≢false calm)
   add_told add (Ok added.Died) calm asked = (asked.moves, tt, tt, tt)
   add_told add (Err e) calm asked = (tt, asked.answered, not_still e calm, asked.moves)
 
-  pub commit_told : (r : Result ℕ Refusal) → is_wait (commit_reply r) ≡ false → IsAsked st before (event.Commit before.number) (commit_reply r) after →
+  pub commit_told : (r : Result ℕ Refusal) → is_waiting_reply (commit_reply r) ≡ false → IsAsked st before (event.Commit before.number) (commit_reply r) after →
       Told (event.Commit before.number) (λ n. Extends st before.seen (step_of (event.Commit before.number) (told.Committed n)) after.seen) r
   commit_told (Ok n) calm asked = (asked.moves, tt, tt, tt)
   commit_told (Err e) calm asked = (tt, asked.answered, not_still e calm, asked.moves)
 
-  pub abort_told : (r : Result (Unit {0}) Refusal) → is_wait (abort_reply r) ≡ false → IsAsked st before (event.Abort before.number) (abort_reply r) after →
+  pub abort_told : (r : Result (Unit {0}) Refusal) → is_waiting_reply (abort_reply r) ≡ false → IsAsked st before (event.Abort before.number) (abort_reply r) after →
       Told (event.Abort before.number) (λ made. Extends st before.seen (step_of (event.Abort before.number) told.Aborted) after.seen) r
   abort_told (Ok made) calm asked = (asked.moves, tt, tt, tt)
   abort_told (Err e) calm asked = (tt, asked.answered, not_still e calm, asked.moves)

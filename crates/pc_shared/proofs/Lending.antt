@@ -10,7 +10,7 @@ use Rattle.pc_model.specs.Replies.{Setting}
 use Rattle.pc_model.specs.Receipts.{Read, IsReceipt, AreExact}
 use Rattle.pc_txn.specs.Commits.{CommitNote, commit_note, notes_of, reads_in, reads_at}
 use Rattle.pc_kept_log.specs.Logs.{writes_of_entry}
-use Rattle.pc_shared.specs.Lent.{writes_at, AreLentBy}
+use Rattle.pc_shared.specs.Lent.{entry_writes, AreLentBy}
 use Rattle.pc_shared.specs.Sitters.{Sitter, IsSitterSettled}
 
 -- a fact of all is one of the element at the place
@@ -23,7 +23,7 @@ entry_there [] behind e = refl
 entry_there (f ∷ front) behind e = entry_there front behind e
 
 -- an exact receipt has the writes of its entry
-writes_there : (base : Database) (log : List Entry) (s : ℕ) (r : Receipt) → IsReceipt base log s r → writes_at log r.number ≡ r.writes
+writes_there : (base : Database) (log : List Entry) (s : ℕ) (r : Receipt) → IsReceipt base log s r → entry_writes log r.number ≡ r.writes
 writes_there base log s r is =
     let number = is.3.number in
     let place : r.number - 1 ≡ length is.0 = omega (arith, number) in
@@ -41,17 +41,17 @@ note_of r = commit_note r.number r.reads
 
 module _ (log : List Entry) (s : Sitter) (lent_by : AreLentBy log s) where
   by_case : (place number : ℕ) (reads : List Read) (o : Option Receipt) → slice_get s.receipts place ≡ o → Some number ≡ option_map (λ (n : CommitNote). n.number) (option_map note_of o) → reads ≡ reads_in (option_map note_of o)
-      → Some (record { number = number; session = s.number; reads = reads; writes = writes_at log number }) ≡ o
+      → Some (record { number = number; session = s.number; reads = reads; writes = entry_writes log number }) ≡ o
   by_case place number reads None there told is = absurd (cc (told))
   by_case place number reads (Some r) there told is =
-      let one = at_place (λ (r : Receipt). (r.session ≡ s.number) × (writes_at log r.number ≡ r.writes)) s.receipts place r lent_by there in
+      let one = at_place (λ (r : Receipt). (r.session ≡ s.number) × (entry_writes log r.number ≡ r.writes)) s.receipts place r lent_by there in
       let same : number ≡ r.number = cc (told) in
-      let writes = ap (writes_at log) same ∙ one.1 in
+      let writes = ap (entry_writes log) same ∙ one.1 in
       (λ i. Some (record { number = same i; session = sym one.0 i; reads = is i; writes = writes i }))
 
   -- a receipt is that of its note and its entry
   pub lent : (place number : ℕ) (reads : List Read) → Some number ≡ option_map (λ (n : CommitNote). n.number) (slice_get (notes_of s.receipts) place) → reads ≡ reads_at (notes_of s.receipts) place
-      → Some (record { number = number; session = s.number; reads = reads; writes = writes_at log number }) ≡ slice_get s.receipts place
+      → Some (record { number = number; session = s.number; reads = reads; writes = entry_writes log number }) ≡ slice_get s.receipts place
   lent place number reads told is =
       let noted = slice_get-map note_of s.receipts place in
       by_case place number reads (slice_get s.receipts place) refl (told ∙ ap (option_map (λ (n : CommitNote). n.number)) noted) (is ∙ ap reads_in noted)

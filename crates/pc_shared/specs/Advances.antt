@@ -7,7 +7,7 @@ use Rattle.pc_model.specs.Replies.{Setting, IsLegalHistory}
 use Rattle.pc_latch.specs.Cycles.{next_event}
 
 -- The legal history begins with the one that the checkpointer has seen, and ends with this answer to the event that ends the phase.
-pub record EndsWith (st : Setting) (seen : History) (reply : Reply) (history : History) : Type 0 where
+pub record EndsWithAdvance (st : Setting) (seen : History) (reply : Reply) (history : History) : Type 0 where
   pub legal : IsLegalHistory st history
   pub had_seen : IsBeginning seen history
   pub before : History

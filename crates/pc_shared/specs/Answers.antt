@@ -16,17 +16,17 @@ answer_of got.Absent = answer.Absent
 answer_of got.Died = answer.Died
 
 -- a session's answer to a read, and the history that it has then seen
-abbrev pub IsRead : Setting → History → ℕ → List ℕ → CallAnswer → History → Type 0
-IsRead st before s key a after = (g : Got) × (a ≡ answer_of g) × IsGot st before s key g after
+abbrev pub IsReadAnswered : Setting → History → ℕ → List ℕ → CallAnswer → History → Type 0
+IsReadAnswered st before s key a after = (g : Got) × (a ≡ answer_of g) × IsGot st before s key g after
 
 -- a session's answer to a write
-abbrev pub answer_to : Bool → CallAnswer
-answer_to true = answer.Ok
-answer_to false = answer.Died
+abbrev pub write_answer : Bool → CallAnswer
+write_answer true = answer.Ok
+write_answer false = answer.Died
 
 -- a session's answer to a write, and the history that it has then seen
 abbrev pub IsWriteAnswered : Setting → History → Event → CallAnswer → History → Type 0
-IsWriteAnswered st before event a after = (made : Bool) × (a ≡ answer_to made) × IsWriteMade st before event made after
+IsWriteAnswered st before event a after = (made : Bool) × (a ≡ write_answer made) × IsWriteMade st before event made after
 
 -- a session's answer to an add
 abbrev pub answer_to_add : Option ℤ → CallAnswer

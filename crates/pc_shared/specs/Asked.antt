@@ -19,10 +19,10 @@ use Rattle.pc_answers.specs.declared.answers.AddAnswer.{AddAnswer}
 use Rattle.pc_answers.specs.declared.answers.AddAnswer.TheVariants as added
 
 -- the reply says that the session's request waits
-abbrev pub is_wait : Reply → Bool
-is_wait told.Wait = true
-is_wait (told.Refused why.StillWaiting) = true
-is_wait other = false
+abbrev pub is_waiting_reply : Reply → Bool
+is_waiting_reply told.Wait = true
+is_waiting_reply (told.Refused why.StillWaiting) = true
+is_waiting_reply other = false
 
 -- a read was so answered, and the session has then seen the second history
 abbrev pub IsGot : Setting → History → ℕ → List ℕ → Got → History → Type 0
@@ -61,8 +61,8 @@ made_in (Ok Died) = Ok false
 made_in (Err e) = Err e
 
 -- the sum of an add that doesn't wait; none if its request died
-abbrev pub sum_in : Result AddAnswer Refusal → Result (Option ℤ) Refusal
-sum_in (Ok (added.Sum sum)) = Ok (Some sum)
-sum_in (Ok added.Wait) = Ok None
-sum_in (Ok added.Died) = Ok None
-sum_in (Err e) = Err e
+abbrev pub answered_sum : Result AddAnswer Refusal → Result (Option ℤ) Refusal
+answered_sum (Ok (added.Sum sum)) = Ok (Some sum)
+answered_sum (Ok added.Wait) = Ok None
+answered_sum (Ok added.Died) = Ok None
+answered_sum (Err e) = Err e

@@ -5,11 +5,11 @@ use Rattle.pc_types.specs.declared.Reply.TheVariants as told
 use Rattle.pc_model.specs.History.{History}
 
 -- the value that was found, if one was
-abbrev pub found_by : Reply → Option (List ℕ)
-found_by (told.Found value) = Some value
-found_by other = None
+abbrev pub value_found : Reply → Option (List ℕ)
+value_found (told.Found value) = Some value
+value_found other = None
 
 -- the value that the newest step found
 abbrev pub found_in : History → Option (List ℕ)
 found_in [] = None
-found_in (step ∷ earlier) = found_by step.reply
+found_in (step ∷ earlier) = value_found step.reply

@@ -7,12 +7,12 @@ use Rattle.pc_kept_log.specs.Logs.{writes_of_entry}
 use Rattle.pc_shared.specs.Sitters.{Sitter}
 
 -- the writes of the entry of this number; the first one has number 1
-abbrev pub writes_at : List Entry → ℕ → List Write
-writes_at log number = writes_of_entry (slice_get log (number - 1))
+abbrev pub entry_writes : List Entry → ℕ → List Write
+entry_writes log number = writes_of_entry (slice_get log (number - 1))
 
 -- each of the session's receipts is its own, and has the writes of its entry in the log
 abbrev pub AreLentBy : List Entry → Sitter → Type 0
-AreLentBy log s = All (λ r. (r.session ≡ s.number) × (writes_at log r.number ≡ r.writes)) s.receipts
+AreLentBy log s = All (λ r. (r.session ≡ s.number) × (entry_writes log r.number ≡ r.writes)) s.receipts
 
 -- the receipt of the session at the first place, among its own at the second
 abbrev pub receipt_in : Option Sitter → ℕ → Option Receipt

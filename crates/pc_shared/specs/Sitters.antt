@@ -58,16 +58,16 @@ abbrev pub AreSittersApart : List Sitter → Type 0
 AreSittersApart ss = (i j : ℕ) (d : Sitter) → i < length ss → j < length ss → (get_or ss i d).number ≡ (get_or ss j d).number → i ≡ j
 
 -- the session of this number is in the list
-abbrev pub is_there : List Sitter → ℕ → Bool
-is_there ss n = list_any (λ s. s.number == n) ss
+abbrev pub has_sitter : List Sitter → ℕ → Bool
+has_sitter ss n = list_any (λ s. s.number == n) ss
 
 -- the sessions numbered 1 to count are in the list
 abbrev pub HasAll : ℕ → List Sitter → Type 0
-HasAll count ss = (k : ℕ) → k < count → is_there ss (k + 1) ≡ true
+HasAll count ss = (k : ℕ) → k < count → has_sitter ss (k + 1) ≡ true
 
 -- one of them isn't
 abbrev pub LacksOne : ℕ → List Sitter → Type 0
-LacksOne count ss = (k : ℕ) × (k < count) × (is_there ss (k + 1) ≡ false)
+LacksOne count ss = (k : ℕ) × (k < count) × (has_sitter ss (k + 1) ≡ false)
 
 -- The remains of a store, by one legal history: the base is that of the start, and the log that of the history; each session has
 -- seen a beginning of it with just its calls, and has exact receipts; the checkpointer too has seen one with just its calls; each

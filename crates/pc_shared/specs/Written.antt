@@ -42,9 +42,9 @@ pub record HasText (out : List ℕ → Type 0) (run : ℕ) (count : ℕ) : Type 
 
 -- This many entries are written: a log has as many after some legal history, and the text of just that many has gone out, if the
 -- number isn't 0.
-abbrev pub AreCounted : (List ℕ → Type 0) → Setting → ℕ → Type 0
-AreCounted out st count = HasEntries st count × (1 ≤ count → HasText out st.run count)
+abbrev pub AreEntriesWritten : (List ℕ → Type 0) → Setting → ℕ → Type 0
+AreEntriesWritten out st count = HasEntries st count × (1 ≤ count → HasText out st.run count)
 
 -- as many are, or more
 abbrev pub AreReached : (List ℕ → Type 0) → Setting → ℕ → Type 0
-AreReached out st number = (written : ℕ) × (number ≤ written) × AreCounted out st written
+AreReached out st number = (written : ℕ) × (number ≤ written) × AreEntriesWritten out st written

@@ -7,8 +7,8 @@ ghost use Rattle.pc_types.specs.declared.Event.TheVariants.{Begin, Get, Put, Del
 ghost use Rattle.pc_types.specs.declared.Reply.TheVariants.{Begun, Committed, Aborted, Refused};
 ghost use Rattle.pc_model.specs.Calls.{step_of, Extends, IsAnswered};
 ghost use Rattle.pc_answers.specs.Replies.{begin_reply, get_reply, write_reply, add_reply, commit_reply, abort_reply};
-ghost use Rattle.pc_shared.specs.Asked.{is_wait, IsGot, IsWriteMade, IsAdded, got_in, made_in, sum_in};
-ghost use Rattle.pc_shared.specs.Answers.{answer_of, answer_to, answer_to_add};
+ghost use Rattle.pc_shared.specs.Asked.{is_waiting_reply, IsGot, IsWriteMade, IsAdded, got_in, made_in, answered_sum};
+ghost use Rattle.pc_shared.specs.Answers.{answer_of, write_answer, answer_to_add};
 
 use crate::session::CallAnswer;
 use crate::store::{Shared, UnderLatch};
@@ -33,7 +33,7 @@ pub(crate) fn answer_of(got: &Got) -> CallAnswer
 
 // The session's answer to a write that was made, or whose request died.
 pub(crate) fn answer_to(made: bool) -> CallAnswer
-    ensures { result ≡ answer_to made }
+    ensures { result ≡ write_answer made }
 {
     if made {
         CallAnswer::Ok
@@ -64,37 +64,37 @@ fn told_read(answer: &Result<GetAnswer, Refusal>) -> Reply {
 
 // Whether the answer says that the request waits: it was put into its queue now, or is there and not yet granted.
 fn is_read_waiting(answer: &Result<GetAnswer, Refusal>) -> bool
-    ensures { result ≡ is_wait (get_reply answer.now) }
+    ensures { result ≡ is_waiting_reply (get_reply answer.now) }
 {
     matches!(answer, Ok(GetAnswer::Wait) | Err(Refusal::StillWaiting))
 }
 
 fn is_write_waiting(answer: &Result<Outcome, Refusal>) -> bool
-    ensures { result ≡ is_wait (write_reply answer.now) }
+    ensures { result ≡ is_waiting_reply (write_reply answer.now) }
 {
     matches!(answer, Ok(Outcome::Queued) | Err(Refusal::StillWaiting))
 }
 
 fn is_add_waiting(answer: &Result<AddAnswer, Refusal>) -> bool
-    ensures { result ≡ is_wait (add_reply answer.now) }
+    ensures { result ≡ is_waiting_reply (add_reply answer.now) }
 {
     matches!(answer, Ok(AddAnswer::Wait) | Err(Refusal::StillWaiting))
 }
 
 fn is_begin_waiting(answer: &Result<TxnNo, Refusal>) -> bool
-    ensures { result ≡ is_wait (begin_reply answer.now) }
+    ensures { result ≡ is_waiting_reply (begin_reply answer.now) }
 {
     matches!(answer, Err(Refusal::StillWaiting))
 }
 
 fn is_commit_waiting(answer: &Result<Lsn, Refusal>) -> bool
-    ensures { result ≡ is_wait (commit_reply answer.now) }
+    ensures { result ≡ is_waiting_reply (commit_reply answer.now) }
 {
     matches!(answer, Err(Refusal::StillWaiting))
 }
 
 fn is_abort_waiting(answer: &Result<(), Refusal>) -> bool
-    ensures { result ≡ is_wait (abort_reply answer.now) }
+    ensures { result ≡ is_waiting_reply (abort_reply answer.now) }
 {
     matches!(answer, Err(Refusal::StillWaiting))
 }
@@ -124,7 +124,7 @@ fn made_in(answer: &Result<Outcome, Refusal>) -> Result<bool, Refusal>
 
 // The sum of an add that doesn't wait; none if its request died.
 fn sum_in(answer: &Result<AddAnswer, Refusal>) -> Result<Option<i64>, Refusal>
-    ensures { result ≡ sum_in answer.now }
+    ensures { result ≡ answered_sum answer.now }
 {
     match answer {
         Ok(AddAnswer::Sum(sum)) => Ok(Some(*sum)),

@@ -8,7 +8,7 @@ ghost use Rattle.pc_kept_log.specs.Logs.{entries_of};
 ghost use Rattle.pc_engine.specs.Stands.{Stands};
 ghost use Rattle.pc_engine.specs.Store.{setting_of};
 ghost use Rattle.pc_tie.specs.Seats.{IsSession, IsFrontOf, NoTwoAlike};
-ghost use Rattle.pc_shared.specs.Sitters.{sitting_of, IsSeated, IsSitterSettled, AreSittersApart, is_there, HasAll, LacksOne};
+ghost use Rattle.pc_shared.specs.Sitters.{sitting_of, IsSeated, IsSitterSettled, AreSittersApart, has_sitter, HasAll, LacksOne};
 ghost use Rattle.pc_shared.specs.Lent.{receipt_at, AreLentBy};
 
 use crate::session::{LentReceipt, Session};
@@ -92,7 +92,7 @@ pub(crate) fn compare_all<N: StoreName>(
 
 // Whether a session of the number is in the list.
 fn has_number<N: StoreName>(sessions: &[Session<N>], number: u32) -> bool
-    ensures { result ≡ is_there sessions.now number }
+    ensures { result ≡ has_sitter sessions.now number }
 {
     sessions.iter().any(|session| session.number().0 == number)
 }

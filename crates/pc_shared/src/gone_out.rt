@@ -3,7 +3,7 @@ ghost use Rattle.std.specs.Prelude.{◌≡◌, ◌≤◌, ℕ, length};
 ghost use mathlib.Core.List.{IsPrefix};
 ghost use Rattle.pc_model.specs.History.{log_of};
 ghost use Rattle.pc_log.specs.Texts.{log_text};
-ghost use Rattle.pc_shared.specs.Written.{AreCounted, AreOut};
+ghost use Rattle.pc_shared.specs.Written.{AreEntriesWritten, AreOut};
 
 use pc_latch::LogPass;
 use pc_tie::{SessionSeat, StoreName, Tie, Witness};
@@ -19,13 +19,13 @@ pub(crate) struct GoneOut<N: StoreName> {
 
 impl<N: StoreName> Model for GoneOut<N> {
     ghost use Rattle.std.specs.Prelude.{◌≤◌, ℕ};
-    ghost use Rattle.pc_shared.specs.Written.{AreCounted, IsFirstOut};
+    ghost use Rattle.pc_shared.specs.Written.{AreEntriesWritten, IsFirstOut};
 
     ghost Value = { ℕ };
 
     ghost view = { λ o. o.count };
 
-    ghost invariant = { λ o. AreCounted N.out N.name.setting o.count × (1 ≤ o.count → IsFirstOut N.out N.name.setting.run o.seen o.count) };
+    ghost invariant = { λ o. AreEntriesWritten N.out N.name.setting o.count × (1 ≤ o.count → IsFirstOut N.out N.name.setting.run o.seen o.count) };
 }
 
 impl<N: StoreName> GoneOut<N> {
@@ -51,7 +51,7 @@ impl<N: StoreName> GoneOut<N> {
     /// The number of entries.
     pub(crate) fn count(&self) -> u64
         ensures count { result ≡ self.now }
-        ensures counted { AreCounted N.out N.name.setting result }
+        ensures counted { AreEntriesWritten N.out N.name.setting result }
     {
         self.count
     }

@@ -4,7 +4,7 @@ ghost use mathlib.Core.List.{IsPrefix};
 ghost use Rattle.pc_model.specs.History.{log_of};
 ghost use Rattle.pc_model.specs.Receipts.{own_of};
 ghost use Rattle.pc_log.specs.Texts.{log_text};
-ghost use Rattle.pc_shared.specs.Written.{AreCounted, AreOut, AreReached, HasGoneOut};
+ghost use Rattle.pc_shared.specs.Written.{AreEntriesWritten, AreOut, AreReached, HasGoneOut};
 
 use crate::gone_out::GoneOut;
 use crate::session::Session;
@@ -133,7 +133,7 @@ impl<N: StoreName> Logged<N> {
         entries: u64,
     ) -> Result<u64, LogEndMark<'_>>
         ensures same { session.new ≡ session.old }
-        ensures written { IfOk result (λ written. (entries ≤ written) × AreCounted N.out N.name.setting written) }
+        ensures written { IfOk result (λ written. (entries ≤ written) × AreEntriesWritten N.out N.name.setting written) }
         ensures out { IfOk result (λ written. AreOut N.out N.name.setting.run session.old.seen entries) }
         ensures all { IfOk result (λ written. AreOut N.out N.name.setting.run session.old.seen written) }
         ensures ended { IfErr result (λ mark. mark.token.of ≡ self.now.ended.id) }
@@ -167,7 +167,7 @@ impl<N: StoreName> Logged<N> {
         entries: u64,
     ) -> Result<u64, LogEndMark<'_>>
         ensures same { session.new ≡ session.old }
-        ensures written { IfOk result (λ written. (entries ≤ written) × AreCounted N.out N.name.setting written) }
+        ensures written { IfOk result (λ written. (entries ≤ written) × AreEntriesWritten N.out N.name.setting written) }
         ensures out { IfOk result (λ written. AreOut N.out N.name.setting.run session.old.seen entries) }
         ensures all { IfOk result (λ written. AreOut N.out N.name.setting.run session.old.seen written) }
         ensures ended { IfErr result (λ mark. mark.token.of ≡ self.now.ended.id) }
@@ -243,7 +243,7 @@ impl<N: StoreName> Shared<N> {
         number: Lsn,
     ) -> Result<u64, LogEndMark<'_>>
         ensures same { session.new ≡ session.old }
-        ensures written { IfOk result (λ written. (number ≤ written) × AreCounted N.out N.name.setting written) }
+        ensures written { IfOk result (λ written. (number ≤ written) × AreEntriesWritten N.out N.name.setting written) }
         ensures out { IfOk result (λ written. AreOut N.out N.name.setting.run session.old.seen number) }
         ensures all { IfOk result (λ written. AreOut N.out N.name.setting.run session.old.seen written) }
         ensures ended { IfErr result (λ mark. mark.token.of ≡ self.now.logged.ended.id) }

@@ -8,7 +8,7 @@ ghost use Rattle.pc_model.specs.Calls.{step_of, Extends, IsAnswered, AsksOpen};
 ghost use Rattle.pc_model.specs.Receipts.{own_of, receipt_of};
 ghost use Rattle.pc_kept_log.specs.Logs.{entries_of};
 ghost use Rattle.pc_txn.specs.Commits.{notes_of};
-ghost use Rattle.pc_shared.specs.Answers.{IsRead, IsWriteAnswered, IsAddAnswered};
+ghost use Rattle.pc_shared.specs.Answers.{IsReadAnswered, IsWriteAnswered, IsAddAnswered};
 ghost use Rattle.pc_shared.specs.Finds.{found_in};
 ghost use Rattle.pc_shared.specs.Lent.{AreLentBy};
 
@@ -74,11 +74,11 @@ pub struct LentReceipt<'a> {
 impl<'a> Model for LentReceipt<'a> {
     ghost use Rattle.pc_types.specs.declared.Receipt.{Receipt};
     ghost use Rattle.pc_kept_log.specs.Logs.{entries_of};
-    ghost use Rattle.pc_shared.specs.Lent.{writes_at};
+    ghost use Rattle.pc_shared.specs.Lent.{entry_writes};
 
     ghost Value = { Receipt };
 
-    ghost view = { λ r. record { number = r.number; session = r.session; reads = r.reads.now; writes = writes_at (entries_of r.log.now) r.number } };
+    ghost view = { λ r. record { number = r.number; session = r.session; reads = r.reads.now; writes = entry_writes (entries_of r.log.now) r.number } };
 }
 
 impl<'a> LentReceipt<'a> {
@@ -174,7 +174,7 @@ impl<N: StoreName> Shared<N> {
     ) -> Result<CallAnswer, Refusal>
         ensures number { session.new.number ≡ session.old.number }
         ensures receipts { session.new.receipts ≡ session.old.receipts }
-        ensures call { IfOk result (λ answer. IsRead N.name.setting session.old.seen session.old.number key answer session.new.seen) }
+        ensures call { IfOk result (λ answer. IsReadAnswered N.name.setting session.old.seen session.old.number key answer session.new.seen) }
         ensures refused { IfErr result (λ why. IsAnswered N.name.setting session.old.number session.old.seen (Get session.old.number key) (Refused why)) }
         ensures no_wait { IfErr result (λ why. why ≢ Refusal.StillWaiting) }
         ensures same { OnErr result (session.new ≡ session.old) }

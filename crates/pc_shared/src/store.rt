@@ -14,10 +14,10 @@ ghost use Rattle.pc_latch.specs.Cycles.{IsAdvance};
 ghost use Rattle.pc_model.specs.History.{History, log_of};
 ghost use Rattle.pc_model.specs.Sets as set;
 ghost use Rattle.pc_latch.specs.Tickets.{HasNoFile, IsNoTicket};
-ghost use Rattle.pc_shared.specs.Advances.{EndsWith};
+ghost use Rattle.pc_shared.specs.Advances.{EndsWithAdvance};
 ghost use Rattle.pc_shared.specs.Granted.{HasGranted};
 ghost use Rattle.pc_shared.specs.Sitters.{new_sitters, IsLeftByStore, AreSittersApart, HasAll, LacksOne};
-ghost use Rattle.pc_waiting.specs.Waking.{none_wait, woken_by, noted};
+ghost use Rattle.pc_waiting.specs.Waking.{none_wait, woken_by, waits_after_reply};
 
 use crate::closing::{Closed, close};
 use crate::logged::{LastEntry, LogBatch, Logged};
@@ -196,7 +196,7 @@ impl<N: StoreName> UnderLatch<N> {
     // Notes the reply, and returns the calls to wake: those that wait for locks only if a request of one of them was granted.
     fn note(&mut self, reply: &Reply) -> Woken
         ensures latched { self.new.latched ≡ self.old.latched }
-        ensures noted { self.new.waits ≡ noted self.old.waits reply.now }
+        ensures noted { self.new.waits ≡ waits_after_reply self.old.waits reply.now }
         ensures woken { result ≡ record (woken_by self.old.waits reply.now) { for_locks = result.for_locks } }
         ensures locks { (result.for_locks ≡ true) ↔ (((woken_by self.old.waits reply.now).for_locks ≡ true) × HasGranted N.name.setting self.old.latched self.old.waits.for_locks) }
     {
@@ -333,7 +333,7 @@ impl<N: StoreName> Shared<N> {
         checkpointer: &mut CheckpointerSeat<N>,
     ) -> Advanced<N>
         ensures called { IsAdvance N.name.setting checkpointer.old result.reply checkpointer.new }
-        ensures shown { EndsWith N.name.setting checkpointer.new result.reply result.seen }
+        ensures shown { EndsWithAdvance N.name.setting checkpointer.new result.reply result.seen }
     {
         let mut held = self.get_latch_soon(rt);
         let reply = held.latched.advance(&self.tie, checkpointer);

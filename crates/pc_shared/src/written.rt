@@ -1,7 +1,7 @@
 //! The number of entries of a store's log that are written.
 ghost use Rattle.std.specs.Prelude.{◌≡◌};
 ghost use Rattle.pc_log.specs.Texts.{log_text};
-ghost use Rattle.pc_shared.specs.Written.{AreCounted};
+ghost use Rattle.pc_shared.specs.Written.{AreEntriesWritten};
 
 use atomic_table::{Play, Table, TableRule};
 use pc_latch::LogPass;
@@ -16,17 +16,17 @@ pub struct CountsEntries<N: StoreName> {
 
 impl<S, N: StoreName> TableRule<S, (), ()> for CountsEntries<N> {
     ghost use Rattle.std.specs.Prelude.{slice_index};
-    ghost use Rattle.pc_shared.specs.Written.{AreCounted};
+    ghost use Rattle.pc_shared.specs.Written.{AreEntriesWritten};
 
-    ghost holds = { λ key state. AreCounted N.out N.name.setting (slice_index state.words 0) };
+    ghost holds = { λ key state. AreEntriesWritten N.out N.name.setting (slice_index state.words 0) };
 
     ghost first = { λ key. tt };
 }
 
 impl<S, N: StoreName> Play<S, ()> for CountsEntries<N> {
-    ghost use Rattle.pc_shared.specs.Written.{AreCounted};
+    ghost use Rattle.pc_shared.specs.Written.{AreEntriesWritten};
 
-    ghost then = { λ step before found after. AreCounted N.out N.name.setting found };
+    ghost then = { λ step before found after. AreEntriesWritten N.out N.name.setting found };
 }
 
 /// The number of entries of a store's log that are written. Only a pass whose text has gone out changes it.
@@ -45,7 +45,7 @@ impl<N: StoreName> Written<N> {
 
     /// The number of written entries: their text has gone out.
     pub(crate) fn get(&self) -> u64
-        ensures { AreCounted N.out N.name.setting result }
+        ensures { AreEntriesWritten N.out N.name.setting result }
     {
         let (entries, _seat) = self.table.shared.load_new_seat::<CountsEntries<N>>(0);
         entries

@@ -79,13 +79,13 @@ pub record Pending : Type 0 where
   pub value : Option (List ℕ)
 
 -- the write of an open transaction, given the content of the key's place
-abbrev pub write_of : Option Writer → Option (List ℕ) → Option Pending
-write_of None live = None
-write_of (Some w) live = Some (record { by = w.transaction; class = w.class; value = live })
+abbrev pub pending_of_writer : Option Writer → Option (List ℕ) → Option Pending
+pending_of_writer None live = None
+pending_of_writer (Some w) live = Some (record { by = w.transaction; class = w.class; value = live })
 
 -- the write of an open transaction in the slot
 abbrev pub pending_in : Slot → Option Pending
-pending_in slot = write_of slot.writer slot.live
+pending_in slot = pending_of_writer slot.writer slot.live
 
 -- what the slot holds is what its key has at the point: the key is in the closed set, and the mark is of the point
 abbrev pub is_available : ℕ → Slot → Bool

@@ -23,22 +23,22 @@ place_at slot None = None
 place_at slot (Some side) = Some (record { slot = slot; side = side })
 
 -- what the link of a word leads to
-abbrev pub link_at : Word → Option SideSlot
-link_at word = place_at word.slot word.leads_to
+abbrev pub link_of_word : Word → Option SideSlot
+link_of_word word = place_at word.slot word.leads_to
 
 -- the slot that a link leads to; 0 if it leads to none
-abbrev pub slot_of : Option SideSlot → ℕ
-slot_of None = 0
-slot_of (Some place) = place.slot
+abbrev pub linked_slot : Option SideSlot → ℕ
+linked_slot None = 0
+linked_slot (Some place) = place.slot
 
 -- the side that a link leads to
-abbrev pub side_of : Option SideSlot → Option Side
-side_of None = None
-side_of (Some place) = Some place.side
+abbrev pub linked_side : Option SideSlot → Option Side
+linked_side None = None
+linked_side (Some place) = Some place.side
 
 -- the mark with this link
 abbrev pub leading : Option SideSlot → Mark → Mark
-leading link mark = record mark { leads_to = side_of link }
+leading link mark = record mark { leads_to = linked_side link }
 
 -- of two that on the side
 abbrev pub on_side : {X : Type 0} → Side → X → X → X
@@ -57,8 +57,8 @@ abbrev pub word_of : Side → Cell → Word
 word_of side cell = on_side side (first_word cell) (second_word cell)
 
 -- both words
-abbrev pub words_of : Cell → Word × Word
-words_of cell = (first_word cell, second_word cell)
+abbrev pub cell_words : Cell → Word × Word
+cell_words cell = (first_word cell, second_word cell)
 
 -- the slot is in the set on the side
 abbrev pub is_marked : Side → Cell → Bool
@@ -66,7 +66,7 @@ is_marked side cell = (word_of side cell).is_in
 
 -- what the link on the side leads to
 abbrev pub link_of : Side → Cell → Option SideSlot
-link_of side cell = link_at (word_of side cell)
+link_of side cell = link_of_word (word_of side cell)
 
 -- the cell with this mark on the side
 abbrev pub with_mark : Side → Bool → Cell → Cell
@@ -75,8 +75,8 @@ with_mark side mark cell = record cell { first = on_side side (record cell.first
 -- the cell with this link on the side
 abbrev pub with_link : Side → Option SideSlot → Cell → Cell
 with_link side link cell = record cell {
-  first_next = on_side side (slot_of link) cell.first_next;
-  second_next = on_side side cell.second_next (slot_of link);
+  first_next = on_side side (linked_slot link) cell.first_next;
+  second_next = on_side side cell.second_next (linked_slot link);
   first = on_side side (leading link cell.first) cell.first;
   second = on_side side cell.second (leading link cell.second);
 }

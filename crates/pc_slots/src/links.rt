@@ -1,6 +1,6 @@
 //! The links of a slot to others, one on either side of the two sets.
 ghost use Rattle.std.specs.Prelude.{◌≡◌};
-ghost use Rattle.pc_slots.specs.Words.{place_at, slot_of, side_of};
+ghost use Rattle.pc_slots.specs.Words.{place_at, linked_slot, linked_side};
 
 use crate::cells::Cell;
 use pc_dirty::{Side, SideSlot};
@@ -18,7 +18,7 @@ fn place_at(slot: SlotId, leads_to: Option<Side>) -> Option<SideSlot>
 
 // The slot that a link leads to, 0 if it leads to none, and the side.
 fn parts_of(link: Option<SideSlot>) -> (SlotId, Option<Side>)
-    ensures { result ≡ (slot_of link, side_of link) }
+    ensures { result ≡ (linked_slot link, linked_side link) }
 {
     match link {
         Some(place) => (place.slot, Some(place.side)),

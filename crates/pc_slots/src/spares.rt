@@ -1,7 +1,7 @@
 //! Boxes in which nothing is kept, for later writes.
 ghost use Rattle.std.specs.Prelude.{◌≡◌, ◌-◌, IfOk, OnErr};
 ghost use Rattle.pc_slots.specs.Slots.{nothing_aside};
-ghost use Rattle.pc_slots.specs.Spares.{one_more};
+ghost use Rattle.pc_slots.specs.Spares.{one_more_spare};
 
 use crate::versions::{Aside, nothing_aside};
 use pc_types::MOST_WRITES;
@@ -50,7 +50,7 @@ impl Spares {
     /// Keeps the box for a later write; if there are as many as there may be it is dropped. It allocates no memory.
     pub fn put_back(&mut self, room: Box<Aside>)
         requires { room.value ≡ nothing_aside }
-        ensures { self.new ≡ one_more self.old }
+        ensures { self.new ≡ one_more_spare self.old }
     {
         if self.boxes.len() < MOST_WRITES {
             self.boxes.push_reserved(room);

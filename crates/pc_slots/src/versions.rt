@@ -5,7 +5,7 @@ ghost use Rattle.pc_types.specs.declared.Class.TheVariants as class_of;
 ghost use Rattle.pc_types.specs.Phases.{same_class};
 ghost use Rattle.pc_model.specs.Locks.{Queue};
 ghost use Rattle.pc_dirty.specs.declared.side.Side.TheVariants.{First};
-ghost use Rattle.pc_slots.specs.Words.{is_marked, words_of, chain_in, HaveLinks};
+ghost use Rattle.pc_slots.specs.Words.{is_marked, cell_words, chain_in, HaveLinks};
 ghost use Rattle.pc_slots.specs.Spares.{with_spare, is_freed};
 ghost use Rattle.pc_slots.specs.Slots.{Slot, slot_with, nothing_aside, is_blank, aside_in, writer_in, with_aside, committed, version_or, pinned, is_held, is_kept_slot, keeps_copy, saved, put_slot, settled, undone, taken_slot};
 
@@ -303,7 +303,7 @@ fn note(
 pub fn put(slot: &mut Cell, stage: Stage, write: Writing, spares: &mut Spares)
     requires { write.room.value ≡ nothing_aside }
     ensures slot { (number : ℕ) (key : List ℕ) → slot_with stage.side number key slot.new ≡ put_slot stage.point write.author.transaction write.author.class write.copy write.value (slot_with stage.side number key slot.old) }
-    ensures words { words_of slot.new ≡ words_of slot.old }
+    ensures words { cell_words slot.new ≡ cell_words slot.old }
     ensures ends { chain_in slot.new ≡ chain_in slot.old }
     ensures spares { spares.new ≡ with_spare (is_some slot.old.aside) spares.old }
 {
@@ -377,7 +377,7 @@ fn withdraw(aside: &mut Aside, live: &mut Option<Value>, is_closed: bool, point:
 /// Undoes the write in the slot, if there is one. A box in which nothing is kept any more is put back. It allocates no memory.
 pub fn undo(slot: &mut Cell, stage: Stage, spares: &mut Spares)
     ensures slot { (number : ℕ) (key : List ℕ) → slot_with stage.side number key slot.new ≡ undone stage.point (slot_with stage.side number key slot.old) }
-    ensures words { words_of slot.new ≡ words_of slot.old }
+    ensures words { cell_words slot.new ≡ cell_words slot.old }
     ensures ends { chain_in slot.new ≡ chain_in slot.old }
     ensures spares { spares.new ≡ with_spare (is_freed slot.old slot.new) spares.old }
 {

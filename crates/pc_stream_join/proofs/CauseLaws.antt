@@ -16,17 +16,17 @@ use Rattle.pc_types.specs.declared.Triple.{Triple}
 use Rattle.pc_io.specs.declared.formats.Format.{Format}
 use Rattle.pc_io.proofs.FieldLaws.{bind_ok, ok_is}
 use Rattle.pc_model.specs.Database.{KeysRise, key_cmp}
-use Rattle.pc_model.specs.TripleLists.{entries_of}
+use Rattle.pc_model.specs.TripleLists.{map_entries}
 use Rattle.pc_model.proofs.RisingLaws.{and_of, is_less, lesser_below}
 use Rattle.pc_part.specs.declared.ranges.Range.{Range}
-use Rattle.pc_part.specs.Reading.{entry_at, header_at, next_entry_at, next_key_at}
+use Rattle.pc_part.specs.Reading.{part_entry_at, part_header_at, next_entry_at, next_key_at}
 use Rattle.pc_merge.specs.Coming.{Coming, ended, refused}
 use Rattle.pc_merge.specs.Inputs.{all_known, known_with}
 use Rattle.pc_merge.specs.Merging.{IsCause}
 use Rattle.pc_streams.specs.declared.reader.PartReader.{PartReader}
 use Rattle.pc_streams.specs.declared.reader.PartStage.{PartStage}
 use Rattle.pc_streams.specs.declared.reader.PartStage.TheVariants.{Unread, Among, Refused}
-use Rattle.pc_streams.specs.Coming.{coming_at, coming_behind, coming_from, coming_of_bytes, part_coming, part_end_at}
+use Rattle.pc_streams.specs.Coming.{coming_after_key, coming_behind, coming_from, coming_of_bytes, part_coming, part_end_at}
 use Rattle.pc_streams.specs.Readers.{coming_of, stage_coming}
 use Rattle.pc_streams.specs.Sources.{text_left}
 use Rattle.pc_streams.proofs.LawfulNext.{Next, key_rises, triple, with_entry, with_key}
@@ -42,7 +42,7 @@ behind_length : (format : Format) (ranges : List Range) (last : List ℕ) (t : B
 behind_length format ranges last true count rest next is = subst (λ (x : Next). Follows last x.0) (ok_is (None, rest) next is) tt
 behind_length format ranges last false count rest next is =
     let k = bind_ok (next_key_at format last count rest) (with_key ranges) next is in
-    let e = bind_ok (entry_at ranges k.0.1) (with_entry k.0.0) next k.2 in
+    let e = bind_ok (part_entry_at ranges k.0.1) (with_entry k.0.0) next k.2 in
     subst (λ (x : Next). Follows last x.0) (ok_is (Some (triple k.0.0 e.0.0), e.0.1) next e.2) (key_rises format last count rest k.0 k.1)
 
 abbrev with_count : Format → List Range → List ℕ → ℕ × List ℕ → Result Next Refusal
@@ -68,31 +68,31 @@ keys_rise : {X : Type 0} (last : List ℕ) (es : List (List ℕ × X)) → Rises
 keys_rise last [] h = refl
 keys_rise last (e ∷ es) h = and_of (below_all key_cmp e.0 es) (is_sorted key_cmp es) (rises_below e.0 es h.1) (keys_rise e.0 es h.1)
 
-end_rises : (count : ℕ) (last : List ℕ) (r : Result (ℕ × List ℕ) Refusal) → RisesFrom last (entries_of (part_end_at count r).entries)
+end_rises : (count : ℕ) (last : List ℕ) (r : Result (ℕ × List ℕ) Refusal) → RisesFrom last (map_entries (part_end_at count r).entries)
 end_rises count last (Err why) = tt
 end_rises count last (Ok total) = by (eqb total.0 count) (eqb (length total.1) 0)
   where
-    by : (t u : Bool) → RisesFrom last (entries_of (cond t (cond u ended (refused Trailing)) (refused BadLength)).entries)
+    by : (t u : Bool) → RisesFrom last (map_entries (cond t (cond u ended (refused Trailing)) (refused BadLength)).entries)
     by true true = tt
     by true false = tt
     by false u = tt
 
-from_rises : (others : List ℕ → List ℕ → Coming) (count : ℕ) (last : List ℕ) (r : Result Next Refusal) → ((key rest : List ℕ) → RisesFrom key (entries_of (others key rest).entries))
-    → ((next : Option Triple) (rest : List ℕ) → r ≡ Ok (next, rest) → Follows last next) → RisesFrom last (entries_of (coming_from others count r).entries)
+from_rises : (others : List ℕ → List ℕ → Coming) (count : ℕ) (last : List ℕ) (r : Result Next Refusal) → ((key rest : List ℕ) → RisesFrom key (map_entries (others key rest).entries))
+    → ((next : Option Triple) (rest : List ℕ) → r ≡ Ok (next, rest) → Follows last next) → RisesFrom last (map_entries (coming_from others count r).entries)
 from_rises others count last (Err why) behind follows = tt
 from_rises others count last (Ok (None, rest)) behind follows = end_rises count last (number_at Short w32 rest)
 from_rises others count last (Ok (Some entry, rest)) behind follows = (follows (Some entry) rest refl, behind entry.key rest)
 
-coming_rises : (format : Format) (turns : ℕ) (ranges : List Range) (count : ℕ) (last bytes : List ℕ) → RisesFrom last (entries_of (coming_at format turns ranges count last bytes).entries)
-unfolding coming_at
+coming_rises : (format : Format) (turns : ℕ) (ranges : List Range) (count : ℕ) (last bytes : List ℕ) → RisesFrom last (map_entries (coming_after_key format turns ranges count last bytes).entries)
+unfolding coming_after_key
 coming_rises format zero ranges count last bytes = tt
-coming_rises format (suc turns) ranges count last bytes = from_rises (coming_at format turns ranges (one_more count)) count last (next_entry_at format ranges last bytes) (λ key rest. coming_rises format turns ranges (one_more count) key rest) (next_follows format ranges last bytes)
+coming_rises format (suc turns) ranges count last bytes = from_rises (coming_after_key format turns ranges (one_more count)) count last (next_entry_at format ranges last bytes) (λ key rest. coming_rises format turns ranges (one_more count) key rest) (next_follows format ranges last bytes)
 
 abbrev Rises : Coming → Type 0
-Rises coming = KeysRise (entries_of coming.entries)
+Rises coming = KeysRise (map_entries coming.entries)
 
 bytes_rise : (format : Format) (ranges : List Range) (count : ℕ) (last bytes : List ℕ) → Rises (coming_of_bytes format ranges count last bytes)
-bytes_rise format ranges count last bytes = keys_rise last (entries_of (coming_of_bytes format ranges count last bytes).entries) (coming_rises format (length bytes) ranges count last bytes)
+bytes_rise format ranges count last bytes = keys_rise last (map_entries (coming_of_bytes format ranges count last bytes).entries) (coming_rises format (length bytes) ranges count last bytes)
 
 part_rises : (r : Result ((Format × (ℕ × List Range)) × List ℕ) Refusal) → Rises (coming_behind r)
 part_rises (Err why) = refl
@@ -103,7 +103,7 @@ some_is c d is rises = let same : c ≡ d = cc in subst Rises same rises
 
 stage_rises : (stage : PartStage) (known : Option (List ℕ)) (coming : Coming) → stage_coming stage known ≡ Some coming → Rises coming
 stage_rises Unread None coming is = absurd cc
-stage_rises Unread (Some bytes) coming is = some_is (part_coming bytes) coming is (part_rises (header_at bytes))
+stage_rises Unread (Some bytes) coming is = some_is (part_coming bytes) coming is (part_rises (part_header_at bytes))
 stage_rises (Refused why) known coming is = some_is (refused why) coming is refl
 stage_rises (Among place) known coming is = by place.ended known is
   where

@@ -12,29 +12,29 @@ use Rattle.pc_model.specs.Database.{KeysRise}
 use Rattle.pc_model.specs.Files.{File}
 use Rattle.pc_model.specs.Ranges.{ranges_of}
 use Rattle.pc_model.specs.Sets as set
-use Rattle.pc_model.specs.TripleLists.{entry_of, entries_of}
+use Rattle.pc_model.specs.TripleLists.{entry_of, map_entries}
 use Rattle.pc_model.proofs.PairMapLaws as pairs_of
 use Rattle.pc_part.specs.declared.ranges.Range.{Range}
 use Rattle.pc_part.specs.Parts.{IsWithinLimit, AreCovered, AreRanges, bounds, bounds_of, points_in, points_of}
 use Rattle.pc_part.specs.Lawful.{HasLimits, IsPartEntry, IsPartFile, IsPoint}
 use Rattle.pc_io.specs.Fields.{magic_at}
-use Rattle.pc_part.specs.Reading.{header_at, part_at, part_fields_at}
-use Rattle.pc_part.specs.Texts.{bounds_text, end_text, entry_text_in, head_text, part_text, part_text_in, range_text, triple_text}
+use Rattle.pc_part.specs.Reading.{part_header_at, part_at, part_fields_at}
+use Rattle.pc_part.specs.Texts.{bounds_text, end_text, part_entry_text_in, head_text, part_text, part_text_in, part_range_text, triple_text}
 use Rattle.pc_part.proofs.CutPartLaws.{part_cut}
 use Rattle.pc_part.proofs.LawfulParts.{ranges_points, some_point}
 use Rattle.pc_part.proofs.RangePointLaws.{items-points_of, ranges_of-points_of}
-use Rattle.pc_stream_join.specs.Joining.{LeavesShort, file_of}
-use Rattle.pc_stream_join.specs.Writing.{header_text}
+use Rattle.pc_stream_join.specs.Joining.{LeavesShort, file_of_entries}
+use Rattle.pc_stream_join.specs.Writing.{part_header_text}
 use Rattle.pc_stream_join.proofs.WritingLaws.{some_end}
 
 -- ---- the file
 
-module _ (run : ℕ) (ranges : List Range) (given : List Triple) (run_fits : run < 2 ^ 64) (apart : AreRanges ranges) (rise : KeysRise (entries_of given)) (covered : AreCovered (points_of ranges) given) (fit : All HasLimits given) (few : length given ≤ 4294967295) where
+module _ (run : ℕ) (ranges : List Range) (given : List Triple) (run_fits : run < 2 ^ 64) (apart : AreRanges ranges) (rise : KeysRise (map_entries given)) (covered : AreCovered (points_of ranges) given) (fit : All HasLimits given) (few : length given ≤ 4294967295) where
   abbrev file : File
-  file = file_of run ranges given
+  file = file_of_entries run ranges given
 
-  entries_are : entries_of given ≡ file.triples.entries
-  entries_are = sym (pairs_of.entries_of (entries_of given) rise)
+  entries_are : map_entries given ≡ file.triples.entries
+  entries_are = sym (pairs_of.entries_of (map_entries given) rise)
 
   items_are : set.items file.points ≡ points_in ranges
   items_are = items-points_of ranges apart
@@ -53,12 +53,12 @@ module _ (run : ℕ) (ranges : List Range) (given : List Triple) (run_fits : run
   unfolding part_text_in
   four_parts =
       let many : length (bounds_of ranges) ≡ length ranges = length-map ranges bounds in
-      let more : length (entries_of given) ≡ length given = length-map given entry_of in
+      let more : length (map_entries given) ≡ length given = length-map given entry_of in
       let a : bounds_of ranges ≡ ranges_of (set.items file.points) = sym (ranges_of-points_of ranges apart) in
-      rw (← a, ← entries_are, many, more, flat_map-map range_text bounds ranges, flat_map-map (entry_text_in Second) entry_of given) refl
+      rw (← a, ← entries_are, many, more, flat_map-map part_range_text bounds ranges, flat_map-map (part_entry_text_in Second) entry_of given) refl
 
   abbrev before_end : List ℕ
-  before_end = header_text run ranges ++ flat_map triple_text given
+  before_end = part_header_text run ranges ++ flat_map triple_text given
 
   -- its text
   pub text_is : before_end ++ end_text (length given) ≡ part_text file
@@ -87,7 +87,7 @@ module _ (run : ℕ) (ranges : List Range) (given : List Triple) (run_fits : run
       ends_short (Some was) (Some now) (part.0, omega (arith, part.1, parts, end), part.2 ∙ ap (λ (t : List ℕ). was ++ t) (sym (take-append-le part.0 before_end (end_text (length given)) part.1)))
 
 none_short : part_at [] ≡ Err Short
-unfolding part_fields_at header_at magic_at
+unfolding part_fields_at part_header_at magic_at
 none_short = refl
 
 -- nothing is short

@@ -12,14 +12,14 @@ use Rattle.pc_model.specs.Sets as set_of
 use Rattle.pc_part.specs.declared.ranges.Range.{Range}
 use Rattle.pc_part.specs.Parts.{AreRanges, points_of}
 use Rattle.pc_part.proofs.RangePointLaws.{contains-points_of}
-use Rattle.pc_merge.specs.Coming.{Standing, Stands}
+use Rattle.pc_merge.specs.Coming.{Standing, KeepsRefusal}
 use Rattle.pc_merge.specs.Standings.{AllStand, standing_at}
 use Rattle.pc_streams.specs.declared.reader.PartReader.{PartReader}
 use Rattle.pc_streams.specs.declared.reader.PartStage.{PartStage}
 use Rattle.pc_streams.specs.declared.reader.PartStage.TheVariants.{Among, Refused, Unread}
 use Rattle.pc_streams.specs.Readers.{AnswersAs, Refuses, StaysKnown, header_of, ranges_read, reads_within, refused_of, stage_header, stage_refused, standing_of}
 use Rattle.pc_streams.specs.Sources.{text_left}
-use Rattle.pc_stream_join.specs.Headers.{AreApart, AreHeaded, AreReadTo, IsHeadersFault, IsHeadersRefusal, IsRead, StayKnown, all_headers, headers_fault, points_of_all, points_read, run_of_all, runs_fault, runs_seen, with_run}
+use Rattle.pc_stream_join.specs.Headers.{AreApart, AreHeaded, AreReadTo, IsHeadersFault, IsHeadersRefusal, IsHeaderRead, StayKnown, all_headers, headers_fault, points_of_all, points_read, run_of_all, runs_fault, runs_seen, with_run}
 use Rattle.pc_stream_join.specs.declared.headers.RunsSeen.{RunsSeen}
 use Rattle.pc_stream_join.proofs.StandingLaws.{one_refused}
 use Rattle.pc_model.proofs.ContentLaws.{contains-union}
@@ -46,12 +46,12 @@ module _ {R : Type 0} (remaining : R → Option (List ℕ)) where
   next_is (suc n) (first ∷ was) (first_now ∷ now) [] d h = absurd h
   next_is (suc n) (first ∷ was) (first_now ∷ now) (run ∷ runs) d h = next_is n was now runs d h.1
 
-  begins : (was now : Readers) (runs : List ℕ) (x d : PartReader R) (r : ℕ) → now ≡ was → runs ≡ [] → 0 < length was → IsRead remaining (get_or was 0 d) x r → AreReadTo remaining 1 was (set now 0 x) (runs ++ r ∷ [])
+  begins : (was now : Readers) (runs : List ℕ) (x d : PartReader R) (r : ℕ) → now ≡ was → runs ≡ [] → 0 < length was → IsHeaderRead remaining (get_or was 0 d) x r → AreReadTo remaining 1 was (set now 0 x) (runs ++ r ∷ [])
   begins [] now runs x d r same none lt h = absurd (omega arith)
   begins (first ∷ was) now runs x d r same none lt h = rw (same, none) (h, (refl, refl))
 
   -- one more is read
-  pub one_read : (n : ℕ) (was now : Readers) (runs : List ℕ) (x d : PartReader R) (r : ℕ) → AreReadTo remaining n was now runs → n < length was → IsRead remaining (get_or was n d) x r → AreReadTo remaining (suc n) was (set now n x) (runs ++ r ∷ [])
+  pub one_read : (n : ℕ) (was now : Readers) (runs : List ℕ) (x d : PartReader R) (r : ℕ) → AreReadTo remaining n was now runs → n < length was → IsHeaderRead remaining (get_or was n d) x r → AreReadTo remaining (suc n) was (set now n x) (runs ++ r ∷ [])
   one_read zero was now runs x d r h lt is = begins was now runs x d r h.0 h.1 lt is
   one_read (suc n) [] now runs x d r h lt is = absurd h
   one_read (suc n) (first ∷ was) [] runs x d r h lt is = absurd h
@@ -59,8 +59,8 @@ module _ {R : Type 0} (remaining : R → Option (List ℕ)) where
   one_read (suc n) (first ∷ was) (first_now ∷ now) (run ∷ runs) x d r h lt is = (h.0, one_read n was now runs x d r h.1 (omega (arith, lt)) is)
 
   -- the same of one that is read from its current state
-  pub one_read_now : (n : ℕ) (was now : Readers) (runs : List ℕ) (x d : PartReader R) (r : ℕ) → AreReadTo remaining n was now runs → n < length was → IsRead remaining (get_or now n d) x r → AreReadTo remaining (suc n) was (set now n x) (runs ++ r ∷ [])
-  one_read_now n was now runs x d r h lt is = one_read n was now runs x d r h lt (subst (λ (o : PartReader R). IsRead remaining o x r) (next_is n was now runs d h) is)
+  pub one_read_now : (n : ℕ) (was now : Readers) (runs : List ℕ) (x d : PartReader R) (r : ℕ) → AreReadTo remaining n was now runs → n < length was → IsHeaderRead remaining (get_or now n d) x r → AreReadTo remaining (suc n) was (set now n x) (runs ++ r ∷ [])
+  one_read_now n was now runs x d r h lt is = one_read n was now runs x d r h lt (subst (λ (o : PartReader R). IsHeaderRead remaining o x r) (next_is n was now runs d h) is)
 
   -- the readers that were read are unchanged
   pub still : (n : ℕ) (was now : Readers) (runs : List ℕ) → AreReadTo remaining n was now runs → map standing_of now ≡ map standing_of was
@@ -76,7 +76,7 @@ module _ {R : Type 0} (remaining : R → Option (List ℕ)) where
   Known = List (Result (ℕ × List Range) Refusal)
 
   -- a header that was read is the known one
-  told_is : (was now : PartReader R) (run : ℕ) (known : Result (ℕ × List Range) Refusal) → IsRead remaining was now run → header_of remaining was ≡ Some known → known ≡ Ok (run, ranges_read now)
+  told_is : (was now : PartReader R) (run : ℕ) (known : Result (ℕ × List Range) Refusal) → IsHeaderRead remaining was now run → header_of remaining was ≡ Some known → known ≡ Ok (run, ranges_read now)
   told_is was now run known h is =
       let stays : header_of remaining now ≡ Some known = subst (λ (x : Option (Result (ℕ × List Range) Refusal)). StaysKnown x (header_of remaining now)) is h.header in
       let both : Some known ≡ Some (Ok (run, ranges_read now)) = sym stays ∙ h.told in
@@ -121,14 +121,14 @@ module _ {R : Type 0} (remaining : R → Option (List ℕ)) where
 
   -- the counts of all then
   pub next_stands : (n : ℕ) (was now : Readers) (runs : List ℕ) (d x : PartReader R) (why : Refusal) → AreReadTo remaining n was now runs → n < length was
-      → Stands {X = ℕ} (standing_of (get_or now n d)) (standing_of x) (Err why) → AllStand {X = List ℕ} (map standing_of was) (map standing_of (set now n x)) (Err why)
+      → KeepsRefusal {X = ℕ} (standing_of (get_or now n d)) (standing_of x) (Err why) → AllStand {X = List ℕ} (map standing_of was) (map standing_of (set now n x)) (Err why)
   next_stands n was now runs d x why h lt stands =
       let many : length now ≡ length was = length_read n was now runs h in
       let within : n < length (map standing_of was) = omega (arith, length-map was standing_of) in
       let is : map standing_of (set now n x) ≡ set (map standing_of was) n (standing_of x) = map-set standing_of now n x ∙ ap (λ (ss : List Standing). set ss n (standing_of x)) (still n was now runs h) in
       let at : standing_at (map standing_of was) n ≡ standing_of (get_or now n d) = get_or-map standing_of was n d (record { refused = None; failures = 0 }) lt ∙ ap standing_of (sym (next_is n was now runs d h)) in
       subst (λ (ss : List Standing). AllStand {X = List ℕ} (map standing_of was) ss (Err why)) (sym is)
-      (one_refused ℕ (List ℕ) (map standing_of was) n (standing_of x) within why (subst (λ (s : Standing). Stands {X = ℕ} s (standing_of x) (Err why)) (sym at) stands))
+      (one_refused ℕ (List ℕ) (map standing_of was) n (standing_of x) within why (subst (λ (s : Standing). KeepsRefusal {X = ℕ} s (standing_of x) (Err why)) (sym at) stands))
 
   -- if the next one refuses, not all are read
   pub next_unread : (n : ℕ) (was now : Readers) (runs : List ℕ) (d x : PartReader R) (why : Refusal) → AreReadTo remaining n was now runs → n < length was

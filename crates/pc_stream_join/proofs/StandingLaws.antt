@@ -3,7 +3,7 @@ use Rattle.std.proofs.Common.{◌≡◌, ℕ, zero, suc, ◌<◌, List, [], ◌�
 use Rattle.pc_io.specs.Counted.{HasRisen}
 use Rattle.pc_types.specs.declared.Refusal.{Refusal}
 use Rattle.pc_types.specs.declared.Refusal.TheVariants.{Device}
-use Rattle.pc_merge.specs.Coming.{Standing, Stands, StandsBy}
+use Rattle.pc_merge.specs.Coming.{Standing, KeepsRefusal, StandsBy}
 use Rattle.pc_merge.specs.Standings.{AllStand, HasFailed, standing_at}
 
 abbrev pub failures : List Standing → List ℕ
@@ -21,7 +21,7 @@ set_at (first ∷ was) zero now lt = refl
 set_at (first ∷ was) (suc place) now lt = set_at was place now (omega (arith, lt))
 
 -- a call that was not refused leaves all unchanged
-pub ok_stands : {X : Type 0} (was now : Standing) (x : X) → Stands was now (Ok x) → now ≡ was
+pub ok_stands : {X : Type 0} (was now : Standing) (x : X) → KeepsRefusal was now (Ok x) → now ≡ was
 ok_stands {X} was now x stands = by was.refused stands
   where
     by : (before : Option Refusal) → StandsBy before was now (Ok x) → now ≡ was
@@ -42,5 +42,5 @@ module _ (X Y : Type 0) (was : List Standing) (place : ℕ) (now : Standing) (lt
   none_risen (Some first) stands other = set_failures was place now lt (ap (λ (s : Standing). s.failures) stands.1)
 
   -- the call of one was refused
-  pub one_refused : Stands {X = X} (standing_at was place) now (Err why) → AllStand {X = Y} was (set was place now) (Err why)
+  pub one_refused : KeepsRefusal {X = X} (standing_at was place) now (Err why) → AllStand {X = Y} was (set was place now) (Err why)
   one_refused stands = (device_failed (standing_at was place).refused refl stands, none_risen (standing_at was place).refused stands)

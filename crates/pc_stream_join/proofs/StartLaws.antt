@@ -20,7 +20,7 @@ use Rattle.pc_streams.specs.Readers.{StaysKnown, coming_of, reads_within, standi
 use Rattle.pc_stream_join.specs.Headers.{StayKnown}
 use Rattle.pc_stream_join.specs.Joining.{IsJoinRefusal, IsJoinWritten, IsUnjoinedFor, JoinStands, LeavesShort}
 use Rattle.pc_stream_join.specs.Steps.{Begun, IsJoining, JoinEnds}
-use Rattle.pc_stream_join.specs.Writing.{Writing, header_text}
+use Rattle.pc_stream_join.specs.Writing.{Writing, part_header_text}
 
 -- if the inputs were refused, the output has no further failure
 pub inputs_refused : (X : Type 0) (was now : List Standing) (failures : ℕ) (why : Refusal) → AllStand {X = X} was now (Err why) → JoinStands {X = ℕ} was now failures failures (Err why)
@@ -28,7 +28,7 @@ inputs_refused X was now failures why all = (λ device. inl (all.0 device), λ o
 
 module _ {R W : Type 0} (remaining : R → Option (List ℕ)) (contents : W → Option (List ℕ)) where
   -- nothing was given yet
-  pub starts : (run : ℕ) (ranges : List Range) (inputs now : List (PartReader R)) (out : Tally W) (merge : Merging) (writing : Writing) → run < 2 ^ 64 → AreRanges ranges → writing ≡ record { kept = header_text run ranges; count = 0 }
+  pub starts : (run : ℕ) (ranges : List Range) (inputs now : List (PartReader R)) (out : Tally W) (merge : Merging) (writing : Writing) → run < 2 ^ 64 → AreRanges ranges → writing ≡ record { kept = part_header_text run ranges; count = 0 }
       → map standing_of now ≡ map standing_of inputs → AreWithin reads_within (set.contains (points_of ranges)) now merge.firsts → merge.refused ≡ None
       → ((was : List Coming) → all_known (map (coming_of remaining) inputs) ≡ Some was → left_in (map (coming_of remaining) now) merge ≡ Some was)
       → IsJoining remaining contents (record { run = run; ranges = ranges; inputs = inputs; out = out }) now merge writing out
@@ -44,7 +44,7 @@ module _ {R W : Type 0} (remaining : R → Option (List ℕ)) (contents : W → 
       few = omega arith;
       gone = [];
       sent = appends_nothing (contents (inner_of out));
-      text = ap (λ (w : Writing). w.kept) is ∙ sym (append-nil (header_text run ranges));
+      text = ap (λ (w : Writing). w.kept) is ∙ sym (append-nil (part_header_text run ranges));
       failures = refl;
     };
     above = All-nil (λ (e : Triple). AreAbove e.key merge.firsts);

@@ -81,7 +81,7 @@ pub record IsHeaderOfAll (run : ℕ) (ranges : List Range) (headers : List (ℕ 
 
 -- The header of an input was read: it is of this run. Known facts of it stay, and nothing was refused; all its further entries are
 -- of its points.
-pub record IsRead {R : Type 0} (remaining : R → Option (List ℕ)) (was now : PartReader R) (run : ℕ) : Type 0 where
+pub record IsHeaderRead {R : Type 0} (remaining : R → Option (List ℕ)) (was now : PartReader R) (run : ℕ) : Type 0 where
   pub told : header_of remaining now ≡ Some (Ok (run, ranges_read now))
   pub apart : AreRanges (ranges_read now)
   pub header : StaysKnown (header_of remaining was) (header_of remaining now)
@@ -92,7 +92,7 @@ pub record IsRead {R : Type 0} (remaining : R → Option (List ℕ)) (was now : 
 -- the same of the first `count` inputs; nothing was read of the others
 abbrev pub AreReadTo : {R : Type 0} → (R → Option (List ℕ)) → ℕ → List (PartReader R) → List (PartReader R) → List ℕ → Type 0
 AreReadTo remaining zero was now runs = (now ≡ was) × (runs ≡ [])
-AreReadTo remaining (suc count) (first ∷ was) (first_now ∷ now) (run ∷ runs) = IsRead remaining first first_now run × AreReadTo remaining count was now runs
+AreReadTo remaining (suc count) (first ∷ was) (first_now ∷ now) (run ∷ runs) = IsHeaderRead remaining first first_now run × AreReadTo remaining count was now runs
 AreReadTo remaining (suc count) was now runs = ⊥
 
 -- The header of each input is read, and this is the header of their join, to whose points all of them keep.

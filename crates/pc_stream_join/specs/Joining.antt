@@ -10,7 +10,7 @@ use Rattle.pc_io.specs.declared.tally.Tally.{Tally}
 use Rattle.pc_model.specs.Database.{KeysRise}
 use Rattle.pc_model.specs.Files.{File}
 use Rattle.pc_model.specs.Sets as set
-use Rattle.pc_model.specs.TripleLists.{entries_of}
+use Rattle.pc_model.specs.TripleLists.{map_entries}
 use Rattle.pc_part.specs.declared.ranges.Range.{Range}
 use Rattle.pc_part.specs.Lawful.{IsPartFile}
 use Rattle.pc_part.specs.Reading.{part_at, part_of_fields}
@@ -27,16 +27,16 @@ use Rattle.pc_stream_join.specs.Headers.{AreHeaded, HaveOneHeader, IsHeadersFaul
 use Rattle.pc_stream_join.specs.declared.join.Joined.{Joined}
 
 -- the file of a run, ranges and entries
-abbrev pub file_of : ℕ → List Range → List Triple → File
-file_of run ranges entries = part_of_fields (record { run = run; ranges = ranges; entries = entries })
+abbrev pub file_of_entries : ℕ → List Range → List Triple → File
+file_of_entries run ranges entries = part_of_fields (record { run = run; ranges = ranges; entries = entries })
 
 -- The text of a part of this run and these ranges was written, and it has this many entries; if the further entries of the inputs
 -- are known, they are the merge of them.
 pub record IsJoinWritten {R W : Type 0} (remaining : R → Option (List ℕ)) (contents : W → Option (List ℕ)) (run : ℕ) (ranges : List Range) (inputs : List (PartReader R)) (old new : Tally W) (count : ℕ) : Type 0 where
   pub given : List Triple
-  pub rise : KeysRise (entries_of given)
-  pub lawful : IsPartFile (file_of run ranges given)
-  pub text : Appends (contents (inner_of old)) (contents (inner_of new)) (part_text (file_of run ranges given))
+  pub rise : KeysRise (map_entries given)
+  pub lawful : IsPartFile (file_of_entries run ranges given)
+  pub text : Appends (contents (inner_of old)) (contents (inner_of new)) (part_text (file_of_entries run ranges given))
   pub many : count ≡ length given
   pub merge : (was : List Coming) → all_known (map (coming_of remaining) inputs) ≡ Some was → IsMerge was given
 
@@ -74,7 +74,7 @@ pub record IsStreamJoined {R W : Type 0} (remaining : R → Option (List ℕ)) (
   pub stays : StayKnown remaining inputs read
   pub headed : AreHeaded remaining run ranges read
   pub written : IsJoinWritten remaining contents run ranges read old new joined.entries
-  pub points : joined.points ≡ set.items (file_of run ranges written.given).points
+  pub points : joined.points ≡ set.items (file_of_entries run ranges written.given).points
 
 -- Why no join is written: the inputs have no header together, and the output is unchanged; or they have one, and their further
 -- entries can't be joined.

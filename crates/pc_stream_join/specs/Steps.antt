@@ -9,7 +9,7 @@ use Rattle.pc_types.specs.declared.limits.TheConstants.{MOST_FILE_ENTRIES}
 use Rattle.pc_io.specs.declared.tally.Tally.{Tally}
 use Rattle.pc_model.specs.Database.{KeysRise}
 use Rattle.pc_model.specs.Sets as set
-use Rattle.pc_model.specs.TripleLists.{entries_of}
+use Rattle.pc_model.specs.TripleLists.{map_entries}
 use Rattle.pc_part.specs.declared.ranges.Range.{Range}
 use Rattle.pc_part.specs.Lawful.{HasLimits}
 use Rattle.pc_part.specs.Parts.{AreCovered, AreRanges, points_of}
@@ -22,7 +22,7 @@ use Rattle.pc_merge.specs.Standings.{AreWithin}
 use Rattle.pc_streams.specs.declared.reader.PartReader.{PartReader}
 use Rattle.pc_streams.specs.Readers.{coming_of, reads_within, standing_of}
 use Rattle.pc_stream_join.specs.Joining.{IsJoinRefusal, IsJoinWritten, IsUnjoinedFor, JoinStands, LeavesShort}
-use Rattle.pc_stream_join.specs.Writing.{Writing, header_text}
+use Rattle.pc_stream_join.specs.Writing.{Writing, part_header_text}
 
 -- the arguments of the join: the run and the ranges of its header, the inputs, and the output
 pub record Begun (R W : Type 0) : Type 0 where
@@ -39,14 +39,14 @@ HasGivenLeft was given known = (left : List Coming) × (known ≡ Some left) × 
 pub record IsSoFar {R W : Type 0} (contents : W → Option (List ℕ)) (begun : Begun R W) (given : List Triple) (writing : Writing) (out : Tally W) : Type 0 where
   pub run_fits : begun.run < 2 ^ 64
   pub apart : AreRanges begun.ranges
-  pub rise : KeysRise (entries_of given)
+  pub rise : KeysRise (map_entries given)
   pub covered : AreCovered (points_of begun.ranges) given
   pub fit : All HasLimits given
   pub many : writing.count ≡ length given
   pub few : length given ≤ MOST_FILE_ENTRIES
   pub gone : List ℕ
   pub sent : Appends (contents (inner_of begun.out)) (contents (inner_of out)) gone
-  pub text : gone ++ writing.kept ≡ header_text begun.run begun.ranges ++ flat_map triple_text given
+  pub text : gone ++ writing.kept ≡ part_header_text begun.run begun.ranges ++ flat_map triple_text given
   pub failures : failures_of out ≡ failures_of begun.out
 
 -- A join on its way: the merge gave these entries, and they were written. Nothing was refused.

@@ -16,18 +16,18 @@ pub record Writing : Type 0 where
   pub count : ℕ
 
 -- the bytes before the entries
-abbrev pub header_text : ℕ → List Range → List ℕ
-header_text run ranges = head_text run (length ranges) ++ flat_map bounds_text ranges
+abbrev pub part_header_text : ℕ → List Range → List ℕ
+part_header_text run ranges = head_text run (length ranges) ++ flat_map bounds_text ranges
 
 -- an allocation failed, which no count shows, or the device failed
 abbrev pub FailsFor : {T : Type 0} → Tally T → Tally T → Refusal → Type 0
 FailsFor old new why = ((why ≡ OutOfMemory) × (failures_of new ≡ failures_of old)) ⊎ ((why ≡ Device) × HasRisen (failures_of old) (failures_of new))
 
 -- A text comes after the bytes that are kept: a beginning of both goes out, and the rest is kept then.
-abbrev pub GoesOut : {T : Type 0} → (T → Option (List ℕ)) → Tally T → Tally T → List ℕ → List ℕ → List ℕ → Result (Unit {0}) Refusal → Type 0
-GoesOut contents old new kept kept_now text (Ok u) =
+abbrev pub WritesBuffered : {T : Type 0} → (T → Option (List ℕ)) → Tally T → Tally T → List ℕ → List ℕ → List ℕ → Result (Unit {0}) Refusal → Type 0
+WritesBuffered contents old new kept kept_now text (Ok u) =
     (gone : List ℕ) × Appends (contents (inner_of old)) (contents (inner_of new)) gone × (gone ++ kept_now ≡ kept ++ text) × (failures_of new ≡ failures_of old)
-GoesOut contents old new kept kept_now text (Err why) = FailsFor old new why × AppendsBeginning (contents (inner_of old)) (contents (inner_of new)) (kept ++ text)
+WritesBuffered contents old new kept kept_now text (Err why) = FailsFor old new why × AppendsBeginning (contents (inner_of old)) (contents (inner_of new)) (kept ++ text)
 
 -- The bytes that are kept go out with the end after them, or not all of that.
 abbrev pub Ends : {T : Type 0} → (T → Option (List ℕ)) → Tally T → Tally T → List ℕ → ℕ → Result ℕ Refusal → Type 0

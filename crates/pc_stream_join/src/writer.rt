@@ -5,7 +5,7 @@ ghost use Rattle.pc_part.specs.Parts.{AreRanges};
 ghost use Rattle.pc_part.specs.Texts.{triple_text};
 ghost use Rattle.pc_io.specs.Tallies.{Puts};
 ghost use Rattle.pc_types.specs.declared.refusal.Refusal.{Refusal};
-ghost use Rattle.pc_stream_join.specs.Writing.{Ends, GoesOut, header_text};
+ghost use Rattle.pc_stream_join.specs.Writing.{Ends, WritesBuffered, part_header_text};
 
 use pc_entries::EntryText;
 use pc_io::Tally;
@@ -42,7 +42,7 @@ impl PartWriter {
     // Keeps the header, which comes before the entries. It allocates room for a piece and the header.
     pub(crate) fn new(alloc: Global, header: &PartHeader) -> Result<PartWriter, Refusal>
         requires { AreRanges header.now.ranges.items }
-        ensures begun { IfOk result (λ writer. writer ≡ record { kept = header_text header.now.run header.now.ranges.items; count = 0 }) }
+        ensures begun { IfOk result (λ writer. writer ≡ record { kept = part_header_text header.now.run header.now.ranges.items; count = 0 }) }
         ensures memory { IfErr result (λ why. why ≡ Refusal.OutOfMemory) }
         ensures run { OnOk result (header.now.run < 2 ^ 64) }
     {
@@ -71,7 +71,7 @@ impl PartWriter {
         entry: &EntryText,
     ) -> Result<(), Refusal>
         requires { self.old.count < MOST_FILE_ENTRIES }
-        ensures goes { GoesOut W.contents out.old out.new self.old.kept self.new.kept (triple_text entry.now) result }
+        ensures goes { WritesBuffered W.contents out.old out.new self.old.kept self.new.kept (triple_text entry.now) result }
         ensures counted { OnOk result (self.new.count ≡ self.old.count + 1) }
         ensures lawful { HasLimits entry.now }
     {

@@ -8,7 +8,7 @@ use Rattle.pc_io.specs.declared.formats.Format.{Format}
 use Rattle.pc_part.specs.declared.ranges.Range.{Range}
 use Rattle.pc_part.specs.Reading.{next_entry_at}
 use Rattle.pc_merge.specs.Coming.{Coming, after_entry}
-use Rattle.pc_streams.specs.Coming.{coming_from, coming_at, coming_of_bytes}
+use Rattle.pc_streams.specs.Coming.{coming_from, coming_after_key, coming_of_bytes}
 use Rattle.pc_streams.proofs.Shrinking.{next_shrinks}
 
 -- of no bytes none is read
@@ -23,20 +23,20 @@ same_others f g count (Ok (None, rest)) h = refl
 same_others f g count (Ok (Some entry, rest)) h = ap (after_entry entry) (h entry.key rest (Some entry) refl)
 
 -- more turns than there are bytes change nothing
-pub turns_enough : (format : Format) (t u : ℕ) (ranges : List Range) (count : ℕ) (last bytes : List ℕ) → length bytes ≤ t → length bytes ≤ u → coming_at format t ranges count last bytes ≡ coming_at format u ranges count last bytes
-unfolding coming_at
+pub turns_enough : (format : Format) (t u : ℕ) (ranges : List Range) (count : ℕ) (last bytes : List ℕ) → length bytes ≤ t → length bytes ≤ u → coming_after_key format t ranges count last bytes ≡ coming_after_key format u ranges count last bytes
+unfolding coming_after_key
 turns_enough format zero zero ranges count last bytes p q = refl
-turns_enough format zero (suc u) ranges count last [] p q = ap (coming_from (coming_at format u ranges (one_more count)) count) (sym (none_read format ranges last))
-turns_enough format (suc t) zero ranges count last [] p q = ap (coming_from (coming_at format t ranges (one_more count)) count) (none_read format ranges last)
+turns_enough format zero (suc u) ranges count last [] p q = ap (coming_from (coming_after_key format u ranges (one_more count)) count) (sym (none_read format ranges last))
+turns_enough format (suc t) zero ranges count last [] p q = ap (coming_from (coming_after_key format t ranges (one_more count)) count) (none_read format ranges last)
 turns_enough format zero (suc u) ranges count last (b ∷ bytes) p q = absurd (omega arith)
 turns_enough format (suc t) zero ranges count last (b ∷ bytes) p q = absurd (omega arith)
 turns_enough format (suc t) (suc u) ranges count last bytes p q =
-    same_others (coming_at format t ranges (one_more count)) (coming_at format u ranges (one_more count)) count (next_entry_at format ranges last bytes)
+    same_others (coming_after_key format t ranges (one_more count)) (coming_after_key format u ranges (one_more count)) count (next_entry_at format ranges last bytes)
     (λ key rest next is. let fewer = next_shrinks format ranges last bytes next rest is in turns_enough format t u ranges (one_more count) key rest (omega arith) (omega arith))
 
 -- one step
 pub coming_is : (format : Format) (ranges : List Range) (count : ℕ) (last bytes : List ℕ) → coming_of_bytes format ranges count last bytes ≡ coming_from (coming_of_bytes format ranges (one_more count)) count (next_entry_at format ranges last bytes)
-unfolding coming_at
+unfolding coming_after_key
 coming_is format ranges count last [] = ap (coming_from (coming_of_bytes format ranges (one_more count)) count) (sym (none_read format ranges last))
-coming_is format ranges count last (b ∷ bytes) = same_others (coming_at format (length bytes) ranges (one_more count)) (coming_of_bytes format ranges (one_more count)) count (next_entry_at format ranges last (b ∷ bytes))
+coming_is format ranges count last (b ∷ bytes) = same_others (coming_after_key format (length bytes) ranges (one_more count)) (coming_of_bytes format ranges (one_more count)) count (next_entry_at format ranges last (b ∷ bytes))
     (λ key rest next is. let fewer = next_shrinks format ranges last (b ∷ bytes) next rest is in turns_enough format (length bytes) (length rest) ranges (one_more count) key rest (omega arith) (omega arith))

@@ -12,7 +12,7 @@ use Rattle.pc_model.specs.Database.{key_cmp}
 use Rattle.pc_model.specs.Points.{AtPoint}
 use Rattle.pc_part.specs.declared.ranges.Range.{Range}
 use Rattle.pc_part.specs.Parts.{covers}
-use Rattle.pc_part.specs.Reading.{next_key_at, point_at, entry_at, next_entry_at}
+use Rattle.pc_part.specs.Reading.{next_key_at, point_at, part_entry_at, next_entry_at}
 use Rattle.pc_streams.specs.Places.{IsNextEntry, IsLawfulNext}
 
 pub key_rises : (format : Format) (last : List ℕ) (count : ℕ) (bytes : List ℕ) (key : List ℕ × List ℕ) → next_key_at format last count bytes ≡ Ok key → is_lt (key_cmp last key.0) ≡ true
@@ -38,8 +38,8 @@ at_point point content = record { point = point; content = content }
 abbrev with_content : ℕ → Option (List ℕ) × List ℕ → Result There Refusal
 with_content point content = Ok (at_point point content.0, content.1)
 
-entry_covered : (ranges : List Range) (bytes : List ℕ) (there : There) → entry_at ranges bytes ≡ Ok there → covers ranges there.0.point ≡ true
-unfolding entry_at
+entry_covered : (ranges : List Range) (bytes : List ℕ) (there : There) → part_entry_at ranges bytes ≡ Ok there → covers ranges there.0.point ≡ true
+unfolding part_entry_at
 entry_covered ranges bytes there is =
     let p = bind_ok (point_at ranges bytes) (λ point. content_at Short point.1 >>= with_content point.0) there is in
     let c = bind_ok (content_at Short p.0.1) (with_content p.0.0) there p.2 in
@@ -55,14 +55,14 @@ abbrev pub with_entry : List ℕ → There → Result Next Refusal
 with_entry key there = Ok (Some (triple key there.0), there.1)
 
 abbrev pub with_key : List Range → List ℕ × List ℕ → Result Next Refusal
-with_key ranges key = entry_at ranges key.1 >>= with_entry key.0
+with_key ranges key = part_entry_at ranges key.1 >>= with_entry key.0
 
 -- the bytes after a length
 behind_length : (format : Format) (ranges : List Range) (last : List ℕ) (t : Bool) (count : ℕ) (rest : List ℕ) (next : Next) → cond t (Ok (None, rest)) (next_key_at format last count rest >>= with_key ranges) ≡ Ok next → IsLawfulNext ranges last (Ok next.0)
 behind_length format ranges last true count rest next is = subst (λ (x : Next). IsLawfulNext ranges last (Ok x.0)) (ok_is (None, rest) next is) tt
 behind_length format ranges last false count rest next is =
     let k = bind_ok (next_key_at format last count rest) (with_key ranges) next is in
-    let e = bind_ok (entry_at ranges k.0.1) (with_entry k.0.0) next k.2 in
+    let e = bind_ok (part_entry_at ranges k.0.1) (with_entry k.0.0) next k.2 in
     let entry : IsNextEntry ranges last (triple k.0.0 e.0.0) = record { rises = key_rises format last count rest k.0 k.1; covered = entry_covered ranges k.0.1 e.0 e.1 } in
     subst (λ (x : Next). IsLawfulNext ranges last (Ok x.0)) (ok_is (Some (triple k.0.0 e.0.0), e.0.1) next e.2) entry
 

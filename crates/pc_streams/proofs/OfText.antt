@@ -9,7 +9,7 @@ use Rattle.pc_io.specs.Counted.{HasRisen}
 use Rattle.pc_io.specs.Tallies.{failures_of}
 use Rattle.pc_io.specs.declared.tally.Tally.{Tally}
 use Rattle.pc_part.specs.RoundTrips.{IsLocal}
-use Rattle.pc_streams.specs.Draws.{Counts, Draws}
+use Rattle.pc_streams.specs.Draws.{CountsFailures, Draws}
 
 pub keeps_on : (a b c : Option (List ℕ)) → Keeps a b → Keeps b c → Keeps a c
 keeps_on None b c p q = tt
@@ -77,10 +77,10 @@ module _ {X Y : Type 0} (view : X → Y) (read : List ℕ → Result (Y × List 
       (refused old rem new buffer after why e was (keeps_on old _ _ was then) (λ memory. ap read (sym same) ∙ is memory) cause)
 
 -- the count since an earlier call
-counted : (X Y : Type 0) {T : Type 0} (old mid new : Tally T) (e : Refusal) → failures_of mid ≡ failures_of old → Counts {X = X} mid new (Err e) → Counts {X = Y} old new (Err e)
+counted : (X Y : Type 0) {T : Type 0} (old mid new : Tally T) (e : Refusal) → failures_of mid ≡ failures_of old → CountsFailures {X = X} mid new (Err e) → CountsFailures {X = Y} old new (Err e)
 counted X Y old mid new Device same h = subst (λ (n : ℕ). HasRisen n (failures_of new)) same h
 counted X Y old mid new e same h = h ∙ same
 
-pub counts_since : (X : Type 0) {Y T : Type 0} (old mid new : Tally T) (e : Refusal) (result : Result Y Refusal) → failures_of mid ≡ failures_of old → Counts {X = X} mid new (Err e) → IsErr result × IsErrAnd result (λ f. f ≡ e) → Counts old new result
+pub counts_since : (X : Type 0) {Y T : Type 0} (old mid new : Tally T) (e : Refusal) (result : Result Y Refusal) → failures_of mid ≡ failures_of old → CountsFailures {X = X} mid new (Err e) → IsErr result × IsErrAnd result (λ f. f ≡ e) → CountsFailures old new result
 counts_since X old mid new e (Ok y) same h given = let bad : false ≡ true = given.0 in absurd cc
-counts_since X {Y} old mid new e (Err f) same h given = subst (λ (r : Refusal). Counts {X = Y} old new (Err r)) (sym given.1) (counted X Y old mid new e same h)
+counts_since X {Y} old mid new e (Err f) same h given = subst (λ (r : Refusal). CountsFailures {X = Y} old new (Err r)) (sym given.1) (counted X Y old mid new e same h)

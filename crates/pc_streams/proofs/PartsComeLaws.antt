@@ -16,10 +16,10 @@ use Rattle.pc_io.specs.declared.formats.Format.{Format}
 use Rattle.pc_types.proofs.ByteLaws.{IsBytes-drop}
 use Rattle.pc_io.proofs.FieldLaws.{wide32, number_takes}
 use Rattle.pc_part.specs.declared.ranges.Range.{Range}
-use Rattle.pc_part.specs.Reading.{next_entry_at, entries_from, entries_at, header_at, PartFields, part_fields_at, part_of_fields}
+use Rattle.pc_part.specs.Reading.{next_entry_at, entries_from, part_entries_at, part_header_at, PartFields, part_fields_at, part_of_fields}
 use Rattle.pc_part.proofs.LocalSteps.{next_entry_local, header_local}
 use Rattle.pc_merge.specs.Coming.{Coming, ended, refused}
-use Rattle.pc_streams.specs.Coming.{part_end_at, coming_from, coming_at, coming_behind, part_coming, part_header}
+use Rattle.pc_streams.specs.Coming.{part_end_at, coming_from, coming_after_key, coming_behind, part_coming, part_header}
 use Rattle.pc_streams.specs.Laws.{FieldsCome, PartsCome, fields_of, fields_coming}
 
 bytes_of : (bytes : List ℕ) → All (λ byte. byte < 256) bytes → IsBytes bytes
@@ -81,12 +81,12 @@ entry_in_front header front entry (Ok behind) = ap (λ (es : List Triple). numbe
 
 -- what is read of entries with some in front, and what is to come of them
 abbrev AreAlike : Format → ℕ → ℕ × List Range → List Triple → List ℕ → List ℕ → Type 0
-AreAlike format turns header front last bytes = (entries_at format turns header.1 last bytes >>= after_front header front) ≡ with_coming header front (coming_at format turns header.1 (capped (length front)) last bytes)
+AreAlike format turns header front last bytes = (part_entries_at format turns header.1 last bytes >>= after_front header front) ≡ with_coming header front (coming_after_key format turns header.1 (capped (length front)) last bytes)
 
 -- one step
 step_alike : (format : Format) (turns : ℕ) (header : ℕ × List Range) (front : List Triple) (last bytes : List ℕ) → IsBytes bytes → ((more : List Triple) (key rest : List ℕ) → IsBytes rest → AreAlike format turns header more key rest)
     → (r : Result (Option Triple × List ℕ) Refusal) → next_entry_at format header.1 last bytes ≡ r
-    → ((r >>= λ next. entries_from (entries_at format turns header.1) next.0 next.1) >>= after_front header front) ≡ with_coming header front (coming_from (coming_at format turns header.1 (one_more (capped (length front)))) (capped (length front)) r)
+    → ((r >>= λ next. entries_from (part_entries_at format turns header.1) next.0 next.1) >>= after_front header front) ≡ with_coming header front (coming_from (coming_after_key format turns header.1 (one_more (capped (length front)))) (capped (length front)) r)
 step_alike format turns header front last bytes fits again (Err why) is = refl
 step_alike format turns header front last bytes fits again (Ok (None, rest)) is =
     let back = (next_entry_local format header.1 last).back bytes None rest is in
@@ -96,23 +96,23 @@ step_alike format turns header front last bytes fits again (Ok (Some entry, rest
     let back = (next_entry_local format header.1 last).back bytes (Some entry) rest is in
     let left = bytes_behind bytes back.0 rest back.1 fits in
     let many : length (front ++ entry ∷ []) ≡ suc (length front) = omega (arith, length-append front (entry ∷ [])) in
-    let coming = coming_at format turns header.1 (one_more (capped (length front))) entry.key rest in
-    entry_in_front header front entry (entries_at format turns header.1 entry.key rest)
+    let coming = coming_after_key format turns header.1 (one_more (capped (length front))) entry.key rest in
+    entry_in_front header front entry (part_entries_at format turns header.1 entry.key rest)
     ∙ again (front ++ entry ∷ []) entry.key rest left
-    ∙ ap (λ (count : ℕ). with_coming header (front ++ entry ∷ []) (coming_at format turns header.1 count entry.key rest)) (sym (one_more_is (length front) (length (front ++ entry ∷ [])) many))
+    ∙ ap (λ (count : ℕ). with_coming header (front ++ entry ∷ []) (coming_after_key format turns header.1 count entry.key rest)) (sym (one_more_is (length front) (length (front ++ entry ∷ [])) many))
     ∙ ap (λ (es : List Triple). fields_of header es coming.fault) (append_assoc front (entry ∷ []) coming.entries)
 
 entries_come : (format : Format) (turns : ℕ) (header : ℕ × List Range) (front : List Triple) (last bytes : List ℕ) → IsBytes bytes → AreAlike format turns header front last bytes
-unfolding entries_at coming_at
+unfolding part_entries_at coming_after_key
 entries_come format zero header front last bytes fits = refl
 entries_come format (suc turns) header front last bytes fits = step_alike format turns header front last bytes fits (entries_come format turns header) (next_entry_at format header.1 last bytes) refl
 
 pub fields_come : FieldsCome
 unfolding part_fields_at
-fields_come bytes all = by (header_at bytes) refl
+fields_come bytes all = by (part_header_at bytes) refl
   where
-    by : (r : Result ((Format × (ℕ × List Range)) × List ℕ) Refusal) → header_at bytes ≡ r
-        → (r >>= λ header. (entries_at header.0.0 (length header.1) header.0.1.1 [] header.1 >>= after_front header.0.1 [])) ≡ ((r >>= λ header. Ok header.0.1) >>= λ header. fields_coming header (coming_behind r))
+    by : (r : Result ((Format × (ℕ × List Range)) × List ℕ) Refusal) → part_header_at bytes ≡ r
+        → (r >>= λ header. (part_entries_at header.0.0 (length header.1) header.0.1.1 [] header.1 >>= after_front header.0.1 [])) ≡ ((r >>= λ header. Ok header.0.1) >>= λ header. fields_coming header (coming_behind r))
     by (Err why) is = refl
     by (Ok (header, rest)) is =
         let back = header_local.back bytes header rest is in

@@ -13,7 +13,7 @@ use Rattle.pc_io.specs.Fields.{◌>>=◌, where_true, bytes_at, number_at, space
 use Rattle.pc_model.specs.Database.{key_cmp}
 use Rattle.pc_part.specs.declared.ranges.Range.{Range}
 use Rattle.pc_part.specs.Parts.{covers}
-use Rattle.pc_part.specs.Reading.{next_key_at, point_at, entry_at, next_entry_at}
+use Rattle.pc_part.specs.Reading.{next_key_at, point_at, part_entry_at, next_entry_at}
 
 -- what is left is at most so much
 abbrev Leaves : {X : Type 0} → ℕ → Result (X × List ℕ) Refusal → Type 0
@@ -78,15 +78,15 @@ leaves_content (zero ∷ bytes) = omega arith
 leaves_content (suc zero ∷ bytes) = leaves_more (length bytes) (suc (length bytes)) _ (omega arith) (leaves_then (length bytes) (value_at Short bytes) with_value (leaves_value bytes) (λ value. omega arith))
 leaves_content (suc (suc kind) ∷ bytes) = tt
 
-leaves_entry : (ranges : List Range) (bytes : List ℕ) → Leaves (length bytes) (entry_at ranges bytes)
-unfolding entry_at point_at
+leaves_entry : (ranges : List Range) (bytes : List ℕ) → Leaves (length bytes) (part_entry_at ranges bytes)
+unfolding part_entry_at point_at
 leaves_entry ranges bytes = leaves_then (length bytes) _ _ (leaves_then (length bytes) _ _ (leaves_number w32 bytes) (λ point. leaves_where (covers ranges point.0) NotCovered point.0 point.1)) (λ point. leaves_then (length point.1) _ _ (leaves_content point.1) (λ content. omega arith))
 
 abbrev Next : Type 0
 Next = Option Triple × List ℕ
 
 -- after a length
-leaves_behind : (format : Format) (ranges : List Range) (last : List ℕ) (t : Bool) (count : ℕ) (rest : List ℕ) → Leaves {X = Option Triple} (length rest) (cond t (Ok (None, rest)) (next_key_at format last count rest >>= λ key. entry_at ranges key.1 >>= λ there. Ok (Some (record { key = key.0; point = there.0.point; content = there.0.content }), there.1)))
+leaves_behind : (format : Format) (ranges : List Range) (last : List ℕ) (t : Bool) (count : ℕ) (rest : List ℕ) → Leaves {X = Option Triple} (length rest) (cond t (Ok (None, rest)) (next_key_at format last count rest >>= λ key. part_entry_at ranges key.1 >>= λ there. Ok (Some (record { key = key.0; point = there.0.point; content = there.0.content }), there.1)))
 leaves_behind format ranges last true count rest = omega arith
 leaves_behind format ranges last false count rest = leaves_then (length rest) _ _ (leaves_key format last count rest) (λ key. leaves_then (length key.1) _ _ (leaves_entry ranges key.1) (λ there. omega arith))
 

@@ -14,7 +14,7 @@ use Rattle.pc_io.specs.declared.formats.Format.{Format}
 use Rattle.pc_io.specs.declared.formats.Format.TheVariants.{First, Second}
 use Rattle.pc_part.specs.declared.ranges.Range.{Range}
 use Rattle.pc_part.specs.Parts.{covers}
-use Rattle.pc_part.specs.Reading.{items_at, range_at, ranges_at, next_key_at, point_at, entry_at, next_entry_at, header_at}
+use Rattle.pc_part.specs.Reading.{items_at, range_at, ranges_at, next_key_at, point_at, part_entry_at, next_entry_at, part_header_at}
 use Rattle.pc_part.specs.Texts.{part_magic}
 use Rattle.pc_streams.specs.Refusals.{IsReadRefusal, IsTextFault}
 use Rattle.pc_streams.proofs.OfText.{Stands}
@@ -57,15 +57,15 @@ spared_content (zero ∷ bytes) = tt
 spared_content (suc zero ∷ bytes) = spared_then _ _ (spared_value bytes) (λ value. tt)
 spared_content (suc (suc kind) ∷ bytes) = tt
 
-spared_entry : (ranges : List Range) (bytes : List ℕ) → IsSpared (entry_at ranges bytes)
-unfolding entry_at point_at
+spared_entry : (ranges : List Range) (bytes : List ℕ) → IsSpared (part_entry_at ranges bytes)
+unfolding part_entry_at point_at
 spared_entry ranges bytes = spared_then _ _ (spared_then _ _ (spared_number w32 bytes) (λ point. spared_where (covers ranges point.0) NotCovered point tt)) (λ point. spared_then _ _ (spared_content point.1) (λ content. tt))
 
 pub spared_next : (format : Format) (ranges : List Range) (last bytes : List ℕ) → IsSpared (next_entry_at format ranges last bytes)
 unfolding next_entry_at
 spared_next format ranges last bytes = spared_then _ _ (spared_number w16 bytes) (λ count. by (eqb count.0 0) count.0 count.1)
   where
-    by : (t : Bool) (count : ℕ) (rest : List ℕ) → IsSpared {X = Option Triple × List ℕ} (cond t (Ok (None, rest)) (next_key_at format last count rest >>= λ key. entry_at ranges key.1 >>= λ there. Ok (Some (record { key = key.0; point = there.0.point; content = there.0.content }), there.1)))
+    by : (t : Bool) (count : ℕ) (rest : List ℕ) → IsSpared {X = Option Triple × List ℕ} (cond t (Ok (None, rest)) (next_key_at format last count rest >>= λ key. part_entry_at ranges key.1 >>= λ there. Ok (Some (record { key = key.0; point = there.0.point; content = there.0.content }), there.1)))
     by true count rest = tt
     by false count rest = spared_then _ _ (spared_key format last count rest) (λ key. spared_then _ _ (spared_entry ranges key.1) (λ there. tt))
 
@@ -120,7 +120,7 @@ unfolding items_at
 spared_ranges zero least bytes = tt
 spared_ranges (suc count) least bytes = spared_then _ _ (spared_range least bytes) (λ first. spared_then _ _ (spared_ranges count (first.0.high + 2) first.1) (λ others. tt))
 
-pub spared_header : (bytes : List ℕ) → IsSpared (header_at bytes)
-unfolding header_at
+pub spared_header : (bytes : List ℕ) → IsSpared (part_header_at bytes)
+unfolding part_header_at
 spared_header bytes = spared_then _ _ (spared_magic (part_magic First) (part_magic Second) bytes) (λ start. spared_then _ _ (spared_number w64 start.1) (λ run. spared_then _ _ (spared_number w32 run.1)
     (λ count. spared_then _ _ (spared_where (nat_lt 0 count.0) BadRanges count.0 tt) (λ some. spared_then _ _ (spared_ranges some 1 count.1) (λ ranges. tt)))))

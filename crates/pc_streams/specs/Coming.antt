@@ -8,7 +8,7 @@ use Rattle.pc_types.specs.declared.Refusal.TheVariants.{Short, BadLength, Traili
 use Rattle.pc_types.specs.declared.Triple.{Triple}
 use Rattle.pc_io.specs.declared.formats.Format.{Format}
 use Rattle.pc_part.specs.declared.ranges.Range.{Range}
-use Rattle.pc_part.specs.Reading.{next_entry_at, header_at}
+use Rattle.pc_part.specs.Reading.{next_entry_at, part_header_at}
 use Rattle.pc_merge.specs.Coming.{Coming, ended, refused, after_entry}
 
 -- the end of a part after that many entries: their number, and nothing more
@@ -24,13 +24,13 @@ coming_from others count (Ok (Some entry, rest)) = after_entry entry (others ent
 
 -- The entries to come after a last key, with that many entries before it; the count stays at the greatest u64, which no
 -- number of 4 bytes is. Each entry takes more than one of the bytes, so that no more turns are needed than there are bytes.
-unfoldable pub coming_at : Format → ℕ → List Range → ℕ → List ℕ → List ℕ → Coming
-coming_at format zero ranges count last bytes = refused Short
-coming_at format (suc turns) ranges count last bytes = coming_from (coming_at format turns ranges (one_more count)) count (next_entry_at format ranges last bytes)
+unfoldable pub coming_after_key : Format → ℕ → List Range → ℕ → List ℕ → List ℕ → Coming
+coming_after_key format zero ranges count last bytes = refused Short
+coming_after_key format (suc turns) ranges count last bytes = coming_from (coming_after_key format turns ranges (one_more count)) count (next_entry_at format ranges last bytes)
 
 -- the same of all of the bytes
 abbrev pub coming_of_bytes : Format → List Range → ℕ → List ℕ → List ℕ → Coming
-coming_of_bytes format ranges count last bytes = coming_at format (length bytes) ranges count last bytes
+coming_of_bytes format ranges count last bytes = coming_after_key format (length bytes) ranges count last bytes
 
 -- what is to come of a part after its header
 abbrev pub coming_behind : Result ((Format × (ℕ × List Range)) × List ℕ) Refusal → Coming
@@ -39,8 +39,8 @@ coming_behind (Ok (header, rest)) = coming_of_bytes header.0 header.1.1 0 [] res
 
 -- what is to come of a part whose text is all of the bytes
 abbrev pub part_coming : List ℕ → Coming
-part_coming bytes = coming_behind (header_at bytes)
+part_coming bytes = coming_behind (part_header_at bytes)
 
 -- its run and its ranges
 abbrev pub part_header : List ℕ → Result (ℕ × List Range) Refusal
-part_header bytes = header_at bytes >>= λ header. Ok header.0.1
+part_header bytes = part_header_at bytes >>= λ header. Ok header.0.1

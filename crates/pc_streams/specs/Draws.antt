@@ -19,7 +19,7 @@ Draws view None new result read = ⊤
 Draws view (Some xs) new result read = DrawsKnown view xs new result read
 
 -- failures are counted: Device is returned if the count increased, and otherwise the count stays
-abbrev pub Counts : {X T : Type 0} → Tally T → Tally T → Result X Refusal → Type 0
-Counts old new (Ok x) = failures_of new ≡ failures_of old
-Counts old new (Err Device) = HasRisen (failures_of old) (failures_of new)
-Counts old new (Err e) = failures_of new ≡ failures_of old
+abbrev pub CountsFailures : {X T : Type 0} → Tally T → Tally T → Result X Refusal → Type 0
+CountsFailures old new (Ok x) = failures_of new ≡ failures_of old
+CountsFailures old new (Err Device) = HasRisen (failures_of old) (failures_of new)
+CountsFailures old new (Err e) = failures_of new ≡ failures_of old

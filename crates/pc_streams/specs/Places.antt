@@ -10,7 +10,7 @@ use Rattle.pc_io.specs.declared.formats.Format.{Format}
 use Rattle.pc_model.specs.Database.{key_cmp}
 use Rattle.pc_part.specs.Parts.{covers}
 use Rattle.pc_part.specs.declared.ranges.Range.{Range}
-use Rattle.pc_part.specs.Reading.{header_at}
+use Rattle.pc_part.specs.Reading.{part_header_at}
 use Rattle.pc_merge.specs.Coming.{Coming, ended, refused}
 use Rattle.pc_streams.specs.Coming.{coming_of_bytes}
 
@@ -30,7 +30,7 @@ first_place header = record { format = header.0; run = header.1.0; ranges = head
 
 -- the same if the header comes first in the bytes
 abbrev pub first_place_at : List ℕ → Result (Place × List ℕ) Refusal
-first_place_at bytes = header_at bytes >>= λ header. Ok (first_place header.0, header.1)
+first_place_at bytes = part_header_at bytes >>= λ header. Ok (first_place header.0, header.1)
 
 -- what is to come at a place, before bytes that may be known
 abbrev pub place_coming : Place → Option (List ℕ) → Option Coming

@@ -12,7 +12,7 @@ use Rattle.pc_streams.specs.declared.reader.PartReader.{PartReader}
 use Rattle.pc_streams.specs.declared.reader.PartStage.{PartStage}
 use Rattle.pc_streams.specs.declared.reader.PartStage.TheVariants.{Unread, Among, Refused}
 use Rattle.pc_streams.specs.Coming.{part_coming, part_header}
-use Rattle.pc_streams.specs.Draws.{Counts}
+use Rattle.pc_streams.specs.Draws.{CountsFailures}
 use Rattle.pc_streams.specs.Places.{place_coming}
 use Rattle.pc_streams.specs.Sources.{text_left, tally_of}
 
@@ -84,7 +84,7 @@ Refuses None now (Err why) = now ≡ Some why
 
 -- failures are counted; if a refusal is returned again nothing is read
 abbrev pub CountsOnce : {X T : Type 0} → Option Refusal → Tally T → Tally T → Result X Refusal → Type 0
-CountsOnce None old new result = Counts old new result
+CountsOnce None old new result = CountsFailures old new result
 CountsOnce (Some why) old new result = new ≡ old
 
 -- what a call answered is what is known of it; or memory or a device failed

@@ -2,7 +2,7 @@
 ghost use Rattle.std.specs.Prelude.{◌≡◌, ◌<◌, ◌≤◌, ◌+◌, ◌-◌, [], length, take, drop, vec_len, Ok, OnOk, OnErr, IfOk, IfErr, ◌⊎◌};
 ghost use Rattle.std.specs.Io.KnownBytes.{Keeps, IsAtEnd, prepend_known};
 ghost use Rattle.pc_io.specs.Tallies.{inner_of};
-ghost use Rattle.pc_streams.specs.Draws.{Counts};
+ghost use Rattle.pc_streams.specs.Draws.{CountsFailures};
 
 use pc_io::Tally;
 use pc_types::Refusal;
@@ -66,7 +66,7 @@ impl Buffer {
         ensures len { IfOk result (λ n. length self.new ≡ length self.old + n) }
         ensures ended { result ≡ Ok 0 → (self.new ≡ self.old) × IsAtEnd (R.remaining (inner_of from.new)) }
         ensures err { OnErr result (self.new ≡ self.old) }
-        ensures counts { Counts from.old from.new result }
+        ensures counts { CountsFailures from.old from.new result }
         ensures refusals { IfErr result (λ e. (e ≡ Refusal.OutOfMemory) ⊎ (e ≡ Refusal.Device)) }
     {
         self.to_front();

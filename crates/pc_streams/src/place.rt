@@ -8,7 +8,7 @@ ghost use Rattle.pc_entries.specs.Lent.{IsHead};
 ghost use Rattle.pc_part.specs.Parts.{AreRanges};
 ghost use Rattle.pc_merge.specs.Coming.{GivesNext};
 ghost use Rattle.pc_streams.specs.Coming.{part_end_at};
-ghost use Rattle.pc_streams.specs.Draws.{Counts, Draws};
+ghost use Rattle.pc_streams.specs.Draws.{CountsFailures, Draws};
 ghost use Rattle.pc_streams.specs.Places.{first_place_at, place_coming, EndsAs, IsLawfulNext, PassesTo};
 ghost use Rattle.pc_streams.specs.Refusals.{IsReadRefusal};
 ghost use Rattle.pc_streams.specs.Sources.{text_left, tally_of};
@@ -50,7 +50,7 @@ impl Place {
     pub(crate) fn open<R: Read>(alloc: Global, source: &mut Source<R>) -> Result<Place, Refusal>
         ensures drawn { Draws (λ place. place) (text_left R.remaining source.old) (text_left R.remaining source.new) result first_place_at }
         ensures first { IfOk result (λ place. (place.last ≡ []) × (place.count ≡ 0) × (place.ended ≡ false)) }
-        ensures counts { Counts (tally_of source.old) (tally_of source.new) result }
+        ensures counts { CountsFailures (tally_of source.old) (tally_of source.new) result }
         ensures refusals { IfErr result IsReadRefusal }
     {
         let header = source.header(alloc)?;
@@ -90,7 +90,7 @@ impl Place {
         ensures over { self.old.ended ≡ true → result ≡ Ok None }
         ensures ends { result ≡ Ok None → self.new.ended ≡ true }
         ensures header { (self.new.run ≡ self.old.run) × (self.new.ranges ≡ self.old.ranges) }
-        ensures counts { Counts (tally_of source.old) (tally_of source.new) result }
+        ensures counts { CountsFailures (tally_of source.old) (tally_of source.new) result }
         ensures refusals { IfErr result IsReadRefusal }
     {
         if self.ended {
@@ -134,7 +134,7 @@ impl Place {
 // Reads the number of entries, and checks that nothing follows.
 fn read_end<R: Read>(source: &mut Source<R>, count: u64) -> Result<(), Refusal>
     ensures ends { EndsAs (option_map (λ bytes. part_end_at count (number_at Refusal.Short w32 bytes)) (text_left R.remaining source.old)) result }
-    ensures counts { Counts (tally_of source.old) (tally_of source.new) result }
+    ensures counts { CountsFailures (tally_of source.old) (tally_of source.new) result }
     ensures refusals { IfErr result IsReadRefusal }
 {
     let total = source.number()?;

@@ -4,9 +4,9 @@ ghost use Rattle.std.specs.Option.{option_map};
 ghost use Rattle.pc_io.specs.Tallies.{inner_of, failures_of};
 ghost use Rattle.pc_types.specs.declared.Refusal.{Refusal};
 ghost use Rattle.pc_part.specs.Parts.{AreRanges};
-ghost use Rattle.pc_merge.specs.Coming.{GivesNext, GivesWithin, Stands};
+ghost use Rattle.pc_merge.specs.Coming.{GivesNext, GivesWithin, KeepsRefusal};
 ghost use Rattle.pc_streams.specs.Coming.{part_coming, part_header};
-ghost use Rattle.pc_streams.specs.Draws.{Counts};
+ghost use Rattle.pc_streams.specs.Draws.{CountsFailures};
 ghost use Rattle.pc_streams.specs.Places.{IsLawfulNext, PassesTo};
 ghost use Rattle.pc_streams.specs.Refusals.{IsReadRefusal};
 ghost use Rattle.pc_streams.specs.Readers.{coming_of, header_of, refused_of, counted_by, ranges_read, last_given, has_ended, reads_within, standing_of, AnswersAs, CountsOnce, KeepsToRanges, Refuses, StaysKnown, TellsRanges};
@@ -77,7 +77,7 @@ impl<R: Read> PartReader<R> {
         ensures coming { OnOk result (StaysKnown (coming_of R.remaining self.old) (coming_of R.remaining self.new)) }
         ensures refused { Refuses (refused_of self.old) (refused_of self.new) result }
         ensures counts { CountsOnce (refused_of self.old) (counted_by self.old) (counted_by self.new) result }
-        ensures stands { Stands (standing_of self.old) (standing_of self.new) result }
+        ensures stands { KeepsRefusal (standing_of self.old) (standing_of self.new) result }
         ensures within { OnOk result (KeepsToRanges self.new (ranges_read self.new)) }
         ensures refusals { IfErr result IsReadRefusal }
     {
@@ -109,7 +109,7 @@ impl<R: Read> PartReader<R> {
         ensures stays { OnOk result (StaysKnown (header_of R.remaining self.old) (header_of R.remaining self.new)) }
         ensures coming { OnOk result (StaysKnown (coming_of R.remaining self.old) (coming_of R.remaining self.new)) }
         ensures refused { Refuses None (refused_of self.new) result }
-        ensures counts { Counts (counted_by self.old) (counted_by self.new) result }
+        ensures counts { CountsFailures (counted_by self.old) (counted_by self.new) result }
         ensures within { OnOk result (KeepsToRanges self.new (ranges_read self.new)) }
         ensures refusals { IfErr result IsReadRefusal }
     {
@@ -167,7 +167,7 @@ impl<R: Read> PartReader<R> {
         ensures ends { result ≡ Ok None → has_ended self.new ≡ true }
         ensures sound { OnOk result (refused_of self.new ≡ None) }
         ensures header { OnOk result (StaysKnown (header_of R.remaining self.old) (header_of R.remaining self.new)) }
-        ensures counts { Counts (counted_by self.old) (counted_by self.new) result }
+        ensures counts { CountsFailures (counted_by self.old) (counted_by self.new) result }
         ensures refusals { IfErr result IsReadRefusal }
     {
         let mut place = Place::open(self.alloc, &mut self.source)?;
@@ -204,7 +204,7 @@ impl<R: Read> Entries for PartReader<R> {
         ensures refused { Refuses (refused_of self.old) (refused_of self.new) result }
         ensures header { OnOk result (StaysKnown (header_of R.remaining self.old) (header_of R.remaining self.new)) }
         ensures counts { CountsOnce (refused_of self.old) (counted_by self.old) (counted_by self.new) result }
-        ensures stands { Stands (standing_of self.old) (standing_of self.new) result }
+        ensures stands { KeepsRefusal (standing_of self.old) (standing_of self.new) result }
         ensures within { GivesWithin reads_within self.old self.new result }
         ensures refusals { IfErr result IsReadRefusal }
     {

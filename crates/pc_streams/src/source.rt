@@ -6,8 +6,8 @@ ghost use Rattle.pc_io.specs.Fields.{number_at};
 ghost use Rattle.pc_io.specs.Tallies.{inner_of, failures_of};
 ghost use Rattle.pc_entries.specs.Lent.{IsHead};
 ghost use Rattle.pc_part.specs.Parts.{AreRanges, RangesFrom};
-ghost use Rattle.pc_part.specs.Reading.{header_at, next_entry_at};
-ghost use Rattle.pc_streams.specs.Draws.{Counts, Draws};
+ghost use Rattle.pc_part.specs.Reading.{part_header_at, next_entry_at};
+ghost use Rattle.pc_streams.specs.Draws.{CountsFailures, Draws};
 ghost use Rattle.pc_streams.specs.Places.{IsLawfulNext};
 ghost use Rattle.pc_streams.specs.Refusals.{IsReadRefusal};
 ghost use Rattle.pc_streams.specs.Sources.{text_left, tally_of, buffered, is_over_at};
@@ -49,9 +49,9 @@ impl<R: Read> Source<R> {
     /// The header, which comes first. Fails with `OutOfMemory` and, if and only if the count of failures has increased, with `Device`,
     /// else with `Short`, `BadMagic` or `BadRanges`, the first fault of the text that is left.
     pub fn header(&mut self, alloc: Global) -> Result<PartHeader, Refusal>
-        ensures drawn { Draws (λ header. (header.format, (header.run, header.ranges.items))) (text_left R.remaining self.old) (text_left R.remaining self.new) result header_at }
+        ensures drawn { Draws (λ header. (header.format, (header.run, header.ranges.items))) (text_left R.remaining self.old) (text_left R.remaining self.new) result part_header_at }
         ensures apart { IfOk result (λ header. AreRanges header.ranges.items) }
-        ensures counts { Counts (tally_of self.old) (tally_of self.new) result }
+        ensures counts { CountsFailures (tally_of self.old) (tally_of self.new) result }
         ensures refusals { IfErr result IsReadRefusal }
     {
         loop {
@@ -82,7 +82,7 @@ impl<R: Read> Source<R> {
         requires head { IsHead last.now last_head }
         ensures drawn { Draws (λ entry. entry) (text_left R.remaining self.old) (text_left R.remaining self.new) result (next_entry_at format ranges.now last.now) }
         ensures lawful { IsLawfulNext ranges.now last.now result }
-        ensures counts { Counts (tally_of self.old) (tally_of self.new) result }
+        ensures counts { CountsFailures (tally_of self.old) (tally_of self.new) result }
         ensures refusals { IfErr result IsReadRefusal }
     {
         loop {
@@ -102,7 +102,7 @@ impl<R: Read> Source<R> {
     /// with `Device`, else with `Short` if fewer bytes are left.
     pub fn number(&mut self) -> Result<u32, Refusal>
         ensures drawn { Draws (λ number. number) (text_left R.remaining self.old) (text_left R.remaining self.new) result (number_at Refusal.Short w32) }
-        ensures counts { Counts (tally_of self.old) (tally_of self.new) result }
+        ensures counts { CountsFailures (tally_of self.old) (tally_of self.new) result }
         ensures refusals { IfErr result IsReadRefusal }
     {
         loop {
@@ -120,7 +120,7 @@ impl<R: Read> Source<R> {
     /// Whether no byte is left. Fails with `OutOfMemory` and, if and only if the count of failures has increased, with `Device`.
     pub fn is_over(&mut self) -> Result<bool, Refusal>
         ensures drawn { Draws (λ over. over) (text_left R.remaining self.old) (text_left R.remaining self.new) result is_over_at }
-        ensures counts { Counts (tally_of self.old) (tally_of self.new) result }
+        ensures counts { CountsFailures (tally_of self.old) (tally_of self.new) result }
         ensures refusals { IfErr result IsReadRefusal }
     {
         if !self.buffer.left().is_empty() {
@@ -135,7 +135,7 @@ impl<R: Read> Source<R> {
         requires { why ≢ Refusal.Device }
         ensures kept { Keeps (text_left R.remaining self.old) (text_left R.remaining self.new) }
         ensures grows { OnOk result ((why ≡ Refusal.Short) × (length (buffered self.old) < length (buffered self.new))) }
-        ensures counts { Counts (tally_of self.old) (tally_of self.new) result }
+        ensures counts { CountsFailures (tally_of self.old) (tally_of self.new) result }
         ensures refusals { IfErr result (λ e. (e ≡ Refusal.OutOfMemory) ⊎ (e ≡ Refusal.Device) ⊎ ((e ≡ why) × (why ≡ Refusal.Short → (buffered self.new ≡ buffered self.old) × IsAtEnd (R.remaining (inner_of (tally_of self.new)))))) }
     {
         if why != Refusal::Short {

@@ -11,48 +11,48 @@ use Rattle.pc_taken.specs.declared.sides.Side.{Side}
 use Rattle.pc_taken.specs.declared.sides.Side.TheVariants.{First, Second, Both}
 
 -- the side of the lesser of two keys
-abbrev pub lesser : Ordering → Side
-lesser Less = First
-lesser Equal = Both
-lesser Greater = Second
+abbrev pub lesser_side : Ordering → Side
+lesser_side Less = First
+lesser_side Equal = Both
+lesser_side Greater = Second
 
 -- the same of keys that may be missing
 abbrev pub side_by : Option (List ℕ) → Option (List ℕ) → Option Side
 side_by None None = None
 side_by (Some k) None = Some First
 side_by None (Some l) = Some Second
-side_by (Some k) (Some l) = Some (lesser (key_cmp k l))
+side_by (Some k) (Some l) = Some (lesser_side (key_cmp k l))
 
 -- the key of the first triple
-abbrev pub key_at : List Triple → Option (List ℕ)
-key_at triples = option_map (λ triple. triple.key) (slice_get triples 0)
+abbrev pub first_triple_key : List Triple → Option (List ℕ)
+first_triple_key triples = option_map (λ triple. triple.key) (slice_get triples 0)
 
 -- which of both begins with the least key
-abbrev pub side_of : List Triple → List Triple → Option Side
-side_of a b = side_by (key_at a) (key_at b)
+abbrev pub least_side : List Triple → List Triple → Option Side
+least_side a b = side_by (first_triple_key a) (first_triple_key b)
 
 -- the triples after the first one
-abbrev pub behind : List Triple → List Triple
-behind [] = []
-behind (triple ∷ triples) = triples
+abbrev pub triples_after_first : List Triple → List Triple
+triples_after_first [] = []
+triples_after_first (triple ∷ triples) = triples
 
 -- what is to come of the first after the least key
 abbrev pub first_behind : Side → List Triple → List Triple
 first_behind Second a = a
-first_behind side a = behind a
+first_behind side a = triples_after_first a
 
 -- what is to come of the second
 abbrev pub second_behind : Side → List Triple → List Triple
 second_behind First b = b
-second_behind side b = behind b
+second_behind side b = triples_after_first b
 
 -- of the first triples of both that of the least key; of two of one key that of the greater point
-abbrev pub newest : Side → Option Triple → Option Triple → Option Triple
-newest First a b = a
-newest Second a b = b
-newest Both (Some a) (Some b) = if nat_lt a.point b.point then Some b else Some a
-newest Both (Some a) None = Some a
-newest Both None b = b
+abbrev pub next_merged : Side → Option Triple → Option Triple → Option Triple
+next_merged First a b = a
+next_merged Second a b = b
+next_merged Both (Some a) (Some b) = if nat_lt a.point b.point then Some b else Some a
+next_merged Both (Some a) None = Some a
+next_merged Both None b = b
 
 -- two of one key clash
 abbrev pub clash : Side → Option Triple → Option Triple → Bool

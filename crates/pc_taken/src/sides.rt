@@ -2,7 +2,7 @@
 ghost use Rattle.std.specs.Prelude.{◌≡◌, ◌++◌, slice_get, OnOk, if◌then◌else◌};
 ghost use Rattle.std.specs.Option.{option_to_list};
 ghost use Rattle.pc_model.specs.Files.{same_content};
-ghost use Rattle.pc_taken.specs.Sides.{first_behind, newest, second_behind, side_of, clash};
+ghost use Rattle.pc_taken.specs.Sides.{first_behind, next_merged, second_behind, least_side, clash};
 
 use crate::pass::Pass;
 use pc_types::{Triple, Value};
@@ -20,7 +20,7 @@ pub enum Side {
 /// The pass that has the least key next, if any is to come.
 #[inline(always)]
 pub fn side_of(first: &Pass, second: &Pass) -> Option<Side>
-    ensures { result ≡ side_of first.now second.now }
+    ensures { result ≡ least_side first.now second.now }
 {
     match (first.key(), second.key()) {
         (None, None) => None,
@@ -82,7 +82,7 @@ pub fn push_newest(
     first: &Pass,
     second: &Pass,
 ) -> Result<(), AllocError>
-    ensures { OnOk result (out.new.items ≡ out.old.items ++ option_to_list (newest side (slice_get first.now 0) (slice_get second.now 0))) }
+    ensures { OnOk result (out.new.items ≡ out.old.items ++ option_to_list (next_merged side (slice_get first.now 0) (slice_get second.now 0))) }
 {
     if is_newer_in_first(side, first, second) {
         first.push_first(alloc, out)
@@ -94,7 +94,7 @@ pub fn push_newest(
 // Whether the triple of the least key, or of two of it that of the greater point, is the first pass's.
 #[inline(always)]
 fn is_newer_in_first(side: Side, first: &Pass, second: &Pass) -> bool
-    ensures { newest side (slice_get first.now 0) (slice_get second.now 0) ≡ (if result then slice_get first.now 0 else slice_get second.now 0) }
+    ensures { next_merged side (slice_get first.now 0) (slice_get second.now 0) ≡ (if result then slice_get first.now 0 else slice_get second.now 0) }
 {
     match side {
         Side::First => true,

@@ -12,7 +12,7 @@ abbrev pub five_digits : ℕ → List ℕ
 five_digits number = last_digit (number / 10000) ∷ last_digit (number / 1000) ∷ last_digit (number / 100) ∷ last_digit (number / 10) ∷ last_digit number ∷ []
 
 -- the name of a file
-abbrev pub name_of : FileName → List ℕ
-name_of file.Base = codes "base.pcb"
-name_of (file.Part point) = codes "part-" ++ (five_digits point ++ codes ".pcp")
-name_of file.Log = codes "log.pcl"
+abbrev pub name_of_file : FileName → List ℕ
+name_of_file file.Base = codes "base.pcb"
+name_of_file (file.Part point) = codes "part-" ++ (five_digits point ++ codes ".pcp")
+name_of_file file.Log = codes "log.pcl"

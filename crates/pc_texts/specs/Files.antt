@@ -1,7 +1,7 @@
 -- Files that may have been opened: their contents, and the report of a fault.
 use Rattle.std.specs.Prelude.{◌≡◌, ℕ, List, ◌++◌, codes, Option, Some, Ok, Err, IsOk}
 use Rattle.std.specs.declared.result.Result.{Result}
-use Rattle.pc_types.specs.Names.{name_of}
+use Rattle.pc_types.specs.Names.{refusal_name}
 use Rattle.pc_types.specs.declared.refusal.Refusal.{Refusal}
 use Rattle.pc_types.specs.declared.refusal.Refusal.TheVariants.{OutOfMemory, Device}
 use Rattle.pc_io.specs.Counted.{HasRisen}
@@ -19,7 +19,7 @@ line_about name words = (codes "pcalc: " ++ printed_name name) ++ (codes ": " ++
 
 -- the error line of a command
 abbrev pub report_text : List ℕ → Refusal → List ℕ
-report_text name why = line_about name (name_of why)
+report_text name why = line_about name (refusal_name why)
 
 -- The bytes of a file can't be had for this: it wasn't opened, and just why; or it was, and an allocation failed; or the device
 -- failed in a read of it, which the reader that is handed back has counted, from 0.

@@ -5,7 +5,7 @@ use Rattle.std.specs.Str.{bytes_eq}
 use Rattle.std.specs.Char.{digit_char}
 use Rattle.std.specs.Fmt.{signed_decimal}
 use Rattle.pc_types.specs.Keys.{space_of, own_bytes}
-use Rattle.pc_types.specs.Names.{name_of}
+use Rattle.pc_types.specs.Names.{refusal_name}
 use Rattle.pc_types.specs.declared.Phase.{Phase}
 use Rattle.pc_types.specs.declared.Phase.TheVariants as phase
 use Rattle.pc_types.specs.declared.Reply.{Reply}
@@ -65,7 +65,7 @@ ranges_text (r ∷ s ∷ ranges) = range_text r ++ (codes "," ++ ranges_text (s 
 -- why a call was refused
 abbrev pub refusal_text : Refusal → List ℕ
 refusal_text (why.Gap point) = codes "Gap " ++ decimal point
-refusal_text other = name_of other
+refusal_text other = refusal_name other
 
 -- the text of a reply
 abbrev pub reply_text : Reply → List ℕ

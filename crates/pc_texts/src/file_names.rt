@@ -1,6 +1,6 @@
 //! The names of the files of a folder.
 ghost use Rattle.std.specs.Prelude.{◌≡◌};
-ghost use Rattle.pc_texts.specs.FileNames.{last_digit, name_of};
+ghost use Rattle.pc_texts.specs.FileNames.{last_digit, name_of_file};
 ghost use Rattle.pc_texts.specs.declared.file_names.FileName.TheVariants as file;
 
 use pc_types::Point;
@@ -25,7 +25,7 @@ fn last_digit(number: u16) -> u8
 
 /// The name of the file of a point.
 pub fn part_name(point: Point) -> [u8; 14]
-    ensures { result ≡ name_of (file.Part point) }
+    ensures { result ≡ name_of_file (file.Part point) }
 {
     let Point(number) = point;
     let mut name = *b"part-00000.pcp";

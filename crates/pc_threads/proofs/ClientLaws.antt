@@ -11,7 +11,7 @@ use Rattle.pc_jobs.specs.declared.works.Job.{Job}
 use Rattle.pc_jobs.specs.declared.works.ClientTask.{ClientTask}
 use Rattle.pc_shared.specs.Sitters.{Sitter}
 use Rattle.pc_jobs.specs.Jobs.{job_of}
-use Rattle.pc_threads.specs.Clients.{AreDone, AreFillsTried, HasDone, HasWorked, HaveWorked, IsTaskDone, IsFresh, clients_in, first_of, jobs_in}
+use Rattle.pc_threads.specs.Clients.{AreDone, AreFillsTried, HasDone, HasWorked, HaveWorked, IsTaskDone, IsFresh, clients_in, first_jobs, jobs_in}
 use Rattle.pc_threads.proofs.DoneLaws.{done_then, filled_closes, filled_join, works_close, works_more}
 
 -- the others stay fresh if one is taken out
@@ -51,14 +51,14 @@ both_worked st [] given_up (s ∷ sessions) others more behind a b = absurd a
 both_worked st (c ∷ clients) given_up [] others more behind a b = absurd a
 
 -- the same with the next transaction of a fill
-pub fill_next : (st : Setting) (fill : Fill) (number given_up next : ℕ) (first between last : Sitter) → HasDone (AreFillsTried st (first_of fill number)) (first_of fill number) given_up first between
+pub fill_next : (st : Setting) (fill : Fill) (number given_up next : ℕ) (first between last : Sitter) → HasDone (AreFillsTried st (first_jobs fill number)) (first_jobs fill number) given_up first between
     → HasDone (AreFillsTried st (job_of fill number ∷ [])) (job_of fill number ∷ []) next between last
-    → HasDone (AreFillsTried st (first_of fill (number + 1))) (first_of fill (number + 1)) (given_up + next) first last
+    → HasDone (AreFillsTried st (first_jobs fill (number + 1))) (first_jobs fill (number + 1)) (given_up + next) first last
 fill_next st fill number given_up next first between last before now =
     let more : suc number ≡ number + 1 = omega arith in
-    let jobs : List Job = first_of fill number in
+    let jobs : List Job = first_jobs fill number in
     let one : List Job = job_of fill number ∷ [] in
-    subst (λ n. HasDone (AreFillsTried st (first_of fill n)) (first_of fill n) (given_up + next) first last) more
+    subst (λ n. HasDone (AreFillsTried st (first_jobs fill n)) (first_jobs fill n) (given_up + next) first last) more
     (done_then (AreFillsTried st jobs) (AreFillsTried st one) (AreFillsTried st (jobs ++ one)) (filled_closes st jobs) (filled_join st jobs one) jobs one given_up next first between last before now)
 
 -- one more of some items that have clients goes to those that were iterated over

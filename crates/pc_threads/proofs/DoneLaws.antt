@@ -12,7 +12,7 @@ use Rattle.pc_workers.specs.Attempts.{TakesMemory, AreTried}
 use Rattle.pc_workers.specs.Clients.{HasTried}
 use Rattle.pc_workers.proofs.AttemptLaws.{tried_closes}
 use Rattle.pc_workers.proofs.RunLaws.{job_is_left, left_mark, marks_chain, no_jobs_run, no_marks, runs_chain}
-use Rattle.pc_threads.specs.Clients.{AreDone, AreFillsTried, HasDone, IsTaskDone, first_of}
+use Rattle.pc_threads.specs.Clients.{AreDone, AreFillsTried, HasDone, IsTaskDone, first_jobs}
 
 module _ (st : Setting) where
   -- no transaction is open after those of a fill
@@ -26,7 +26,7 @@ module _ (st : Setting) where
   -- nor after a piece of work
   work_closes : (w : ClientTask) (s : ℕ) (marks : List Bool) (a b : History) → IsTaskDone st w s marks a b → is_open s a ≡ false → is_open s b ≡ false
   work_closes (work.Once job) s marks a b done idle = tried_closes st s marks (job ∷ []) a b done idle
-  work_closes (work.Fill fill) s marks a b done idle = filled_closes (first_of fill fill.count) s marks a b done idle
+  work_closes (work.Fill fill) s marks a b done idle = filled_closes (first_jobs fill fill.count) s marks a b done idle
 
   -- nor after works
   pub works_close : (works : List ClientTask) (s : ℕ) (marks : List Bool) (a b : History) → AreDone st works s marks a b → is_open s a ≡ false → is_open s b ≡ false

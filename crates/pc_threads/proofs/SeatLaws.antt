@@ -6,7 +6,7 @@ use Rattle.std.proofs.lemmas.List.Elements.{All-nil, All-cons, All-head, All-tai
 use Rattle.std.proofs.lemmas.List.Folds.{list_any-append}
 use Rattle.std.proofs.lemmas.Bool.Decides.{nat_tests}
 use Rattle.pc_jobs.specs.declared.works.Client.{Client}
-use Rattle.pc_shared.specs.Sitters.{Sitter, is_there}
+use Rattle.pc_shared.specs.Sitters.{Sitter, has_sitter}
 use Rattle.pc_threads.specs.Clients.{AreSeated, HaveSeats, clients_in, is_taken}
 
 -- of tests, some of which hold
@@ -48,25 +48,25 @@ other_way : (m n : ℕ) → (m == n) ≡ false → (n == m) ≡ false
 other_way m n is = grind (arith, nat_tests)
 
 -- a session that isn't the next is after it
-pub stands_behind : (sessions : List Sitter) (place n : ℕ) (d : Sitter) → ((get_or sessions place d).number == n) ≡ false → is_there (drop place sessions) n ≡ true → is_there (drop (suc place) sessions) n ≡ true
+pub stands_behind : (sessions : List Sitter) (place n : ℕ) (d : Sitter) → ((get_or sessions place d).number == n) ≡ false → has_sitter (drop place sessions) n ≡ true → has_sitter (drop (suc place) sessions) n ≡ true
 stands_behind [] zero n d off there = absurd (cc (there))
 stands_behind [] (suc place) n d off there = absurd (cc (there))
-stands_behind (s ∷ sessions) zero n d off there = left_alone (is_there sessions n) (s.number == n) off (turned (s.number == n) (is_there sessions n) there)
+stands_behind (s ∷ sessions) zero n d off there = left_alone (has_sitter sessions n) (s.number == n) off (turned (s.number == n) (has_sitter sessions n) there)
 stands_behind (s ∷ sessions) (suc place) n d off there = stands_behind sessions place n d off there
 
 -- if the session of a number is taken out, the others are still there
-pub others_stay : (sessions : List Sitter) (place n m : ℕ) (d : Sitter) → (get_or sessions place d).number ≡ n → is_there sessions m ≡ true → (is_there (remove sessions place) m || (n == m)) ≡ true
+pub others_stay : (sessions : List Sitter) (place n m : ℕ) (d : Sitter) → (get_or sessions place d).number ≡ n → has_sitter sessions m ≡ true → (has_sitter (remove sessions place) m || (n == m)) ≡ true
 others_stay [] place n m d at there = absurd (cc (there))
-others_stay (s ∷ sessions) zero n m d at there = subst (λ k. (is_there sessions m || (k == m)) ≡ true) at (turned (s.number == m) (is_there sessions m) there)
+others_stay (s ∷ sessions) zero n m d at there = subst (λ k. (has_sitter sessions m || (k == m)) ≡ true) at (turned (s.number == m) (has_sitter sessions m) there)
 others_stay (s ∷ sessions) (suc place) n m d at there =
-    below (s.number == m) (is_there sessions m) (is_there (remove sessions place) m) (n == m) there (others_stay sessions place n m d at)
+    below (s.number == m) (has_sitter sessions m) (has_sitter (remove sessions place) m) (n == m) there (others_stay sessions place n m d at)
 
 -- sessions that aren't used are still there
-pub kept : (used : ℕ → Bool) (old new : List Sitter) (clients : List Client) → ((m : ℕ) → is_there old m ≡ true → (is_there new m || used m) ≡ true) → All (λ (c : Client). used c.session ≡ false) clients
+pub kept : (used : ℕ → Bool) (old new : List Sitter) (clients : List Client) → ((m : ℕ) → has_sitter old m ≡ true → (has_sitter new m || used m) ≡ true) → All (λ (c : Client). used c.session ≡ false) clients
     → HaveSeats old clients → HaveSeats new clients
 kept used old new [] left free seats = tt
 kept used old new (c ∷ clients) left free (there, apart, rest) = (
-  left_alone (is_there new c.session) (used c.session) (All-head (λ (k : Client). used k.session ≡ false) c clients free) (left c.session there),
+  left_alone (has_sitter new c.session) (used c.session) (All-head (λ (k : Client). used k.session ≡ false) c clients free) (left c.session there),
   apart,
   kept used old new clients left (All-tail (λ (k : Client). used k.session ≡ false) c clients free) rest,
 )
@@ -110,16 +110,16 @@ seats_behind old new xs ys seats seated = kept (is_taken xs) old new ys seated (
 
 -- before the first client
 pub none_seated : (sessions : List Sitter) → AreSeated [] sessions sessions
-none_seated sessions m there = beside (is_there sessions m) there
+none_seated sessions m there = beside (has_sitter sessions m) there
 
 -- some clients and then others
 pub seated_then : (old between new : List Sitter) (xs ys : List Client) → AreSeated xs old between → AreSeated ys between new → AreSeated (xs ++ ys) old new
 seated_then old between new xs ys first then m there =
-    (λ k. is_there new m || list_any-append (λ (c : Client). c.session == m) xs ys k) ∙ either (is_there between m) (is_taken xs m) (is_there new m) (is_taken ys m) (first m there) (then m)
+    (λ k. has_sitter new m || list_any-append (λ (c : Client). c.session == m) xs ys k) ∙ either (has_sitter between m) (is_taken xs m) (has_sitter new m) (is_taken ys m) (first m there) (then m)
 
 -- one client
-pub one_seated : (old new : List Sitter) (client : Client) → ((m : ℕ) → is_there old m ≡ true → (is_there new m || (client.session == m)) ≡ true) → AreSeated (client ∷ []) old new
-one_seated old new client left m there = more (is_there new m) (client.session == m) (left m there)
+pub one_seated : (old new : List Sitter) (client : Client) → ((m : ℕ) → has_sitter old m ≡ true → (has_sitter new m || (client.session == m)) ≡ true) → AreSeated (client ∷ []) old new
+one_seated old new client left m there = more (has_sitter new m) (client.session == m) (left m there)
   where
     more : (a b : Bool) → (a || b) ≡ true → (a || (b || false)) ≡ true
     more true b is = refl

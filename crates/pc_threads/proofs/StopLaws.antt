@@ -18,11 +18,11 @@ use Rattle.pc_shared.specs.Sitters.{Sitter}
 use Rattle.pc_io.specs.declared.tally.Tally.{Tally}
 use Rattle.pc_threads.specs.declared.fault.ThreadsFault.{ThreadsFault}
 use Rattle.pc_threads.specs.declared.fault.ThreadsFault.TheVariants as fault
-use Rattle.pc_threads.specs.Clients.{HasDone, ClientHasStopped, HaveStopped, HaveWorked, clients_in, first_of, jobs_in, jobs_of, transactions_in}
+use Rattle.pc_threads.specs.Clients.{HasDone, ClientHasStopped, HaveStopped, HaveWorked, clients_in, first_jobs, jobs_in, jobs_of, transactions_in}
 use Rattle.pc_threads.specs.declared.files.FileFault.{FileFault}
 use Rattle.pc_threads.specs.declared.files.FileFault.TheVariants as lost
 use Rattle.pc_threads.specs.declared.threads.LogFault.{LogFault}
-use Rattle.pc_threads.specs.Faults.{IsThreadsEnd, IsStop, LogHasStopped, fault_of}
+use Rattle.pc_threads.specs.Faults.{IsThreadsEnd, IsStop, LogHasStopped, lost_file_fault}
 
 -- at most as many are given up as there are
 pub at_most : (way : ℕ → List Bool → History → History → Type 0) (jobs : List Job) (given_up : ℕ) (old new : Sitter) → HasDone way jobs given_up old new → given_up ≤ length jobs
@@ -37,9 +37,9 @@ clients_at_most st [] given_up (s ∷ sessions) have = absurd have
 clients_at_most st (c ∷ clients) given_up [] have = absurd have
 
 -- the first of a fill are this many
-first_count : (fill : Fill) (count : ℕ) → length (first_of fill count) ≡ count
+first_count : (fill : Fill) (count : ℕ) → length (first_jobs fill count) ≡ count
 first_count fill zero = refl
-first_count fill (suc count) = omega (arith, length-append (first_of fill count) (job_of fill count ∷ []), first_count fill count)
+first_count fill (suc count) = omega (arith, length-append (first_jobs fill count) (job_of fill count ∷ []), first_count fill count)
 
 -- those of the works before one and its own are among all
 of_works : (works : List ClientTask) (i : ℕ) (work : ClientTask) → i < length works → work ≡ get_or works i work → length (flat_map jobs_in (take i works)) + length (jobs_in work) ≤ length (flat_map jobs_in works)
@@ -74,11 +74,11 @@ module _ (has_log : Bool) where
     one : length (job_of fill number ∷ []) ≡ 1
     one = refl
 
-    pub fill_stops : (why : Refusal) → ClientHasStopped has_log (job_of fill number ∷ []) why → ClientHasStopped has_log (first_of fill fill.count) why
-    fill_stops why stopped = more_stop (job_of fill number ∷ []) (first_of fill fill.count) why (omega (arith, low, one, first_count fill fill.count)) stopped
+    pub fill_stops : (why : Refusal) → ClientHasStopped has_log (job_of fill number ∷ []) why → ClientHasStopped has_log (first_jobs fill fill.count) why
+    fill_stops why stopped = more_stop (job_of fill number ∷ []) (first_jobs fill fill.count) why (omega (arith, low, one, first_count fill fill.count)) stopped
 
-    pub fill_counts : (given_up more : ℕ) (why : Refusal) → given_up ≤ length (first_of fill number) → more ≤ length (job_of fill number ∷ []) → (why ≡ Full) × (2 ^ 64 ≤ given_up + more) → ClientHasStopped has_log (first_of fill fill.count) why
-    fill_counts given_up more why few own full = too_many (first_of fill fill.count) given_up more why (omega (arith, low, few, own, one, first_count fill number, first_count fill fill.count)) full
+    pub fill_counts : (given_up more : ℕ) (why : Refusal) → given_up ≤ length (first_jobs fill number) → more ≤ length (job_of fill number ∷ []) → (why ≡ Full) × (2 ^ 64 ≤ given_up + more) → ClientHasStopped has_log (first_jobs fill fill.count) why
+    fill_counts given_up more why few own full = too_many (first_jobs fill fill.count) given_up more why (omega (arith, low, few, own, one, first_count fill number, first_count fill fill.count)) full
 
   -- ---- of works
 
@@ -125,7 +125,7 @@ module _ (writes : Bool) (transactions points : ℕ) where
   device_stops given there is = subst (IsStop writes transactions points) (sym is) there
 
 -- a file that was lost ends it
-pub lost_ends : {T : Type 0} (given : FileFault T) → IsThreadsEnd true 0 0 (fault_of given)
+pub lost_ends : {T : Type 0} (given : FileFault T) → IsThreadsEnd true 0 0 (lost_file_fault given)
 lost_ends (lost.Unmade file why) = refl
 lost_ends (lost.Failed file) = refl
 

@@ -12,19 +12,19 @@ use Rattle.pc_jobs.specs.declared.works.Op.{Op}
 use Rattle.pc_jobs.specs.declared.works.ClientTask.{ClientTask}
 use Rattle.pc_jobs.specs.declared.works.ClientTask.TheVariants as work
 use Rattle.pc_jobs.specs.Jobs.{job_of}
-use Rattle.pc_shared.specs.Sitters.{Sitter, is_there, sitter}
+use Rattle.pc_shared.specs.Sitters.{Sitter, has_sitter, sitter}
 use Rattle.pc_workers.specs.Attempts.{TakesMemory, IsTried, AreTried}
 use Rattle.pc_workers.specs.Clients.{HasRun}
 
 -- the first transactions of a fill, the given number of them
-abbrev pub first_of : Fill → ℕ → List Job
-first_of fill zero = []
-first_of fill (suc count) = first_of fill count ++ job_of fill count ∷ []
+abbrev pub first_jobs : Fill → ℕ → List Job
+first_jobs fill zero = []
+first_jobs fill (suc count) = first_jobs fill count ++ job_of fill count ∷ []
 
 -- the transactions of a piece of work, in order
 abbrev pub jobs_in : ClientTask → List Job
 jobs_in (work.Once job) = job ∷ []
-jobs_in (work.Fill fill) = first_of fill fill.count
+jobs_in (work.Fill fill) = first_jobs fill fill.count
 
 -- those of a client
 abbrev pub jobs_of : Client → List Job
@@ -45,11 +45,11 @@ is_taken clients session = list_any (λ client. client.session == session) clien
 -- each client's session is in the list, and no two clients have one session
 abbrev pub HaveSeats : List Sitter → List Client → Type 0
 HaveSeats sessions [] = ⊤
-HaveSeats sessions (client ∷ clients) = (is_there sessions client.session ≡ true) × (is_taken clients client.session ≡ false) × HaveSeats sessions clients
+HaveSeats sessions (client ∷ clients) = (has_sitter sessions client.session ≡ true) × (is_taken clients client.session ≡ false) × HaveSeats sessions clients
 
 -- each session that was in the list is still there, or one of the clients has it
 abbrev pub AreSeated : List Client → List Sitter → List Sitter → Type 0
-AreSeated clients old new = (session : ℕ) → is_there old session ≡ true → (is_there new session || is_taken clients session) ≡ true
+AreSeated clients old new = (session : ℕ) → has_sitter old session ≡ true → (has_sitter new session || is_taken clients session) ≡ true
 
 -- An allocation failed while a transaction was made, which names a key or a value too long to be kept inline: it isn't marked as
 -- committed, and made no call.
@@ -66,7 +66,7 @@ AreFillsTried st jobs s marks early late = ⊥
 -- a piece of work was done: a single transaction was tried
 abbrev pub IsTaskDone : Setting → ClientTask → ℕ → List Bool → History → History → Type 0
 IsTaskDone st (work.Once job) s marks early late = AreTried st s marks (job ∷ []) early late
-IsTaskDone st (work.Fill fill) s marks early late = AreFillsTried st (first_of fill fill.count) s marks early late
+IsTaskDone st (work.Fill fill) s marks early late = AreFillsTried st (first_jobs fill fill.count) s marks early late
 
 -- works were done, in order
 abbrev pub AreDone : Setting → List ClientTask → ℕ → List Bool → History → History → Type 0

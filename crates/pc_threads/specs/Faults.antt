@@ -23,9 +23,9 @@ IsFileLost name failures (lost.Unmade file why) = file ≡ name
 IsFileLost name failures (lost.Failed file) = HasRisen failures file.failures
 
 -- the fault of the run that a lost file is
-abbrev pub fault_of : {T : Type 0} → FileFault T → ThreadsFault
-fault_of (lost.Unmade file why) = fault.Unmade file why
-fault_of (lost.Failed file) = fault.Refused refusal.Device
+abbrev pub lost_file_fault : {T : Type 0} → FileFault T → ThreadsFault
+lost_file_fault (lost.Unmade file why) = fault.Unmade file why
+lost_file_fault (lost.Failed file) = fault.Refused refusal.Device
 
 -- The logger of this file, if there is one, has stopped before the end, and returns the file: an allocation failed, or the device
 -- failed in a call of the file, which was counted.

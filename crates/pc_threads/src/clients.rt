@@ -4,8 +4,8 @@ ghost use Rattle.std.specs.List.{flat_map};
 ghost use Rattle.pc_types.specs.declared.refusal.Refusal.TheVariants.{Full, OutOfMemory};
 ghost use Rattle.pc_jobs.specs.Jobs.{job_of};
 ghost use Rattle.pc_jobs.specs.declared.works.Client.{Client};
-ghost use Rattle.pc_shared.specs.Sitters.{is_there, sitter};
-ghost use Rattle.pc_threads.specs.Clients.{AreDone, AreFillsTried, AreSeated, HasDone, ClientHasStopped, HasWorked, HaveSeats, HaveStopped, HaveWorked, IsTaskDone, IsFresh, clients_in, first_of, jobs_in, jobs_of};
+ghost use Rattle.pc_shared.specs.Sitters.{has_sitter, sitter};
+ghost use Rattle.pc_threads.specs.Clients.{AreDone, AreFillsTried, AreSeated, HasDone, ClientHasStopped, HasWorked, HaveSeats, HaveStopped, HaveWorked, IsTaskDone, IsFresh, clients_in, first_jobs, jobs_in, jobs_of};
 
 use crate::room::Room;
 use pc_jobs::{Client, ClientTask, Fill, FillJob, Job};
@@ -59,10 +59,10 @@ pub struct Seating<N: StoreName> {
 // Takes out the session of the number, which is in the list.
 fn take_session<N: StoreName>(sessions: &mut Vec<Session<N>>, number: SessionNo) -> Session<N>
     requires fresh { All IsFresh sessions.old.items }
-    requires there { is_there sessions.old.items number ≡ true }
+    requires there { has_sitter sessions.old.items number ≡ true }
     ensures own { result ≡ sitter number [] [] }
     ensures fresh { All IsFresh sessions.new.items }
-    ensures others { (n : ℕ) → is_there sessions.old.items n ≡ true → (is_there sessions.new.items n || (number == n)) ≡ true }
+    ensures others { (n : ℕ) → has_sitter sessions.old.items n ≡ true → (has_sitter sessions.new.items n || (number == n)) ≡ true }
 {
     for place in 0..sessions.len() {
         if sessions[place].number() == number {
@@ -183,8 +183,8 @@ fn run_fill<N: StoreName, R: Wait, G: ClientGate>(
     made: &mut FillJob,
     fill: &Fill,
 ) -> Result<u64, Refusal>
-    ensures done { IfOk result (λ given_up. HasDone (AreFillsTried N.name.setting (first_of fill.now fill.now.count)) (first_of fill.now fill.now.count) given_up session.old session.new) }
-    ensures stopped { IfErr result (ClientHasStopped (is_some room.now.lag) (first_of fill.now fill.now.count)) }
+    ensures done { IfOk result (λ given_up. HasDone (AreFillsTried N.name.setting (first_jobs fill.now fill.now.count)) (first_jobs fill.now fill.now.count) given_up session.old session.new) }
+    ensures stopped { IfErr result (ClientHasStopped (is_some room.now.lag) (first_jobs fill.now fill.now.count)) }
 {
     let mut given_up = 0u64;
     for number in 0..fill.count {

@@ -56,9 +56,9 @@ pub enum FileFault<F> {
 
 impl<F: Drop> From<FileFault<F>> for ThreadsFault {
     ghost use Rattle.std.specs.Prelude.{◌≡◌};
-    ghost use Rattle.pc_threads.specs.Faults.{fault_of};
+    ghost use Rattle.pc_threads.specs.Faults.{lost_file_fault};
 
-    ghost from_gives = { λ lost fault. fault ≡ fault_of lost };
+    ghost from_gives = { λ lost fault. fault ≡ lost_file_fault lost };
 
     fn from(lost: FileFault<F>) -> ThreadsFault {
         match &lost {

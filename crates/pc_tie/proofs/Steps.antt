@@ -13,7 +13,7 @@ use Rattle.pc_model.specs.Calls.{counts, session_of, calls_of, IsBeginning}
 use Rattle.pc_tie.specs.declared.sight.Sitting.{Sitting}
 use Rattle.pc_tie.specs.declared.sight.Sight.{Sight}
 use Rattle.pc_tie.specs.declared.sight.Sight.TheVariants.{Whole, Front, Beside, Gone}
-use Rattle.pc_tie.specs.Rules.{a_witness, Speaks, shown_out, sitting, Knows, FitsSeat, HasOneHistory, guests_after, said_step, KnewFirst, Applied, entered, parted, emptied, left_out, IsStepOfGuest, after_dealing, new_front, Compared, AreGuestsApart}
+use Rattle.pc_tie.specs.Rules.{a_witness, Speaks, shown_out, sitting, Knows, FitsSeat, HasOneHistory, guests_after, said_step, KnewFirst, Applied, with_guest, parted, emptied, left_out, IsStepOfGuest, after_dealing, new_front, Compared, AreGuestsApart}
 use Rattle.pc_model.proofs.BeginningLaws.{beginning_self, beginning_none, beginning_on, calls_on}
 use Rattle.pc_tie.proofs.Owners.{turned, turned_same, turned_other, turned_either, at_last}
 
@@ -199,7 +199,7 @@ module _ {S : Type 0} (st : Setting) where
 
   -- a seat is taken in
   pub enters : (id : ℕ) (hist : History) (dealt : ℕ) (guests : List Sitting) (other n : ℕ) (seen : History)
-      → Joins (HasOneHistory {S = S} st) id (Whole hist dealt guests) other (Front n seen) (entered (Whole hist dealt guests) (Front n seen)) Gone
+      → Joins (HasOneHistory {S = S} st) id (Whole hist dealt guests) other (Front n seen) (with_guest (Whole hist dealt guests) (Front n seen)) Gone
   enters id hist dealt guests other n seen s r at apart there =
       let both : Sight = Whole hist dealt (sitting n seen ∷ guests) in
       let mine = r.each id (Whole hist dealt guests) at in

@@ -14,7 +14,7 @@ use Rattle.pc_model.proofs.BeginningLaws.{extends}
 use Rattle.pc_tie.specs.declared.sight.Sitting.{Sitting}
 use Rattle.pc_tie.specs.declared.sight.Sight.{Sight}
 use Rattle.pc_tie.specs.declared.sight.Sight.TheVariants.{Whole, Front, Gone}
-use Rattle.pc_tie.specs.Rules.{Speaks, hist_of, dealt_of, guests_of, HasOneHistory, sight_after, KnewFirst, Applied, entered, parted, emptied, left_out, shown_out, after_dealing, new_front, IsStepOfGuest, Compared, AreTold}
+use Rattle.pc_tie.specs.Rules.{Speaks, hist_of, dealt_of, guests_of, HasOneHistory, sight_after, KnewFirst, Applied, with_guest, parted, emptied, left_out, shown_out, after_dealing, new_front, IsStepOfGuest, Compared, AreTold}
 use Rattle.pc_tie.specs.Seats.{IsSession, MovesOn, NoTwoAlike, IsFrontOf, KeeperView, meeting}
 use Rattle.pc_tie.proofs.Steps.{enters, applies, leaves, deals, shows, compares}
 
@@ -33,8 +33,8 @@ pub front_in : (views : List Sight) (v w : Sight) → views ≡ v ∷ [] → vie
 front_in views v w is there = only w v (sym there ∙ is)
 
 module _ (st : Setting) (id : ℕ) (hist : History) (dealt : ℕ) (guests : List Sitting) where
-  pub enters_at : {S : Type 0} (n : ℕ) (seen : History) (v : Sight) (other : ℕ) (w : Sight) → v ≡ Whole hist dealt guests → w ≡ Front n seen → Joins (HasOneHistory {S = S} st) id v other w (entered v w) Gone
-  enters_at {S} n seen v other w is there = subst (λ (u : Sight × Sight). Joins (HasOneHistory {S = S} st) id u.0 other u.1 (entered u.0 u.1) Gone) (λ k. (sym is k, sym there k)) (enters st id hist dealt guests other n seen)
+  pub enters_at : {S : Type 0} (n : ℕ) (seen : History) (v : Sight) (other : ℕ) (w : Sight) → v ≡ Whole hist dealt guests → w ≡ Front n seen → Joins (HasOneHistory {S = S} st) id v other w (with_guest v w) Gone
+  enters_at {S} n seen v other w is there = subst (λ (u : Sight × Sight). Joins (HasOneHistory {S = S} st) id u.0 other u.1 (with_guest u.0 u.1) Gone) (λ k. (sym is k, sym there k)) (enters st id hist dealt guests other n seen)
 
   pub shows_at : {S : Type 0} (v : Sight) → v ≡ Whole hist dealt guests → Splits (HasOneHistory {S = S} st) id v (emptied v) (shown_out v)
   shows_at {S} v is = subst (λ (u : Sight). Splits (HasOneHistory {S = S} st) id u (emptied u) (shown_out u)) (sym is) (shows st id hist dealt guests)

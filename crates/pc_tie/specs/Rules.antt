@@ -47,16 +47,16 @@ guests_of (Beside n seen other) = []
 guests_of Gone = []
 
 -- the number of the seat; the keeper counts as a witness here
-abbrev pub number_of : Sight → ℕ
-number_of (Whole hist dealt guests) = a_witness
-number_of (Front n seen) = n
-number_of (Beside n seen other) = n
-number_of Gone = a_witness
+abbrev pub sight_number : Sight → ℕ
+sight_number (Whole hist dealt guests) = a_witness
+sight_number (Front n seen) = n
+sight_number (Beside n seen other) = n
+sight_number Gone = a_witness
 
 -- what the seat of a badge has seen
-abbrev pub seen_in : List Sight → History
-seen_in [] = []
-seen_in (v ∷ vs) = hist_of v
+abbrev pub seen_by_seat : List Sight → History
+seen_by_seat [] = []
+seen_by_seat (v ∷ vs) = hist_of v
 
 -- how many seats it has dealt
 abbrev pub dealt_in : List Sight → ℕ
@@ -119,17 +119,17 @@ abbrev pub Applied : Exchange Step → Me Step Sight → ℕ → Me Step Sight �
 Applied st v found w = told st.said (λ c. (w ≡ (Whole (c ∷ hist_of v.0) (dealt_of v.0) (guests_after c (hist_of v.0) (guests_of v.0)), v.1)) × KnewFirst (hist_of v.0) (guests_of v.0))
 
 -- a seat is taken in
-abbrev pub entered : Sight → Sight → Sight
-entered v w = Whole (hist_of v) (dealt_of v) (sitting (number_of w) (hist_of w) ∷ guests_of v)
+abbrev pub with_guest : Sight → Sight → Sight
+with_guest v w = Whole (hist_of v) (dealt_of v) (sitting (sight_number w) (hist_of w) ∷ guests_of v)
 
 -- all but the first
-abbrev pub rest_of : List Sitting → List Sitting
-rest_of [] = []
-rest_of (x ∷ xs) = xs
+abbrev pub other_guests : List Sitting → List Sitting
+other_guests [] = []
+other_guests (x ∷ xs) = xs
 
 -- the keeper without the seat that it took in last
 abbrev pub parted : Sight → Sight
-parted v = Whole (hist_of v) (dealt_of v) (rest_of (guests_of v))
+parted v = Whole (hist_of v) (dealt_of v) (other_guests (guests_of v))
 
 -- the keeper without the seats that it took in
 abbrev pub emptied : Sight → Sight
@@ -180,11 +180,11 @@ other_of Gone = []
 
 -- a seat that is compared with a witness
 abbrev pub beside : Sight → Sight → Sight
-beside v w = Beside (number_of v) (hist_of v) (hist_of w)
+beside v w = Beside (sight_number v) (hist_of v) (hist_of w)
 
 -- the seat by itself again
 abbrev pub alone : Sight → Sight
-alone v = Front (number_of v) (hist_of v)
+alone v = Front (sight_number v) (hist_of v)
 
 -- and the witness's
 abbrev pub witness_out : Sight → Sight

@@ -9,7 +9,7 @@ use Rattle.pc_model.specs.Calls.{counts, IsBeginning, Extends, HasCallsOf}
 use Rattle.pc_tie.specs.declared.sight.Sitting.{Sitting}
 use Rattle.pc_tie.specs.declared.sight.Sight.{Sight}
 use Rattle.pc_tie.specs.declared.sight.Sight.TheVariants.{Front}
-use Rattle.pc_tie.specs.Rules.{a_witness, Speaks, sitting, number_of, hist_of}
+use Rattle.pc_tie.specs.Rules.{a_witness, Speaks, sitting, sight_number, hist_of}
 
 -- which word it is, and what the store's run starts from
 pub record Name : Type 0 where
@@ -19,15 +19,15 @@ pub record Name : Type 0 where
 -- what the seat of a badge knows: a number, and the history that it has seen
 abbrev pub sitting_in : List Sight → Sitting
 sitting_in [] = sitting a_witness []
-sitting_in (v ∷ vs) = sitting (number_of v) (hist_of v)
+sitting_in (v ∷ vs) = sitting (sight_number v) (hist_of v)
 
 -- what the seat of the badge knows
 abbrev pub seat_of : Badge Sight → Sitting
 seat_of badge = sitting_in badge.views
 
 -- its number
-abbrev pub number_at : Badge Sight → ℕ
-number_at badge = (seat_of badge).number
+abbrev pub seat_number : Badge Sight → ℕ
+seat_number badge = (seat_of badge).number
 
 -- the history that it has seen
 abbrev pub seen_at : Badge Sight → History

@@ -7,7 +7,7 @@ ghost use Rattle.pc_model.specs.Calls.{session_of, IsBeginning, HasCallsOf};
 ghost use Rattle.pc_tie.specs.declared.sight.Sitting.{Sitting};
 ghost use Rattle.pc_tie.specs.declared.sight.Sight.TheVariants.{Whole};
 ghost use Rattle.pc_tie.specs.Rules.{a_witness, Speaks, sitting, sight_after, IsStepOfGuest, guests_after, KnewFirst, AreTold};
-ghost use Rattle.pc_tie.specs.Seats.{meeting, sitting_in, seat_of, number_at, seen_at, IsSeatAt, IsSession, MovesOn, first_number, NoTwoAlike, HasOwnCalls, IsFrontOf};
+ghost use Rattle.pc_tie.specs.Seats.{meeting, sitting_in, seat_of, seat_number, seen_at, IsSeatAt, IsSession, MovesOn, first_number, NoTwoAlike, HasOwnCalls, IsFrontOf};
 
 use crate::milestone::Milestone;
 use crate::name::StoreName;
@@ -197,14 +197,14 @@ impl<N: StoreName> Keeper<N> {
     )
         requires alone { self.old.guests ≡ [] }
         requires seat { IsSeatAt N.name.table badge.old }
-        requires speaks { Speaks (number_at badge.old) }
-        requires own { session_of step.now.event ≡ number_at badge.old }
+        requires speaks { Speaks (seat_number badge.old) }
+        requires own { session_of step.now.event ≡ seat_number badge.old }
         requires legal { IsLegalHistory N.name.setting (step.now ∷ self.old.history) }
         requires before { before ≡ length (log_of self.old.history) }
         requires after { after ≡ length (log_of (step.now ∷ self.old.history)) }
         ensures keeper { self.new ≡ meeting (step.now ∷ self.old.history) self.old.dealt [] }
         ensures seat { IsSeatAt N.name.table badge.new }
-        ensures number { number_at badge.new ≡ number_at badge.old }
+        ensures number { seat_number badge.new ≡ seat_number badge.old }
         ensures sees { seen_at badge.new ≡ sight_after step.now self.old.history (seen_at badge.old) }
         ensures moves { MovesOn N.name.setting (seen_at badge.old) step.now (seen_at badge.new) }
         ensures knew { HasOwnCalls self.old.history (seat_of badge.old) }

@@ -41,9 +41,9 @@ pub struct Visit;
 
 impl Join<Sight> for Visit {
     ghost use Rattle.pc_tie.specs.declared.sight.Sight.TheVariants.{Gone};
-    ghost use Rattle.pc_tie.specs.Rules.{entered};
+    ghost use Rattle.pc_tie.specs.Rules.{with_guest};
 
-    ghost both = { entered };
+    ghost both = { with_guest };
 
     ghost spent = { Gone };
 }

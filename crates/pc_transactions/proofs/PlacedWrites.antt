@@ -7,14 +7,14 @@ use Rattle.std.proofs.lemmas.Bool.Decides.{nat_tests}
 use Rattle.std.proofs.lemmas.List.{get_or-set_same, get_or-set_other}
 use Rattle.pc_types.specs.declared.Write.{Write}
 use Rattle.pc_types.specs.declared.Change.{Change}
-use Rattle.pc_types.specs.Changes.{changed}
+use Rattle.pc_types.specs.Changes.{changed_content}
 use Rattle.pc_model.specs.Database.{key_order, same_bytes, with_write, written, seen}
 use Rattle.std.proofs.lemmas.Cmp.{eq_by_cmp_equiv}
 use Rattle.pc_model.proofs.JoinLaws.{one_key}
 use Rattle.pc_model.proofs.WrittenKeyLaws.{written_with, merged_if}
 use Rattle.pc_slots.specs.Slots.{Pending}
 use Rattle.pc_records.specs.Rows.{Row, record_of, stored}
-use Rattle.pc_records.specs.Tables.{RecordsView, pending_at, pending_without, made_committed, value_of, read_of, IsClearFor}
+use Rattle.pc_records.specs.Tables.{RecordsView, pending_at, pending_without, made_committed, pending_value, read_of, IsClearFor}
 use Rattle.pc_transactions.specs.Sessions.{number_in, class_at, writes_in, left_by, seen_in, after_writing}
 use Rattle.pc_transactions.specs.Actives.{Active}
 use Rattle.pc_transactions.specs.InPlace.{at_place, write_in, AreInPlace, AreNumbered}
@@ -58,18 +58,18 @@ is_written : (rows : List Row) (a : Option Active) (q : List ℕ) → is_some (w
 is_written rows None q = refl
 is_written rows (Some a) q = some_mapped (in_place a) (left_by a.writes rows q) ∙ is_left a.writes rows q
 
-value_in : (rows : List Row) (a : Option Active) (q : List ℕ) → is_some a ≡ true → option_map value_of (write_in rows a q) ≡ left_by (writes_in a) rows q
+value_in : (rows : List Row) (a : Option Active) (q : List ℕ) → is_some a ≡ true → option_map pending_value (write_in rows a q) ≡ left_by (writes_in a) rows q
 value_in rows None q e = absurd (let no : false ≡ true = e in cc)
 value_in rows (Some a) q e = by_left (left_by a.writes rows q)
   where
-    by_left : (o : Option (Option (List ℕ))) → option_map value_of (option_map (in_place a) o) ≡ o
+    by_left : (o : Option (Option (List ℕ))) → option_map pending_value (option_map (in_place a) o) ≡ o
     by_left None = refl
     by_left (Some v) = refl
 
 -- if the committed content of the key stays, so does a write of it
 same_in : (rows now : List Row) (a : Option Active) (q : List ℕ) → stored (record_of now q) ≡ stored (record_of rows q) → write_in now a q ≡ write_in rows a q
 same_in rows now None q e = refl
-same_in rows now (Some a) q e = ap (λ c. option_map (in_place a) (option_map (λ change. changed change c) (written a.writes q))) e
+same_in rows now (Some a) q e = ap (λ c. option_map (in_place a) (option_map (λ change. changed_content change c) (written a.writes q))) e
 
 -- writes that are in place over rows are in place over others with the same values
 over_rows : (after : RecordsView) (rows : List Row) (ss : List (Option Active)) → ((q : List ℕ) → stored (record_of after.rows q) ≡ stored (record_of rows q)) → AreInPlace (record after { rows = rows }) ss → AreInPlace after ss
@@ -115,7 +115,7 @@ write_made rows (Some a) w value q there leaves = by_test (same_bytes w.key q) r
     committed : List ℕ → Option (List ℕ)
     committed k = stored (record_of rows k)
 
-    by_change : (o : Option Change) (c : Option (List ℕ)) → is_some o ≡ true → option_map (in_place a) (option_map (λ change. changed change c) o) ≡ Some (in_place a (seen o c))
+    by_change : (o : Option Change) (c : Option (List ℕ)) → is_some o ≡ true → option_map (in_place a) (option_map (λ change. changed_content change c) o) ≡ Some (in_place a (seen o c))
     by_change None c e = absurd (let no : false ≡ true = e in cc)
     by_change (Some change) c e = refl
 
@@ -124,7 +124,7 @@ write_made rows (Some a) w value q there leaves = by_test (same_bytes w.key q) r
 
     by_test : (b : Bool) → same_bytes w.key q ≡ b → write_in rows (after_writing (Some a) w) q ≡ cond b (Some (in_place a value)) (write_in rows (Some a) q)
     by_test true e = ap (write_in rows (after_writing (Some a) w)) (sym (one_key w.key q e)) ∙ own
-    by_test false e = ap (λ o. option_map (in_place a) (option_map (λ change. changed change (committed q)) o)) (written_other a.writes w q e)
+    by_test false e = ap (λ o. option_map (in_place a) (option_map (λ change. changed_content change (committed q)) o)) (written_other a.writes w q e)
 
 -- with one more write, which applies to what is seen, what writes do to each key still applies to what is there
 still_apply : (there : List ℕ → Option (List ℕ)) (ws : List Write) (w : Write) → ((q : List ℕ) → AppliesIfAny (written ws q) (there q)) → Applies w.change (seen (written ws w.key) (there w.key)) → (q : List ℕ) → AppliesIfAny (written (with_write ws w) q) (there q)
@@ -298,8 +298,8 @@ module _ (t : RecordsView) (ss : List (Option Active)) (begun : ℕ) (writes : A
   pub made_left : (j : ℕ) (q : List ℕ) → is_some (at_place ss j) ≡ true → made_committed (writes_in (at_place ss j)) t q ≡ left_by (writes_in (at_place ss j)) t.rows q
   made_left j q there = by_test (is_some (written (writes_in (at_place ss j)) q)) refl
     where
-      by_test : (b : Bool) → is_some (written (writes_in (at_place ss j)) q) ≡ b → cond b (option_map value_of (pending_at t q)) None ≡ left_by (writes_in (at_place ss j)) t.rows q
-      by_test true e = ap (option_map value_of) (writes.placed j q (is_written t.rows (at_place ss j) q ∙ e)) ∙ value_in t.rows (at_place ss j) q there
+      by_test : (b : Bool) → is_some (written (writes_in (at_place ss j)) q) ≡ b → cond b (option_map pending_value (pending_at t q)) None ≡ left_by (writes_in (at_place ss j)) t.rows q
+      by_test true e = ap (option_map pending_value) (writes.placed j q (is_written t.rows (at_place ss j) q ∙ e)) ∙ value_in t.rows (at_place ss j) q there
       by_test false e = sym (none_of (left_by (writes_in (at_place ss j)) t.rows q) (is_left (writes_in (at_place ss j)) t.rows q ∙ e))
 
   -- a transaction reads what it sees, if no other has a write in place
@@ -312,7 +312,7 @@ module _ (t : RecordsView) (ss : List (Option Active)) (begun : ℕ) (writes : A
       committed : Option (List ℕ)
       committed = stored (record_of t.rows key)
 
-      by_change : (o : Option Change) (v : Option (List ℕ)) → option_map (λ change. changed change committed) o ≡ Some v → v ≡ seen o committed
+      by_change : (o : Option Change) (v : Option (List ℕ)) → option_map (λ change. changed_content change committed) o ≡ Some v → v ≡ seen o committed
       by_change None v e = absurd (let no : false ≡ true = ap is_some e in cc)
       by_change (Some change) v e = sym (one_some e)
         where
@@ -325,7 +325,7 @@ module _ (t : RecordsView) (ss : List (Option Active)) (begun : ℕ) (writes : A
           by_written : (b : Bool) → is_some own ≡ b → committed ≡ seen own committed
           by_written true e = absurd (let no : false ≡ true = ap is_some (sym none) ∙ writes_stand j key e in cc)
           by_written false e = sym (ap (λ o. seen o committed) (none_of own e))
-      by_place_of (Some x) found c = by_change own x.value (sym (value_in t.rows (at_place ss j) key there) ∙ ap (option_map value_of) (own_write j key x there found c))
+      by_place_of (Some x) found c = by_change own x.value (sym (value_in t.rows (at_place ss j) key there) ∙ ap (option_map pending_value) (own_write j key x there found c))
 
   -- a number that is still to be given is no transaction's
   pub begun_numbers : (j : ℕ) (a : Active) → j < length ss → a.number ≡ begun + 1 → AreNumbered (begun + 1) (set ss j (Some a))

@@ -28,9 +28,9 @@ use Rattle.pc_records.proofs.SetFlagLaws.{asked_sets, released_sets, written_val
 use Rattle.pc_records.specs.RowSets.{HaveSameContents}
 use Rattle.pc_records.proofs.ReleaseLaws.{rise_written}
 use Rattle.pc_records.proofs.WrittenKeys.{written_first}
-use Rattle.pc_transactions.specs.Sessions.{number_in, class_at, writes_in, left_by, seen_in, after_writing, after_dying, if_died, if_granted, is_of, count_of}
+use Rattle.pc_transactions.specs.Sessions.{number_in, class_at, writes_in, left_by, seen_in, after_writing, after_dying, if_died, if_granted, is_of_class, class_count}
 use Rattle.pc_transactions.specs.Actives.{Active}
-use Rattle.pc_transactions.specs.InPlace.{at_place, write_in, may_be_active, fits, AreSetsListed, is_open_point, HoldTogether, AreOpen}
+use Rattle.pc_transactions.specs.InPlace.{at_place, write_in, may_be_active, fits_phase, AreSetsListed, is_open_point, HoldTogether, AreOpen}
 use Rattle.pc_transactions.proofs.PlacedWrites.{by_place, number_of, own_write, same_writes, same_places, wrote_in_place, ended_in_place, begun_numbers, same_numbers, is_left, writes_stand, made_left, none_by, reads_right}
 
 -- whatever number was given last, and whatever phase, point and sets these held together with, the others hold together with
@@ -51,7 +51,7 @@ hold_first capacity n pairs = record {
     apart = λ i j some other same. absurd (let no : false ≡ true = sym (ap (is_some {T = Active}) (all_idle n i)) ∙ some in cc);
     given = λ i. omega (arith, ap number_in (all_idle n i));
   };
-  classes = λ i. ap (fits Rest) (all_idle n i);
+  classes = λ i. ap (fits_phase Rest) (all_idle n i);
   sets = record { open_set = λ q open_keys. absurd (let no : false ≡ true = sym (none_open pairs q) ∙ open_keys in cc); closed_set = λ q closed. absurd (let no : false ≡ true = sym (none_closed pairs q) ∙ closed in cc) };
   idle = λ at_rest. refl;
   within = omega arith;
@@ -107,12 +107,12 @@ in_second : (keys more : List (List ℕ)) (q : List ℕ) → is_among more q ≡
 in_second keys more q among = list_any-append (same_bytes q) keys more ∙ ap (λ b. is_among keys q || b) among ∙ elim (is_among keys q) as (λ b. (b || true) ≡ true) [ true ↦ refl | false ↦ refl ]
 
 -- if none is counted, none is of the class
-none_counted : (class : Class) (ss : List (Option Active)) → count_of class ss ≡ 0 → (i : ℕ) → is_of class (at_place ss i) ≡ false
+none_counted : (class : Class) (ss : List (Option Active)) → class_count class ss ≡ 0 → (i : ℕ) → is_of_class class (at_place ss i) ≡ false
 none_counted class [] none i = refl
-none_counted class (a ∷ rest) none i = by_head (is_of class a) refl none i (λ later. none_counted class rest later)
+none_counted class (a ∷ rest) none i = by_head (is_of_class class a) refl none i (λ later. none_counted class rest later)
   where
-    by_head : (b : Bool) → is_of class a ≡ b → length (cond b (a ∷ filter (is_of class) rest) (filter (is_of class) rest)) ≡ 0 → (i : ℕ) → (length (filter (is_of class) rest) ≡ 0 → (k : ℕ) → is_of class (at_place rest k) ≡ false) → is_of class (at_place (a ∷ rest) i) ≡ false
-    by_head true e none i later = absurd (let no : suc (length (filter (is_of class) rest)) ≡ 0 = none in omega (arith, no))
+    by_head : (b : Bool) → is_of_class class a ≡ b → length (cond b (a ∷ filter (is_of_class class) rest) (filter (is_of_class class) rest)) ≡ 0 → (i : ℕ) → (length (filter (is_of_class class) rest) ≡ 0 → (k : ℕ) → is_of_class class (at_place rest k) ≡ false) → is_of_class class (at_place (a ∷ rest) i) ≡ false
+    by_head true e none i later = absurd (let no : suc (length (filter (is_of_class class) rest)) ≡ 0 = none in omega (arith, no))
     by_head false e none zero later = e
     by_head false e none (suc i) later = later none i
 
@@ -164,7 +164,7 @@ module _ (t : RecordsView) (ss : List (Option Active)) (begun : ℕ) (phase : Ph
       by_phase Resolve e = absurd (let no : false ≡ true = e in cc)
       by_phase Capture e = absurd (let no : false ≡ true = e in cc)
 
-      by_active : (a : Option Active) → class_at a ≡ Before → fits phase a ≡ true → is_open_point phase ≡ false
+      by_active : (a : Option Active) → class_at a ≡ Before → fits_phase phase a ≡ true → is_open_point phase ≡ false
       by_active None e f = absurd (let no : After ≡ Before = e in cc)
       by_active (Some a) e f = by_phase phase (ap (may_be_active phase) (sym e) ∙ f)
 
@@ -176,7 +176,7 @@ module _ (t : RecordsView) (ss : List (Option Active)) (begun : ℕ) (phase : Ph
   pub may_stand : (q : List ℕ) (p : Pending) → pending_at t q ≡ Some p → (i : ℕ) × (p.class ≡ class_at (at_place ss i)) × (is_some (at_place ss i) ≡ true) × (may_be_active phase p.class ≡ true)
   may_stand q p stands = by_owner (hold.writes.owned q)
     where
-      by_active : (a : Option Active) → is_some a ≡ true → fits phase a ≡ true → may_be_active phase (class_at a) ≡ true
+      by_active : (a : Option Active) → is_some a ≡ true → fits_phase phase a ≡ true → may_be_active phase (class_at a) ≡ true
       by_active None e f = absurd (let no : false ≡ true = e in cc)
       by_active (Some a) e f = f
 
@@ -187,12 +187,12 @@ module _ (t : RecordsView) (ss : List (Option Active)) (begun : ℕ) (phase : Ph
           (owner.0, found.1, found.2, ap (may_be_active phase) found.1 ∙ by_active (at_place ss owner.0) found.2 (hold.classes owner.0))
 
   -- at the seal each write in place is of a During transaction
-  pub all_during : same_phase phase Prepare ≡ true → count_of Before ss ≡ 0 → (q : List ℕ) (p : Pending) → pending_at t q ≡ Some p → p.class ≡ During
+  pub all_during : same_phase phase Prepare ≡ true → class_count Before ss ≡ 0 → (q : List ℕ) (p : Pending) → pending_at t q ≡ Some p → p.class ≡ During
   all_during prepare none q p stands =
       let found = may_stand q p stands in
       by_class p.class (subst (λ ph. may_be_active ph p.class ≡ true) (is_this phase Prepare prepare) found.3) (not_of (at_place ss found.0) found.2 (none_counted Before ss none found.0) found.1)
     where
-      not_of : (a : Option Active) → is_some a ≡ true → is_of Before a ≡ false → p.class ≡ class_at a → same_class p.class Before ≡ false
+      not_of : (a : Option Active) → is_some a ≡ true → is_of_class Before a ≡ false → p.class ≡ class_at a → same_class p.class Before ≡ false
       not_of None e f g = absurd (let no : false ≡ true = e in cc)
       not_of (Some a) e f g = ap (λ c. same_class c Before) g ∙ f
 
@@ -215,7 +215,7 @@ module _ (t : RecordsView) (ss : List (Option Active)) (begun : ℕ) (phase : Ph
   hold_begun j a inside number class bare idle = record {
     writes = same_writes t ss begun hold.writes hold.numbers t j (Some a) inside (λ q. refl) (λ q. refl) (λ q. ap (λ ws. write_in t.rows (Some (record a { writes = ws })) q) bare ∙ sym (nothing (at_place ss j) q idle)) (λ q. ap (λ ws. written ws q) bare ∙ sym (unwritten (at_place ss j) q idle));
     numbers = begun_numbers t ss begun hold.writes hold.numbers j a inside number;
-    classes = by_place ss j (Some a) (λ i x. fits phase x ≡ true) inside (ap (may_be_active phase) class ∙ begun_fits phase) (λ i other. hold.classes i);
+    classes = by_place ss j (Some a) (λ i x. fits_phase phase x ≡ true) inside (ap (may_be_active phase) class ∙ begun_fits phase) (λ i other. hold.classes i);
     sets = hold.sets;
     idle = hold.idle;
     within = hold.within;
@@ -250,7 +250,7 @@ module _ (t : RecordsView) (ss : List (Option Active)) (begun : ℕ) (phase : Ph
   hold_died j inside = record {
     writes = same_writes t ss begun hold.writes hold.numbers t j (after_dying (at_place ss j)) inside (λ q. refl) (λ q. refl) (λ q. same_write (at_place ss j) q) (λ q. same_change (at_place ss j) q);
     numbers = same_numbers t ss begun hold.writes hold.numbers j (after_dying (at_place ss j)) inside (λ e. there (at_place ss j) e) (λ e. number (at_place ss j)) (subst (λ n. n ≤ begun) (sym (number (at_place ss j))) (hold.numbers.given j));
-    classes = by_place ss j (after_dying (at_place ss j)) (λ i x. fits phase x ≡ true) inside (class (at_place ss j) (hold.classes j)) (λ i other. hold.classes i);
+    classes = by_place ss j (after_dying (at_place ss j)) (λ i x. fits_phase phase x ≡ true) inside (class (at_place ss j) (hold.classes j)) (λ i other. hold.classes i);
     sets = hold.sets;
     idle = hold.idle;
     within = hold.within;
@@ -273,7 +273,7 @@ module _ (t : RecordsView) (ss : List (Option Active)) (begun : ℕ) (phase : Ph
       number None = refl
       number (Some a) = refl
 
-      class : (a : Option Active) → fits phase a ≡ true → fits phase (after_dying a) ≡ true
+      class : (a : Option Active) → fits_phase phase a ≡ true → fits_phase phase (after_dying a) ≡ true
       class None e = e
       class (Some a) e = e
 
@@ -284,7 +284,7 @@ module _ (t : RecordsView) (ss : List (Option Active)) (begun : ℕ) (phase : Ph
   hold_wrote after j w value inside there same still clear applies leaves is = record {
     writes = wrote_in_place t ss begun hold.writes hold.numbers after j w value inside there clear applies leaves same.value is;
     numbers = same_numbers t ss begun hold.writes hold.numbers j (after_writing (at_place ss j) w) inside (λ e. there) (λ e. number (at_place ss j)) (subst (λ n. n ≤ begun) (sym (number (at_place ss j))) (hold.numbers.given j));
-    classes = by_place ss j (after_writing (at_place ss j) w) (λ i x. fits phase x ≡ true) inside (class (at_place ss j) (hold.classes j)) (λ i other. hold.classes i);
+    classes = by_place ss j (after_writing (at_place ss j) w) (λ i x. fits_phase phase x ≡ true) inside (class (at_place ss j) (hold.classes j)) (λ i other. hold.classes i);
     sets = listed after.rows same;
     idle = hold.idle;
     within = subst (λ n. n ≤ point) (sym still) hold.within;
@@ -295,7 +295,7 @@ module _ (t : RecordsView) (ss : List (Option Active)) (begun : ℕ) (phase : Ph
       number None = refl
       number (Some a) = refl
 
-      class : (a : Option Active) → fits phase a ≡ true → fits phase (after_writing a w) ≡ true
+      class : (a : Option Active) → fits_phase phase a ≡ true → fits_phase phase (after_writing a w) ≡ true
       class None e = e
       class (Some a) e = e
 
@@ -303,7 +303,7 @@ module _ (t : RecordsView) (ss : List (Option Active)) (begun : ℕ) (phase : Ph
   over after keys j inside values is still sets = record {
     writes = ended_in_place t ss begun hold.writes hold.numbers after j inside values is;
     numbers = same_numbers t ss begun hold.writes hold.numbers j None inside (λ e. absurd (let no : false ≡ true = e in cc)) (λ e. absurd (let no : false ≡ true = e in cc)) (omega arith);
-    classes = by_place ss j None (λ i x. fits phase x ≡ true) inside refl (λ i other. hold.classes i);
+    classes = by_place ss j None (λ i x. fits_phase phase x ≡ true) inside refl (λ i other. hold.classes i);
     sets = sets;
     idle = hold.idle;
     within = subst (λ n. n ≤ point) (sym still) hold.within;
@@ -343,20 +343,20 @@ module _ (t : RecordsView) (ss : List (Option Active)) (begun : ℕ) (phase : Ph
       over after open_keys j inside (λ q none. ap (λ rs. stored (record_of rs q)) rows ∙ (released_sets n t.rows rise).value q) is still (subst (λ rs. AreSetsListed rs open_keys closed) (sym rows) (listed (released_rows n t.rows) (released_sets n t.rows rise)))
 
   -- the phase has changed to one in which the same transactions may be active
-  after_moving : (to : Phase) (next : ℕ) → ((i : ℕ) → fits to (at_place ss i) ≡ true) → (is_open_point to ≡ false → closed ≡ []) → t.point ≤ next → (same_phase to Prepare ≡ true → t.point < next) → HoldTogether t ss begun to next open_keys closed
+  after_moving : (to : Phase) (next : ℕ) → ((i : ℕ) → fits_phase to (at_place ss i) ≡ true) → (is_open_point to ≡ false → closed ≡ []) → t.point ≤ next → (same_phase to Prepare ≡ true → t.point < next) → HoldTogether t ss begun to next open_keys closed
   after_moving to next classes idle within fresh = record { writes = hold.writes; numbers = hold.numbers; classes = classes; sets = hold.sets; idle = idle; within = within; fresh = fresh }
 
-  fits_then : (to : Phase) → ((c : Class) → may_be_active phase c ≡ true → may_be_active to c ≡ true) → (i : ℕ) → fits to (at_place ss i) ≡ true
+  fits_then : (to : Phase) → ((c : Class) → may_be_active phase c ≡ true → may_be_active to c ≡ true) → (i : ℕ) → fits_phase to (at_place ss i) ≡ true
   fits_then to may i = by_active (at_place ss i) (hold.classes i)
     where
-      by_active : (a : Option Active) → fits phase a ≡ true → fits to a ≡ true
+      by_active : (a : Option Active) → fits_phase phase a ≡ true → fits_phase to a ≡ true
       by_active None e = refl
       by_active (Some a) e = may a.class e
 
-  fits_without : (to : Phase) (class : Class) → count_of class ss ≡ 0 → ((c : Class) → may_be_active phase c ≡ true → same_class c class ≡ false → may_be_active to c ≡ true) → (i : ℕ) → fits to (at_place ss i) ≡ true
+  fits_without : (to : Phase) (class : Class) → class_count class ss ≡ 0 → ((c : Class) → may_be_active phase c ≡ true → same_class c class ≡ false → may_be_active to c ≡ true) → (i : ℕ) → fits_phase to (at_place ss i) ≡ true
   fits_without to class none may i = by_active (at_place ss i) (hold.classes i) (none_counted class ss none i)
     where
-      by_active : (a : Option Active) → fits phase a ≡ true → is_of class a ≡ false → fits to a ≡ true
+      by_active : (a : Option Active) → fits_phase phase a ≡ true → is_of_class class a ≡ false → fits_phase to a ≡ true
       by_active None e f = refl
       by_active (Some a) e f = may a.class e f
 
@@ -369,7 +369,7 @@ module _ (t : RecordsView) (ss : List (Option Active)) (begun : ℕ) (phase : Ph
       may After e = e
 
   -- the phase changes, once no transaction of the class is active
-  pub hold_moved : (from to : Phase) (class : Class) → same_phase phase from ≡ true → count_of class ss ≡ 0 → ((c : Class) → may_be_active from c ≡ true → same_class c class ≡ false → may_be_active to c ≡ true) → (is_open_point to ≡ false → is_open_point from ≡ false) → same_phase to Prepare ≡ false →
+  pub hold_moved : (from to : Phase) (class : Class) → same_phase phase from ≡ true → class_count class ss ≡ 0 → ((c : Class) → may_be_active from c ≡ true → same_class c class ≡ false → may_be_active to c ≡ true) → (is_open_point to ≡ false → is_open_point from ≡ false) → same_phase to Prepare ≡ false →
       HoldTogether t ss begun to point open_keys closed
   hold_moved from to class is none may over later =
       let one = is_this phase from is in
@@ -385,7 +385,7 @@ module _ (t : RecordsView) (ss : List (Option Active)) (begun : ℕ) (phase : Ph
       may During e = e
 
   -- the open set is closed
-  pub hold_sealed : same_phase phase Prepare ≡ true → count_of Before ss ≡ 0 → HoldTogether (record t { rows = map closed_row t.rows; point = point; opened = []; shut = t.opened }) ss begun Resolve point [] open_keys
+  pub hold_sealed : same_phase phase Prepare ≡ true → class_count Before ss ≡ 0 → HoldTogether (record t { rows = map closed_row t.rows; point = point; opened = []; shut = t.opened }) ss begun Resolve point [] open_keys
   hold_sealed prepare none = record {
     writes = same_places t ss begun hold.writes hold.numbers (record t { rows = map closed_row t.rows; point = point; opened = []; shut = t.opened }) (λ q. closed_value t.rows q) (λ q. refl);
     numbers = hold.numbers;

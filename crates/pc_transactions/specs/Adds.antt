@@ -6,28 +6,28 @@ use Rattle.pc_types.specs.declared.Outcome.TheVariants.{Granted}
 use Rattle.pc_types.specs.declared.Refusal.{Refusal}
 use Rattle.pc_types.specs.declared.Refusal.TheVariants as why
 use Rattle.pc_types.specs.declared.Reply.TheVariants as told
-use Rattle.pc_types.specs.Changes.{number_of, added, can_add, or_same}
+use Rattle.pc_types.specs.Changes.{content_number, added, can_add, or_same}
 use Rattle.pc_model.specs.Replies.{first_refusal, is_granted}
 
 -- the causes that an add has after those of a write, by how its request would be answered, what its transaction sees of the key,
 -- and what that has written of it
-abbrev pub add_causes : Outcome → Option (List ℕ) → Option Change → ℤ → List (Bool × Refusal)
-add_causes o there own delta =
-    (is_granted o && is_none (number_of there), why.NotNumber) ∷ (is_granted o && (is_none (added delta there) || not (can_add own delta)), why.OutOfRange) ∷ []
+abbrev pub sum_causes : Outcome → Option (List ℕ) → Option Change → ℤ → List (Bool × Refusal)
+sum_causes o there own delta =
+    (is_granted o && is_none (content_number there), why.NotNumber) ∷ (is_granted o && (is_none (added delta there) || not (can_add own delta)), why.OutOfRange) ∷ []
 
 -- it goes on: there is room for the key, and if the request would be granted there is this sum, which can be kept
-abbrev pub GoesOn : Bool → Outcome → Option (List ℕ) → Option Change → ℤ → Option ℤ → Type 0
-GoesOn full o there own delta None = (full ≡ false) × (is_granted o ≡ false)
-GoesOn full o there own delta (Some sum) = (full ≡ false) × (o ≡ Granted) × (added delta there ≡ Some sum) × (can_add own delta ≡ true)
+abbrev pub AddProceeds : Bool → Outcome → Option (List ℕ) → Option Change → ℤ → Option ℤ → Type 0
+AddProceeds full o there own delta None = (full ≡ false) × (is_granted o ≡ false)
+AddProceeds full o there own delta (Some sum) = (full ≡ false) × (o ≡ Granted) × (added delta there ≡ Some sum) × (can_add own delta ≡ true)
 
 -- it is refused for this: the first cause that applies
 abbrev pub IsRefusedFor : Bool → Outcome → Option (List ℕ) → Option Change → ℤ → Refusal → Type 0
-IsRefusedFor full o there own delta r = first_refusal ((full, why.Full) ∷ add_causes o there own delta) ≡ Some (told.Refused r)
+IsRefusedFor full o there own delta r = first_refusal ((full, why.Full) ∷ sum_causes o there own delta) ≡ Some (told.Refused r)
 
 -- the sum, or 0 if there is none
-abbrev pub sum_in : Option ℤ → ℤ
-sum_in None = pos 0
-sum_in (Some sum) = sum
+abbrev pub sum_or_zero : Option ℤ → ℤ
+sum_or_zero None = pos 0
+sum_or_zero (Some sum) = sum
 
 -- what the sum leaves in the key's place, if there is one
 abbrev pub value_of_sum : Option ℤ → Option (List ℕ)

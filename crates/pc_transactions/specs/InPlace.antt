@@ -51,9 +51,9 @@ may_be_active Complete After = true
 may_be_active phase class = false
 
 -- the transaction, if there is one, is of such a class
-abbrev pub fits : Phase → Option Active → Bool
-fits phase None = true
-fits phase (Some t) = may_be_active phase t.class
+abbrev pub fits_phase : Phase → Option Active → Bool
+fits_phase phase None = true
+fits_phase phase (Some t) = may_be_active phase t.class
 
 -- each key of the open set, and each of the closed set, is in its list
 pub record AreSetsListed (rows : List Row) (open_keys closed_keys : List (List ℕ)) : Type 0 where
@@ -71,7 +71,7 @@ is_open_point phase = false
 pub record HoldTogether (table : RecordsView) (sessions : List (Option Active)) (begun : ℕ) (phase : Phase) (point : ℕ) (open_keys closed : List (List ℕ)) : Type 0 where
   pub writes : AreInPlace table sessions
   pub numbers : AreNumbered begun sessions
-  pub classes : (i : ℕ) → fits phase (at_place sessions i) ≡ true
+  pub classes : (i : ℕ) → fits_phase phase (at_place sessions i) ≡ true
   pub sets : AreSetsListed table.rows open_keys closed
   pub idle : is_open_point phase ≡ false → closed ≡ []
   pub within : table.point ≤ point

@@ -26,8 +26,8 @@ pub record Ongoing : Type 0 where
   pub begun : ℕ
 
 -- the session's open transaction
-abbrev pub own : Ongoing → ℕ → Option Active
-own o s = active_in o.sessions s
+abbrev pub own_transaction : Ongoing → ℕ → Option Active
+own_transaction o s = active_in o.sessions s
 
 -- that many idle sessions, over the records of these pairs
 abbrev pub at_start : ℕ → ℕ → List (List ℕ × List ℕ) → Ongoing
@@ -52,30 +52,30 @@ after_beginning o s =
     record o { sessions = with_session o.sessions s (Some transaction); phases = entered o.phases class; begun = o.begun + 1 }
 
 -- how the request of the session's transaction is answered
-abbrev pub answer_to : Ongoing → ℕ → List ℕ → Mode → Outcome
-answer_to o s key mode = outcome (requests_on (record_of o.kept.rows key)) (number_in (own o s)) mode
+abbrev pub request_outcome : Ongoing → ℕ → List ℕ → Mode → Outcome
+request_outcome o s key mode = outcome (requests_on (record_of o.kept.rows key)) (number_in (own_transaction o s)) mode
 
 -- once it was answered so, if it dies or leaves these sessions
 abbrev pub after_answer : Ongoing → ℕ → List ℕ → Mode → Outcome → List (Option Active) → Ongoing
 after_answer o s key mode answer sessions =
-    record o { kept = with_rows (rows_after o.kept.rows key (number_in (own o s)) mode answer) o.kept; sessions = if_died answer (with_session o.sessions s (after_dying (own o s))) sessions }
+    record o { kept = with_rows (rows_after o.kept.rows key (number_in (own_transaction o s)) mode answer) o.kept; sessions = if_died answer (with_session o.sessions s (after_dying (own_transaction o s))) sessions }
 
 -- once the session's transaction is over, with these rows
 abbrev pub after_ending : Ongoing → ℕ → List Row → Ongoing
-after_ending o s rows = record o { kept = with_rows (released_rows (number_in (own o s)) rows) o.kept; sessions = with_session o.sessions s None; phases = left o.phases (class_at (own o s)) }
+after_ending o s rows = record o { kept = with_rows (released_rows (number_in (own_transaction o s)) rows) o.kept; sessions = with_session o.sessions s None; phases = left o.phases (class_at (own_transaction o s)) }
 
 -- once it has committed: what its writes leave of the keys is their value, and the keys are in the open set
 abbrev pub after_committing : Ongoing → ℕ → Ongoing
-after_committing o s = record (after_ending o s (map (written_row (left_by (writes_in (own o s)) o.kept.rows)) o.kept.rows)) { open_set = o.open_set ++ new_keys o.kept.rows (writes_in (own o s)) }
+after_committing o s = record (after_ending o s (map (written_row (left_by (writes_in (own_transaction o s)) o.kept.rows)) o.kept.rows)) { open_set = o.open_set ++ new_keys o.kept.rows (writes_in (own_transaction o s)) }
 
 -- once it was undone
 abbrev pub after_aborting : Ongoing → ℕ → Ongoing
 after_aborting o s = after_ending o s o.kept.rows
 
 -- once the phase has changed; at the seal the open set becomes the closed one
-abbrev pub changed : Change → Ongoing → Ongoing
-changed change.Seal o = record o { kept = with_rows (map closed_row o.kept.rows) o.kept; open_set = []; closed_set = o.open_set; phases = advanced o.phases change.Seal }
-changed other o = record o { phases = advanced o.phases other }
+abbrev pub after_phase_change : Change → Ongoing → Ongoing
+after_phase_change change.Seal o = record o { kept = with_rows (map closed_row o.kept.rows) o.kept; open_set = []; closed_set = o.open_set; phases = advanced o.phases change.Seal }
+after_phase_change other o = record o { phases = advanced o.phases other }
 
 -- once this first key of the closed set was taken, and these are left
 abbrev pub after_taking : List ℕ → List (List ℕ) → Ongoing → Ongoing

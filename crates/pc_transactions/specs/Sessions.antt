@@ -1,7 +1,7 @@
 -- The effects on the sessions' open transactions.
 use Rattle.std.specs.Prelude.{ℕ, ◌-◌, ◌≤◌, Bool, true, false, List, [], map, filter, length, Option, Some, None, slice_index_or, slice_set, option_map}
 use Rattle.pc_types.specs.declared.Write.{Write}
-use Rattle.pc_types.specs.Changes.{changed}
+use Rattle.pc_types.specs.Changes.{changed_content}
 use Rattle.pc_model.specs.Database.{with_write, written, seen}
 use Rattle.pc_types.specs.declared.Outcome.{Outcome}
 use Rattle.pc_types.specs.declared.Outcome.TheVariants.{Granted, Queued, Died}
@@ -11,7 +11,7 @@ use Rattle.pc_types.specs.Phases.{same_class}
 use Rattle.pc_types.specs.declared.limits.TheConstants.{MOST_WRITES}
 use Rattle.pc_transactions.specs.declared.lanes.Transaction.{Transaction}
 use Rattle.pc_records.specs.Rows.{Row, record_of, stored}
-use Rattle.pc_records.specs.RowSteps.{is_waiting}
+use Rattle.pc_records.specs.RowSteps.{is_waiting_in_rows}
 use Rattle.pc_transactions.specs.Actives.{Active}
 
 -- what a session's lane is seen as: its open transaction, if there is one, and how many more writes there is room for
@@ -39,7 +39,7 @@ number_in (Some t) = t.number
 -- whether it waits for a lock, as these rows say
 abbrev pub waits_in : List Row → Option Active → Bool
 waits_in rows None = false
-waits_in rows (Some t) = is_waiting rows t.number
+waits_in rows (Some t) = is_waiting_in_rows rows t.number
 
 -- its class
 abbrev pub class_at : Option Active → Class
@@ -52,13 +52,13 @@ has_died_in None = false
 has_died_in (Some t) = t.has_died
 
 -- there is one, and it is of the class
-abbrev pub is_of : Class → Option Active → Bool
-is_of class None = false
-is_of class (Some t) = same_class t.class class
+abbrev pub is_of_class : Class → Option Active → Bool
+is_of_class class None = false
+is_of_class class (Some t) = same_class t.class class
 
 -- how many open transactions are of the class
-abbrev pub count_of : Class → List (Option Active) → ℕ
-count_of class sessions = length (filter (is_of class) sessions)
+abbrev pub class_count : Class → List (Option Active) → ℕ
+class_count class sessions = length (filter (is_of_class class) sessions)
 
 -- its writes
 abbrev pub writes_in : Option Active → List Write
@@ -67,7 +67,7 @@ writes_in (Some t) = t.writes
 
 -- what the writes leave of a key, if they are of it, if these rows say what is committed
 abbrev pub left_by : List Write → List Row → List ℕ → Option (Option (List ℕ))
-left_by writes rows key = option_map (λ change. changed change (stored (record_of rows key))) (written writes key)
+left_by writes rows key = option_map (λ change. changed_content change (stored (record_of rows key))) (written writes key)
 
 -- what the transaction sees of a key: what its own writes leave of it, or else what these rows say is committed
 abbrev pub seen_in : List Row → Option Active → List ℕ → Option (List ℕ)

@@ -15,13 +15,13 @@ ghost use Rattle.pc_model.specs.Replies.{by_outcome, read_reply};
 ghost use Rattle.pc_answers.specs.Replies.{reply_to_get};
 ghost use Rattle.pc_phase.specs.Phases.{held_back};
 ghost use Rattle.pc_records.specs.Rows.{record_of, stored};
-ghost use Rattle.pc_records.specs.RowSteps.{is_full_for, why_refused, is_waiting};
+ghost use Rattle.pc_records.specs.RowSteps.{is_full_for, why_refused, is_waiting_in_rows};
 ghost use Rattle.pc_records.specs.NewKeys.{is_one_too_many};
 ghost use Rattle.pc_records.specs.Tables.{content_behind, first_pinned, kept_of};
-ghost use Rattle.pc_transactions.specs.Adds.{GoesOn, IsRefusedFor};
+ghost use Rattle.pc_transactions.specs.Adds.{AddProceeds, IsRefusedFor};
 ghost use Rattle.pc_transactions.specs.Counts.{AreCounted};
 ghost use Rattle.pc_transactions.specs.Sessions.{actives_of, with_writes, number_in, waits_in, writes_in, seen_in, after_writing, after_dying, if_granted, with_session};
-ghost use Rattle.pc_transactions.specs.Ongoing.{own, at_start, answer_to, after_answer, after_beginning, after_committing, after_aborting, after_taking, changed};
+ghost use Rattle.pc_transactions.specs.Ongoing.{own_transaction, at_start, request_outcome, after_answer, after_beginning, after_committing, after_aborting, after_taking, after_phase_change};
 ghost use Rattle.pc_transactions.specs.Actives.{active_in};
 
 use crate::lanes::{Lane, Transaction};
@@ -122,14 +122,14 @@ impl Sessions {
 
     /// The session's open transaction.
     pub fn active(&self, session: SessionNo) -> Option<Transaction>
-        ensures { option_map (with_writes (writes_in (own self.now session))) result ≡ own self.now session }
+        ensures { option_map (with_writes (writes_in (own_transaction self.now session))) result ≡ own_transaction self.now session }
     {
         active(self.lanes.as_slice(), session)
     }
 
     /// The writes of the session's open transaction: of each key all its changes as one, in the order of first writes.
     pub fn writes(&self, session: SessionNo) -> &[Write]
-        ensures writes { result.now ≡ writes_in (own self.now session) }
+        ensures writes { result.now ≡ writes_in (own_transaction self.now session) }
         ensures few { length result.now ≤ MOST_WRITES }
         ensures distinct { AreDistinct result.now }
         ensures sessions { length self.now.sessions ≤ MOST_SESSIONS }
@@ -142,14 +142,14 @@ impl Sessions {
 
     /// Whether a request of the transaction waits.
     pub fn is_waiting(&self, transaction: TxnNo) -> bool
-        ensures { result ≡ is_waiting self.now.kept.rows transaction }
+        ensures { result ≡ is_waiting_in_rows self.now.kept.rows transaction }
     {
         self.records.is_waiting(transaction)
     }
 
     /// Whether a request of the session's open transaction waits; false if it has none open.
     pub fn has_waiting(&self, session: SessionNo) -> bool
-        ensures { result ≡ waits_in self.now.kept.rows (own self.now session) }
+        ensures { result ≡ waits_in self.now.kept.rows (own_transaction self.now session) }
     {
         match self.active(session) {
             Some(transaction) => self.is_waiting(transaction.number),
@@ -159,7 +159,7 @@ impl Sessions {
 
     /// Whether the session has an open transaction.
     pub fn has_open(&self, session: SessionNo) -> bool
-        ensures { result ≡ is_some (own self.now session) }
+        ensures { result ≡ is_some (own_transaction self.now session) }
     {
         match self.active(session) {
             Some(_) => true,
@@ -169,7 +169,7 @@ impl Sessions {
 
     /// Whether the session's open transaction has written the key; false if it has none open.
     pub fn has_written(&self, session: SessionNo, key: &Key) -> bool
-        ensures { result ≡ is_some (written (writes_in (own self.now session)) key.now) }
+        ensures { result ≡ is_some (written (writes_in (own_transaction self.now session)) key.now) }
     {
         match self.lanes.get(place(session)) {
             Some(lane) => lane.writes().has(key),
@@ -179,7 +179,7 @@ impl Sessions {
 
     /// Whether a write of the key would be of a 257th key of the session's open transaction.
     pub fn is_one_too_many(&self, session: SessionNo, key: &Key) -> bool
-        ensures { result ≡ is_one_too_many (writes_in (own self.now session)) key.now }
+        ensures { result ≡ is_one_too_many (writes_in (own_transaction self.now session)) key.now }
     {
         match self.lanes.get(place(session)) {
             Some(lane) => lane.writes().is_full_for(key),
@@ -197,7 +197,7 @@ impl Sessions {
     /// A transaction begins in the session, which has none open. Its number.
     pub fn begin(&mut self, session: SessionNo) -> TxnNo
         requires place { session - 1 < length self.old.sessions }
-        requires idle { is_none (own self.old session) ≡ true }
+        requires idle { is_none (own_transaction self.old session) ≡ true }
         requires more { self.old.begun < MOST_TRANSACTIONS }
         ensures number { result ≡ self.old.begun + 1 }
         ensures begins { self.new ≡ after_beginning self.old session }
@@ -219,10 +219,10 @@ impl Sessions {
         key: &Key,
     ) -> Result<GetAnswer, Refusal>
         requires place { session - 1 < length self.old.sessions }
-        requires opened { is_none (own self.old session) ≡ false }
-        requires ready { is_waiting self.old.kept.rows (number_in (own self.old session)) ≡ false }
-        ensures reply { IfOk result (λ answer. reply_to_get answer ≡ by_outcome (answer_to self.old session key.now Shared) (read_reply (seen_in self.old.kept.rows (own self.old session) key.now))) }
-        ensures answered { IfOk result (λ answer. self.new ≡ after_answer self.old session key.now Shared (answer_to self.old session key.now Shared) self.old.sessions) }
+        requires opened { is_none (own_transaction self.old session) ≡ false }
+        requires ready { is_waiting_in_rows self.old.kept.rows (number_in (own_transaction self.old session)) ≡ false }
+        ensures reply { IfOk result (λ answer. reply_to_get answer ≡ by_outcome (request_outcome self.old session key.now Shared) (read_reply (seen_in self.old.kept.rows (own_transaction self.old session) key.now))) }
+        ensures answered { IfOk result (λ answer. self.new ≡ after_answer self.old session key.now Shared (request_outcome self.old session key.now Shared) self.old.sessions) }
         ensures room { IfOk result (λ answer. is_full_for self.old.kept key.now ≡ false) }
         ensures refusal { IfErr result (λ why. why ≡ why_refused self.old.kept key.now) }
         ensures same { OnErr result (self.new ≡ self.old) }
@@ -243,11 +243,11 @@ impl Sessions {
     /// be granted. It is refused with `Full` if and only if the key has no record and can't get one, and otherwise, only if the
     /// request would be granted, with `NotNumber` or `OutOfRange`. It changes nothing and takes no memory.
     pub fn foretell(&self, session: SessionNo, key: &Key, delta: i64) -> Result<Prospect, Refusal>
-        requires opened { is_none (own self.now session) ≡ false }
-        requires ready { is_waiting self.now.kept.rows (number_in (own self.now session)) ≡ false }
-        ensures goes_on { IfOk result (λ prospect. GoesOn (is_full_for self.now.kept key.now) (answer_to self.now session key.now Exclusive) (seen_in self.now.kept.rows (own self.now session) key.now) (written (writes_in (own self.now session)) key.now) delta prospect.sum) }
-        ensures refused { IfErr result (IsRefusedFor (is_full_for self.now.kept key.now) (answer_to self.now session key.now Exclusive) (seen_in self.now.kept.rows (own self.now session) key.now) (written (writes_in (own self.now session)) key.now) delta) }
-        ensures apply { AppliesIfAny (written (writes_in (own self.now session)) key.now) (stored (record_of self.now.kept.rows key.now)) }
+        requires opened { is_none (own_transaction self.now session) ≡ false }
+        requires ready { is_waiting_in_rows self.now.kept.rows (number_in (own_transaction self.now session)) ≡ false }
+        ensures goes_on { IfOk result (λ prospect. AddProceeds (is_full_for self.now.kept key.now) (request_outcome self.now session key.now Exclusive) (seen_in self.now.kept.rows (own_transaction self.now session) key.now) (written (writes_in (own_transaction self.now session)) key.now) delta prospect.sum) }
+        ensures refused { IfErr result (IsRefusedFor (is_full_for self.now.kept key.now) (request_outcome self.now session key.now Exclusive) (seen_in self.now.kept.rows (own_transaction self.now session) key.now) (written (writes_in (own_transaction self.now session)) key.now) delta) }
+        ensures apply { AppliesIfAny (written (writes_in (own_transaction self.now session)) key.now) (stored (record_of self.now.kept.rows key.now)) }
     {
         let number = number(self.lanes.as_slice(), session);
         let Look {
@@ -282,8 +282,8 @@ impl Sessions {
         found: Option<&Value>,
         delta: i64,
     ) -> Result<Option<i64>, Refusal>
-        ensures goes_on { IfOk result (GoesOn false outcome (option_copied found.entry) (written (writes_in (own self.now session)) key.now) delta) }
-        ensures refused { IfErr result (λ why. (outcome ≡ Granted) × IsRefusedFor false Granted (option_copied found.entry) (written (writes_in (own self.now session)) key.now) delta why) }
+        ensures goes_on { IfOk result (AddProceeds false outcome (option_copied found.entry) (written (writes_in (own_transaction self.now session)) key.now) delta) }
+        ensures refused { IfErr result (λ why. (outcome ≡ Granted) × IsRefusedFor false Granted (option_copied found.entry) (written (writes_in (own_transaction self.now session)) key.now) delta why) }
     {
         match outcome {
             Outcome::Granted => Ok(Some(self.sum_of(session, key, found, delta)?)),
@@ -299,8 +299,8 @@ impl Sessions {
         found: Option<&Value>,
         delta: i64,
     ) -> Result<i64, Refusal>
-        ensures sum { IfOk result (λ sum. (added delta (option_copied found.entry) ≡ Some sum) × (can_add (written (writes_in (own self.now session)) key.now) delta ≡ true)) }
-        ensures refused { IfErr result (IsRefusedFor false Granted (option_copied found.entry) (written (writes_in (own self.now session)) key.now) delta) }
+        ensures sum { IfOk result (λ sum. (added delta (option_copied found.entry) ≡ Some sum) × (can_add (written (writes_in (own_transaction self.now session)) key.now) delta ≡ true)) }
+        ensures refused { IfErr result (IsRefusedFor false Granted (option_copied found.entry) (written (writes_in (own_transaction self.now session)) key.now) delta) }
     {
         if !is_number(found) {
             return Err(Refusal::NotNumber);
@@ -316,7 +316,7 @@ impl Sessions {
 
     // Whether an add to the key can be kept as one change with what the session's open transaction has written of it.
     fn can_add(&self, session: SessionNo, key: &Key, delta: i64) -> bool
-        ensures { result ≡ can_add (written (writes_in (own self.now session)) key.now) delta }
+        ensures { result ≡ can_add (written (writes_in (own_transaction self.now session)) key.now) delta }
     {
         match self.lanes.get(place(session)) {
             Some(lane) => lane.writes().can_add(key, delta),
@@ -336,14 +336,14 @@ impl Sessions {
         near: Option<SlotId>,
     ) -> Result<Outcome, Refusal>
         requires place { session - 1 < length self.old.sessions }
-        requires opened { is_none (own self.old session) ≡ false }
-        requires one { is_one_too_many (writes_in (own self.old session)) write.key ≡ false }
-        requires merges { answer_to self.old session write.key Exclusive ≡ Granted → CanMerge (written (writes_in (own self.old session)) write.key) write.change }
-        requires applies { answer_to self.old session write.key Exclusive ≡ Granted → Applies write.change (seen_in self.old.kept.rows (own self.old session) write.key) }
-        requires left { answer_to self.old session write.key Exclusive ≡ Granted → value ≡ seen_in self.old.kept.rows (after_writing (own self.old session) write) write.key }
-        requires ready { is_waiting self.old.kept.rows (number_in (own self.old session)) ≡ false }
-        ensures told { IfOk result (λ outcome. outcome ≡ answer_to self.old session write.key Exclusive) }
-        ensures answered { IfOk result (λ outcome. self.new ≡ after_answer self.old session write.key Exclusive outcome (if_granted outcome (with_session self.old.sessions session (after_writing (own self.old session) write)) self.old.sessions)) }
+        requires opened { is_none (own_transaction self.old session) ≡ false }
+        requires one { is_one_too_many (writes_in (own_transaction self.old session)) write.key ≡ false }
+        requires merges { request_outcome self.old session write.key Exclusive ≡ Granted → CanMerge (written (writes_in (own_transaction self.old session)) write.key) write.change }
+        requires applies { request_outcome self.old session write.key Exclusive ≡ Granted → Applies write.change (seen_in self.old.kept.rows (own_transaction self.old session) write.key) }
+        requires left { request_outcome self.old session write.key Exclusive ≡ Granted → value ≡ seen_in self.old.kept.rows (after_writing (own_transaction self.old session) write) write.key }
+        requires ready { is_waiting_in_rows self.old.kept.rows (number_in (own_transaction self.old session)) ≡ false }
+        ensures told { IfOk result (λ outcome. outcome ≡ request_outcome self.old session write.key Exclusive) }
+        ensures answered { IfOk result (λ outcome. self.new ≡ after_answer self.old session write.key Exclusive outcome (if_granted outcome (with_session self.old.sessions session (after_writing (own_transaction self.old session) write)) self.old.sessions)) }
         ensures room { IfOk result (λ outcome. is_full_for self.old.kept write.key ≡ false) }
         ensures refusal { IfErr result (λ why. why ≡ why_refused self.old.kept write.key) }
         ensures same { OnErr result (self.new ≡ self.old) }
@@ -363,7 +363,7 @@ impl Sessions {
     /// The session's transaction is committed, and over: its writes are committed in place, and its locks are released.
     pub fn commit(&mut self, session: SessionNo)
         requires place { session - 1 < length self.old.sessions }
-        requires opened { is_none (own self.old session) ≡ false }
+        requires opened { is_none (own_transaction self.old session) ≡ false }
         ensures { self.new ≡ after_committing self.old session }
     {
         let lane = &mut self.lanes[place(session)];
@@ -378,7 +378,7 @@ impl Sessions {
     /// released.
     pub fn abort(&mut self, session: SessionNo)
         requires place { session - 1 < length self.old.sessions }
-        requires opened { is_none (own self.old session) ≡ false }
+        requires opened { is_none (own_transaction self.old session) ≡ false }
         ensures { self.new ≡ after_aborting self.old session }
     {
         let lane = &mut self.lanes[place(session)];
@@ -400,7 +400,7 @@ impl Sessions {
     /// The phase changes; nothing holds that back. At a seal the open set becomes the closed one.
     pub fn change(&mut self, change: Change)
         requires { held_back self.old.phases change (length self.old.closed_set) ≡ None }
-        ensures changed { self.new ≡ changed change self.old }
+        ensures changed { self.new ≡ after_phase_change change self.old }
         ensures begun { 1 ≤ self.new.phases.point }
     {
         let left = self.records.closed_len();

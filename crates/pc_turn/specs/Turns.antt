@@ -29,15 +29,15 @@ IsKept written kept text old new true = Appends (written old) (written new) text
 IsKept written kept text old new false = AppendsBeginning (written old) (written new) text × Grows (kept old) (kept new)
 
 -- more entries aren't written than the lag
-abbrev pub is_due : ℕ → ℕ → List Entry → Bool
-is_due lag before log = nat_lt lag (length log - before)
+abbrev pub exceeds_lag : ℕ → ℕ → List Entry → Bool
+exceeds_lag lag before log = nat_lt lag (length log - before)
 
 -- The entries that weren't written are kept, if they are more than the lag; or, if that is not so, the device failed, and no more
 -- count as written than before.
 abbrev pub IsLogOut : {T : Type 0} → (T → Option (List ℕ)) → (T → Option (List ℕ)) → List Entry → ℕ → ℕ → ℕ → T → T → Bool → Type 0
 IsLogOut written kept log lag before after old new true =
-    MatchBool (is_due lag before log) (IsKept written kept (rest_text before log) old new true × (after ≡ length log)) ((new ≡ old) × (after ≡ before))
-IsLogOut written kept log lag before after old new false = IsTrue (is_due lag before log) × IsKept written kept (rest_text before log) old new false × (after ≡ before)
+    MatchBool (exceeds_lag lag before log) (IsKept written kept (rest_text before log) old new true × (after ≡ length log)) ((new ≡ old) × (after ≡ before))
+IsLogOut written kept log lag before after old new false = IsTrue (exceeds_lag lag before log) × IsKept written kept (rest_text before log) old new false × (after ≡ before)
 
 -- All of the text went out; or the device failed, which was counted, and a prefix of it went out, which may be all of it.
 abbrev pub IsSent : {T : Type 0} → (T → Option (List ℕ)) → List ℕ → Tally T → Tally T → Result (Unit {0}) Refusal → Type 0

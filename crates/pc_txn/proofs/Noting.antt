@@ -8,13 +8,13 @@ use Rattle.pc_model.specs.Database.{with_write, written}
 use Rattle.pc_model.specs.Places.{IsAt, IsGap}
 use Rattle.pc_model.specs.Receipts.{Read, is_read}
 use Rattle.pc_txn.specs.Notes.{noting}
-use Rattle.pc_txn.specs.Orders.{place_of, entries, IsOrder}
-use Rattle.pc_txn.specs.Sets.{written_keys, read_keys, change_at, merged_at}
+use Rattle.pc_txn.specs.Orders.{key_position, entries, IsOrder}
+use Rattle.pc_txn.specs.Sets.{written_keys, read_keys, change_at_position, merged_at}
 use Rattle.pc_txn.proofs.Orders.{found_place, nowhere, order_added}
 use Rattle.pc_txn.proofs.Written.{written_again, written_first, written_at, same_keys, has_written, has_read}
 
 -- whether a search found the key is whether the key has a place
-tells : (keys : List (List ℕ)) (order : List ℕ) (key : List ℕ) (r : Result ℕ ℕ) → IsOrder keys order → IfOk r (IsAt (entries keys order) key) → IfErr r (IsGap (entries keys order) key) → is_ok r ≡ is_some (place_of keys key)
+tells : (keys : List (List ℕ)) (order : List ℕ) (key : List ℕ) (r : Result ℕ ℕ) → IsOrder keys order → IfOk r (IsAt (entries keys order) key) → IfErr r (IsGap (entries keys order) key) → is_ok r ≡ is_some (key_position keys key)
 tells keys order key (Ok i) sorted at gap = sym (ap is_some (sym (sorted.finds key) ∙ at.finds ([], 0)))
 tells keys order key (Err i) sorted at gap = sym (ap is_some (sym (sorted.finds key) ∙ gap.finds))
 
@@ -26,7 +26,7 @@ tells_read rs order key r sorted at gap = tells (read_keys rs) order key r sorte
 
 -- a write of a key that is written
 module _ (ws new : List Write) (order : List ℕ) (w : Write) (at : ℕ) (sorted : IsOrder (written_keys ws) order) (there : IsAt (entries (written_keys ws) order) w.key at) (is : new ≡ merged_at ws (get_or order at 0) w.change) where
-  place : place_of (written_keys ws) w.key ≡ Some (get_or order at 0)
+  place : key_position (written_keys ws) w.key ≡ Some (get_or order at 0)
   place = found_place (written_keys ws) order w.key at sorted there
 
   pub noted_again : new ≡ with_write ws w
@@ -36,7 +36,7 @@ module _ (ws new : List Write) (order : List ℕ) (w : Write) (at : ℕ) (sorted
   order_again = subst (λ keys. IsOrder keys order) (sym (ap written_keys is ∙ same_keys ws (get_or order at 0) w.change)) sorted
 
 -- what is written of a key that was found, or was not
-pub found_change : (ws : List Write) (order : List ℕ) (key : List ℕ) (at : ℕ) → IsOrder (written_keys ws) order → IsAt (entries (written_keys ws) order) key at → written ws key ≡ change_at ws (get_or order at 0)
+pub found_change : (ws : List Write) (order : List ℕ) (key : List ℕ) (at : ℕ) → IsOrder (written_keys ws) order → IsAt (entries (written_keys ws) order) key at → written ws key ≡ change_at_position ws (get_or order at 0)
 found_change ws order key at sorted there = written_at ws key (get_or order at 0) (found_place (written_keys ws) order key at sorted there)
 
 pub no_change : (ws : List Write) (order : List ℕ) (key : List ℕ) (at : ℕ) → IsOrder (written_keys ws) order → IsGap (entries (written_keys ws) order) key at → written ws key ≡ None

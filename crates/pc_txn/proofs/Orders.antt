@@ -17,7 +17,7 @@ use Rattle.pc_model.specs.Places.{IsAt, IsGap}
 use Rattle.pc_model.proofs.JoinLaws.{one_key}
 use Rattle.pc_model.proofs.PlaceLaws.{still_rise}
 use Rattle.pc_model.proofs.SearchLaws.{against, found_at, found_gap}
-use Rattle.pc_txn.specs.Orders.{place_of, key_at, entries, IsOrder}
+use Rattle.pc_txn.specs.Orders.{key_position, key_at_position, entries, IsOrder}
 
 -- what a search among values of a function answers is what one among the arguments does
 searched : {A B : Type 0} (f : A → B) (a : A) (how : B → Ordering) (xs : List A) (r : Result ℕ ℕ) → IsSearchInRange r (length xs) → IsBinarySearchResult (λ x. how (f x)) xs r → IsBinarySearchResult how (map f xs) r
@@ -32,12 +32,12 @@ searched f a how xs (Err i) bound parted = λ rises.
       λ k d low high. let within : k < length xs = rw length-map at high in ap how (get_or-map f xs k a d within) ∙ parts.1 k a low within,
     )
 
-module _ (keys : List (List ℕ)) (order : List ℕ) (key : List ℕ) (r : Result ℕ ℕ) (sorted : IsOrder keys order) (bound : IsSearchInRange r (length order)) (answered : IsBinarySearchResult (λ place. key_cmp (key_at keys place) key) order r) where
+module _ (keys : List (List ℕ)) (order : List ℕ) (key : List ℕ) (r : Result ℕ ℕ) (sorted : IsOrder keys order) (bound : IsSearchInRange r (length order)) (answered : IsBinarySearchResult (λ place. key_cmp (key_at_position keys place) key) order r) where
   in_entries : IsSearchInRange r (length (entries keys order))
   in_entries = rw length-map bound
 
   among : IsBinarySearchResult (against key) (entries keys order) r
-  among = searched (λ place. (key_at keys place, place)) 0 (against key) order r bound answered
+  among = searched (λ place. (key_at_position keys place, place)) 0 (against key) order r bound answered
 
   pub key_at_place : IfOk r (IsAt (entries keys order) key)
   key_at_place = found_at (entries keys order) key r sorted.rise in_entries among
@@ -55,23 +55,23 @@ same_turned k l = ap is_eq (key_order.total.antisymm k l) ∙ reversed (key_cmp 
     reversed Greater = refl
 
 -- where a key is once a new one is there
-place_added : (keys : List (List ℕ)) (k q : List ℕ) → place_of keys k ≡ None → place_of (keys ++ k ∷ []) q ≡ cond (same_bytes k q) (Some (length keys)) (place_of keys q)
+place_added : (keys : List (List ℕ)) (k q : List ℕ) → key_position keys k ≡ None → key_position (keys ++ k ∷ []) q ≡ cond (same_bytes k q) (Some (length keys)) (key_position keys q)
 place_added [] k q none = refl
-place_added (x ∷ xs) k q none = by_first (same_bytes x k) (place_of xs k) refl none (place_added xs k q)
+place_added (x ∷ xs) k q none = by_first (same_bytes x k) (key_position xs k) refl none (place_added xs k q)
   where
     grown : (b : Bool) (o : Option ℕ) → option_map suc (cond b (Some (length xs)) o) ≡ cond b (Some (suc (length xs))) (option_map suc o)
     grown true o = refl
     grown false o = refl
 
-    apart : (a b : Bool) → same_bytes x q ≡ a → same_bytes k q ≡ b → same_bytes x k ≡ false → cond a (Some 0) (cond b (Some (suc (length xs))) (option_map suc (place_of xs q))) ≡ cond b (Some (suc (length xs))) (cond a (Some 0) (option_map suc (place_of xs q)))
+    apart : (a b : Bool) → same_bytes x q ≡ a → same_bytes k q ≡ b → same_bytes x k ≡ false → cond a (Some 0) (cond b (Some (suc (length xs))) (option_map suc (key_position xs q))) ≡ cond b (Some (suc (length xs))) (cond a (Some 0) (option_map suc (key_position xs q)))
     apart true true e f not = let both : true ≡ false = sym e ∙ ap (same_bytes x) (sym (one_key k q f)) ∙ not in absurd cc
     apart true false e f not = refl
     apart false b e f not = refl
 
-    by_first : (b : Bool) (o : Option ℕ) → same_bytes x k ≡ b → cond b (Some 0) (option_map suc o) ≡ None → (o ≡ None → place_of (xs ++ k ∷ []) q ≡ cond (same_bytes k q) (Some (length xs)) (place_of xs q)) →
-        cond (same_bytes x q) (Some 0) (option_map suc (place_of (xs ++ k ∷ []) q)) ≡ cond (same_bytes k q) (Some (suc (length xs))) (cond (same_bytes x q) (Some 0) (option_map suc (place_of xs q)))
+    by_first : (b : Bool) (o : Option ℕ) → same_bytes x k ≡ b → cond b (Some 0) (option_map suc o) ≡ None → (o ≡ None → key_position (xs ++ k ∷ []) q ≡ cond (same_bytes k q) (Some (length xs)) (key_position xs q)) →
+        cond (same_bytes x q) (Some 0) (option_map suc (key_position (xs ++ k ∷ []) q)) ≡ cond (same_bytes k q) (Some (suc (length xs))) (cond (same_bytes x q) (Some 0) (option_map suc (key_position xs q)))
     by_first true o e none later = absurd cc
-    by_first false None e none later = ap (λ o. cond (same_bytes x q) (Some 0) (option_map suc o)) (later refl) ∙ ap (cond (same_bytes x q) (Some 0)) (grown (same_bytes k q) (place_of xs q)) ∙ apart (same_bytes x q) (same_bytes k q) refl refl e
+    by_first false None e none later = ap (λ o. cond (same_bytes x q) (Some 0) (option_map suc o)) (later refl) ∙ ap (cond (same_bytes x q) (Some 0)) (grown (same_bytes k q) (key_position xs q)) ∙ apart (same_bytes x q) (same_bytes k q) refl refl e
     by_first false (Some i) e none later = absurd cc
 
 -- places have the keys that they had, once one more is there
@@ -79,16 +79,16 @@ same_entries : (keys : List (List ℕ)) (key : List ℕ) (order : List ℕ) → 
 same_entries keys key [] within = refl
 same_entries keys key (p ∷ ps) within =
     let lt : p < length keys = within 0 p (omega arith) in
-    let head : key_at (keys ++ key ∷ []) p ≡ key_at keys p = get_or-append keys (key ∷ []) [] p lt in
+    let head : key_at_position (keys ++ key ∷ []) p ≡ key_at_position keys p = get_or-append keys (key ∷ []) [] p lt in
     λ i. (head i, p) ∷ same_entries keys key ps (λ k d below. within (suc k) d (omega (arith, below))) i
 
 module _ (keys : List (List ℕ)) (order : List ℕ) (key : List ℕ) (at : ℕ) (sorted : IsOrder keys order) (gap : IsGap (entries keys order) key at) where
-  pub nowhere : place_of keys key ≡ None
+  pub nowhere : key_position keys key ≡ None
   nowhere = sym (sorted.finds key) ∙ gap.finds
 
   put_in : entries (keys ++ key ∷ []) (insert order at (length keys)) ≡ put key_cmp key (length keys) (entries keys order)
   put_in =
-      let keyed : ℕ → List ℕ × ℕ = λ place. (key_at (keys ++ key ∷ []) place, place) in
+      let keyed : ℕ → List ℕ × ℕ = λ place. (key_at_position (keys ++ key ∷ []) place, place) in
       let new : keyed (length keys) ≡ (key, length keys) = ap (λ k. (k, length keys)) (get_or-append_seam keys key [] []) in
       map-append keyed (take at order) (length keys ∷ drop at order)
       ∙ ap (λ front. front ++ keyed (length keys) ∷ map keyed (drop at order)) (sym (take-map keyed at order))
@@ -127,9 +127,9 @@ module _ (keys : List (List ℕ)) (order : List ℕ) (key : List ℕ) (at : ℕ)
   }
 
 -- the place in the order is the key's
-pub found_place : (keys : List (List ℕ)) (order : List ℕ) (key : List ℕ) (at : ℕ) → IsOrder keys order → IsAt (entries keys order) key at → place_of keys key ≡ Some (get_or order at 0)
+pub found_place : (keys : List (List ℕ)) (order : List ℕ) (key : List ℕ) (at : ℕ) → IsOrder keys order → IsAt (entries keys order) key at → key_position keys key ≡ Some (get_or order at 0)
 found_place keys order key at sorted is =
-    sym (sorted.finds key) ∙ is.finds ([], 0) ∙ ap (λ (e : List ℕ × ℕ). Some e.1) (get_or-map (λ p. (key_at keys p, p)) order at 0 ([], 0) (rw length-map at is.in_range))
+    sym (sorted.finds key) ∙ is.finds ([], 0) ∙ ap (λ (e : List ℕ × ℕ). Some e.1) (get_or-map (λ p. (key_at_position keys p, p)) order at 0 ([], 0) (rw length-map at is.in_range))
 
 -- what is inserted at the end is after all
 pub insert_last : (xs : List ℕ) (n y : ℕ) → n ≡ length xs → insert xs n y ≡ xs ++ y ∷ []

@@ -17,10 +17,10 @@ reads_after got.Absent own reads key = noting own reads key None
 reads_after got.Died own reads key = reads
 
 -- the value that a read was answered with
-abbrev pub value_of : Got → Option (List ℕ)
-value_of (got.Found value) = Some value
-value_of got.Absent = None
-value_of got.Died = None
+abbrev pub got_value : Got → Option (List ℕ)
+got_value (got.Found value) = Some value
+got_value got.Absent = None
+got_value got.Died = None
 
 -- the content that was read
 abbrev pub content_of : Option Read → Option (List ℕ)

@@ -21,8 +21,8 @@ abbrev pub is_one_more : List Write → List ℕ → Bool
 is_one_more writes key = (length writes == MOST_WRITES) && is_none (written writes key)
 
 -- the change of the write at the place
-abbrev pub change_at : List Write → ℕ → Option Change
-change_at writes place = option_map (λ (w : Write). w.change) (slice_get writes place)
+abbrev pub change_at_position : List Write → ℕ → Option Change
+change_at_position writes place = option_map (λ (w : Write). w.change) (slice_get writes place)
 
 -- the writes once a later change is merged with the one at the place
 abbrev pub merged_at : List Write → ℕ → Change → List Write

@@ -4,7 +4,7 @@ ghost use Rattle.pc_model.specs.Database.{key_cmp};
 ghost use Rattle.pc_model.specs.Places.{IsAt, IsGap};
 ghost use Rattle.pc_model.specs.Receipts.{is_read};
 ghost use Rattle.pc_txn.specs.Notes.{noting};
-ghost use Rattle.pc_txn.specs.Orders.{key_at, entries, IsOrder};
+ghost use Rattle.pc_txn.specs.Orders.{key_at_position, entries, IsOrder};
 ghost use Rattle.pc_txn.specs.Sets.{Roomy, read_keys};
 
 use crate::order;
@@ -141,7 +141,7 @@ impl ReadSet {
 
 // The order of the key at the place and this one; past the last place there are no bytes.
 fn compare_at(reads: &[(Key, Option<Value>)], place: usize, key: &Key) -> Ordering
-    ensures { result ≡ key_cmp (key_at (read_keys reads.now) place) key.now }
+    ensures { result ≡ key_cmp (key_at_position (read_keys reads.now) place) key.now }
 {
     match reads.get(place) {
         Some(read) => read.0.compare(key),

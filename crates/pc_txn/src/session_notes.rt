@@ -1,7 +1,7 @@
 //! A session's notes of its own calls, and the content that it found.
 ghost use Rattle.std.specs.Prelude.{◌≡◌, ◌<◌, ◌∷◌, ◌++◌, [], true, false, Bool, Some, length, option_copied, slice_get};
 ghost use Rattle.pc_txn.specs.Commits.{HasRoomFor, commit_note};
-ghost use Rattle.pc_txn.specs.Notes.{noting, reads_after, content_of, kept_in, value_of};
+ghost use Rattle.pc_txn.specs.Notes.{noting, reads_after, content_of, kept_in, got_value};
 ghost use Rattle.pc_txn.specs.declared.session_notes.Latest.TheVariants.{Nothing};
 
 use crate::commits::Commits;
@@ -79,7 +79,7 @@ impl SessionNotes {
     pub fn read(&mut self, own: bool, key: Key, got: Got)
         requires { 0 < self.old.reads.room }
         ensures reads { self.new.reads.items ≡ reads_after got own self.old.reads.items key }
-        ensures latest { kept_in self.new.latest self.new.reads.items ≡ value_of got }
+        ensures latest { kept_in self.new.latest self.new.reads.items ≡ got_value got }
         ensures others { (self.new.busy ≡ self.old.busy) × (self.new.commits.items ≡ self.old.commits.items) }
     {
         self.latest = note_got(own, &mut self.reads, key, got);
@@ -147,7 +147,7 @@ fn note_value(own: bool, reads: &mut ReadSet, key: Key, value: Value) -> Latest
 fn note_got(own: bool, reads: &mut ReadSet, key: Key, got: Got) -> Latest
     requires { 0 < reads.old.room }
     ensures reads { reads.new.items ≡ reads_after got own reads.old.items key }
-    ensures latest { kept_in result reads.new.items ≡ value_of got }
+    ensures latest { kept_in result reads.new.items ≡ got_value got }
 {
     match got {
         Got::Found(value) => note_value(own, reads, key, value),

@@ -3,8 +3,8 @@ ghost use Rattle.std.specs.Prelude.{◌≡◌, ◌<◌, ◌≤◌, ◌+◌, ◌+
 ghost use Rattle.pc_model.specs.Database.{key_cmp, with_write, written};
 ghost use Rattle.pc_model.specs.DistinctWrites.{AreDistinct};
 ghost use Rattle.pc_model.specs.Places.{IsAt, IsGap};
-ghost use Rattle.pc_txn.specs.Orders.{key_at, entries, IsOrder};
-ghost use Rattle.pc_txn.specs.Sets.{Roomy, written_keys, change_at, merged_at, is_one_more};
+ghost use Rattle.pc_txn.specs.Orders.{key_at_position, entries, IsOrder};
+ghost use Rattle.pc_txn.specs.Sets.{Roomy, written_keys, change_at_position, merged_at, is_one_more};
 ghost use Rattle.pc_types.specs.Changes.{can_add, CanMerge};
 
 use crate::order;
@@ -158,7 +158,7 @@ fn make_room(writes: &mut Vec<Write>) -> Result<(), AllocError>
 
 // The order of the key at the place and this one; past the last place there are no bytes.
 fn compare_at(writes: &[Write], place: usize, key: &Key) -> Ordering
-    ensures { result ≡ key_cmp (key_at (written_keys writes.now) place) key.now }
+    ensures { result ≡ key_cmp (key_at_position (written_keys writes.now) place) key.now }
 {
     match writes.get(place) {
         Some(write) => write.key.compare(key),
@@ -178,7 +178,7 @@ fn position(writes: &[Write], order: &[usize], key: &Key) -> Result<usize, usize
 // Whether an add can be kept as one change with the write at the place.
 fn can_add_at(writes: &[Write], place: usize, delta: i64) -> bool
     requires { place < length writes.now }
-    ensures { result ≡ can_add (change_at writes.now place) delta }
+    ensures { result ≡ can_add (change_at_position writes.now place) delta }
 {
     writes[place].change.can_add(delta)
 }
@@ -186,7 +186,7 @@ fn can_add_at(writes: &[Write], place: usize, delta: i64) -> bool
 // A later write of its key is merged with the write at the place.
 fn merge_at(alloc: Global, writes: &mut Vec<Write>, place: usize, later: Write)
     requires place { place < length writes.old.items }
-    requires merges { CanMerge (change_at writes.old.items place) later.change }
+    requires merges { CanMerge (change_at_position writes.old.items place) later.change }
     ensures { writes.new.items ≡ merged_at writes.old.items place later.change }
 {
     writes[place].change.merge(alloc, later.change);

@@ -4,7 +4,7 @@ use Rattle.std.specs.Ordering.{nat_cmp, ordering_then, MatchOrdering}
 use Rattle.std.specs.Cmp.{ranks, nat_cmp_is}
 use Rattle.std.specs.Cmp.Lexicographic.{slice_cmp}
 use Rattle.pc_types.specs.Bytes.{IsBytes}
-use Rattle.pc_types.specs.Heads.{spelled, headed, head}
+use Rattle.pc_types.specs.Heads.{base_256_value, headed, head}
 use Rattle.pc_types.proofs.ByteLaws.{IsBytes-rest, IsBytes-drop}
 use Rattle.pc_types.proofs.WordOrder.{digit, then_assoc}
 
@@ -52,7 +52,7 @@ next n m u v o p q = ap (λ r. ordering_then r o) (digit n m u v p q) ∙ sym (t
 on : (x o p : Ordering) → o ≡ p → Decides x o → Decides x p
 on x o p is decides apart = sym is ∙ decides apart
 
-spelled_decides : (k n m : ℕ) (us vs : List ℕ) → IsBytes us → IsBytes vs → Decides (nat_cmp (spelled k n us) (spelled k m vs)) (ordering_then (nat_cmp n m) (slice_cmp nat_cmp us vs))
+spelled_decides : (k n m : ℕ) (us vs : List ℕ) → IsBytes us → IsBytes vs → Decides (nat_cmp (base_256_value k n us) (base_256_value k m vs)) (ordering_then (nat_cmp n m) (slice_cmp nat_cmp us vs))
 spelled_decides zero n m us vs g h = first_alone (nat_cmp n m) (nat_cmp n m) (slice_cmp nat_cmp us vs) refl
 spelled_decides (suc k) n m [] [] g h =
     on _ _ _ (next n m 0 0 Equal (omega arith) (omega arith)) (spelled_decides k (n * 256 + 0) (m * 256 + 0) [] [] g h)
@@ -66,7 +66,7 @@ spelled_decides (suc k) n m (u ∷ us) (v ∷ vs) g h =
     on _ _ _ (next n m u v (slice_cmp nat_cmp us vs) (g 0) (h 0)) (spelled_decides k (n * 256 + u) (m * 256 + v) us vs (IsBytes-rest u us g) (IsBytes-rest v vs h))
 
 -- the number before eight digits counts 2 ^ 64 times
-carried : (n : ℕ) (bytes : List ℕ) → spelled 8 n bytes ≡ n * 2 ^ 64 + spelled 8 0 bytes
+carried : (n : ℕ) (bytes : List ℕ) → base_256_value 8 n bytes ≡ n * 2 ^ 64 + base_256_value 8 0 bytes
 carried n [] = omega arith
 carried n (a ∷ []) = omega arith
 carried n (a ∷ b ∷ []) = omega arith
@@ -77,13 +77,13 @@ carried n (a ∷ b ∷ c ∷ d ∷ e ∷ f ∷ []) = omega arith
 carried n (a ∷ b ∷ c ∷ d ∷ e ∷ f ∷ g ∷ []) = omega arith
 carried n (a ∷ b ∷ c ∷ d ∷ e ∷ f ∷ g ∷ h ∷ rest) = omega arith
 
-ten : (key : List ℕ) → spelled 10 0 key ≡ spelled 2 0 key * 2 ^ 64 + spelled 8 0 (drop 2 key)
+ten : (key : List ℕ) → base_256_value 10 0 key ≡ base_256_value 2 0 key * 2 ^ 64 + base_256_value 8 0 (drop 2 key)
 ten [] = carried 0 []
-ten (a ∷ []) = carried (spelled 2 0 (a ∷ [])) []
-ten (a ∷ b ∷ own) = carried (spelled 2 0 (a ∷ b ∷ own)) own
+ten (a ∷ []) = carried (base_256_value 2 0 (a ∷ [])) []
+ten (a ∷ b ∷ own) = carried (base_256_value 2 0 (a ∷ b ∷ own)) own
 
 -- eight digits have 64 bits
-few : (bytes : List ℕ) → IsBytes bytes → spelled 8 0 bytes < 2 ^ 64
+few : (bytes : List ℕ) → IsBytes bytes → base_256_value 8 0 bytes < 2 ^ 64
 few [] fits = omega (arith)
 few (a ∷ []) fits = omega (arith, fits 0)
 few (a ∷ b ∷ []) fits = omega (arith, fits 0, fits 1)
@@ -113,9 +113,9 @@ as_heads a b n m up down apart = by (nat_cmp a b) refl (ranks a b)
 -- heads that differ decide
 pub by_heads : (us vs : List ℕ) → IsBytes us → IsBytes vs → nat_cmp (head us) (head vs) ≢ Equal → slice_cmp nat_cmp us vs ≡ nat_cmp (head us) (head vs)
 by_heads us vs g h apart =
-    let low : spelled 8 0 (drop 2 us) < 2 ^ 64 = few (drop 2 us) (IsBytes-drop 2 us g) in
-    let high : spelled 8 0 (drop 2 vs) < 2 ^ 64 = few (drop 2 vs) (IsBytes-drop 2 vs h) in
-    let up : head us < head vs → spelled 10 0 us < spelled 10 0 vs = λ lt. rw (ten us, ten vs) (heads_rise (spelled 2 0 us) (spelled 2 0 vs) _ _ low high lt) in
-    let down : head vs < head us → spelled 10 0 vs < spelled 10 0 us = λ lt. rw (ten us, ten vs) (heads_rise (spelled 2 0 vs) (spelled 2 0 us) _ _ high low lt) in
-    let same : nat_cmp (spelled 10 0 us) (spelled 10 0 vs) ≡ nat_cmp (head us) (head vs) = as_heads (head us) (head vs) (spelled 10 0 us) (spelled 10 0 vs) up down apart in
+    let low : base_256_value 8 0 (drop 2 us) < 2 ^ 64 = few (drop 2 us) (IsBytes-drop 2 us g) in
+    let high : base_256_value 8 0 (drop 2 vs) < 2 ^ 64 = few (drop 2 vs) (IsBytes-drop 2 vs h) in
+    let up : head us < head vs → base_256_value 10 0 us < base_256_value 10 0 vs = λ lt. rw (ten us, ten vs) (heads_rise (base_256_value 2 0 us) (base_256_value 2 0 vs) _ _ low high lt) in
+    let down : head vs < head us → base_256_value 10 0 vs < base_256_value 10 0 us = λ lt. rw (ten us, ten vs) (heads_rise (base_256_value 2 0 vs) (base_256_value 2 0 us) _ _ high low lt) in
+    let same : nat_cmp (base_256_value 10 0 us) (base_256_value 10 0 vs) ≡ nat_cmp (head us) (head vs) = as_heads (head us) (head vs) (base_256_value 10 0 us) (base_256_value 10 0 vs) up down apart in
     spelled_decides 10 0 0 us vs g h (λ level. apart (sym same ∙ level)) ∙ same

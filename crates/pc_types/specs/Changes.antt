@@ -5,26 +5,26 @@ use Rattle.pc_types.specs.declared.changes.Change.{Change}
 use Rattle.pc_types.specs.declared.changes.Change.TheVariants.{Set, Remove, Add}
 
 -- the number has 64 bits with a sign
-abbrev pub fits : ℤ → Bool
-fits (pos n) = nat_lt n (2 ^ 63)
-fits (negsuc n) = nat_lt n (2 ^ 63)
+abbrev pub fits_i64 : ℤ → Bool
+fits_i64 (pos n) = nat_lt n (2 ^ 63)
+fits_i64 (negsuc n) = nat_lt n (2 ^ 63)
 
 -- the value that represents a number: its eight bytes in two's complement, the highest first
 unfoldable pub number_text : ℤ → List ℕ
 number_text z = to_be_bytes w64 (cast_unsigned w64 z)
 
 -- the number that eight bytes represent
-unfoldable pub number_in : List ℕ → ℤ
-number_in value = cast_signed w64 (from_be_bytes w64 value)
+unfoldable pub value_number : List ℕ → ℤ
+value_number value = cast_signed w64 (from_be_bytes w64 value)
 
 -- the number that a key has: that of a value of eight bytes, 0 of nothing, and none of any other value
-unfoldable pub number_of : Option (List ℕ) → Option ℤ
-number_of None = Some (pos 0)
-number_of (Some value) = if length value == 8 then Some (number_in value) else None
+unfoldable pub content_number : Option (List ℕ) → Option ℤ
+content_number None = Some (pos 0)
+content_number (Some value) = if length value == 8 then Some (value_number value) else None
 
 -- the sum of two numbers, if it fits
 abbrev pub sum_of : ℤ → ℤ → Option ℤ
-sum_of a b = if fits (a +ℤ b) then Some (a +ℤ b) else None
+sum_of a b = if fits_i64 (a +ℤ b) then Some (a +ℤ b) else None
 
 -- the same if there may be no first number
 abbrev pub sum_if : Option ℤ → ℤ → Option ℤ
@@ -33,7 +33,7 @@ sum_if (Some n) d = sum_of n d
 
 -- what an add makes of what the key has: the new number, or none if it has no number or the sum doesn't fit
 abbrev pub added : ℤ → Option (List ℕ) → Option ℤ
-added d there = sum_if (number_of there) d
+added d there = sum_if (content_number there) d
 
 -- the value of this number, or else what was there
 abbrev pub or_same : Option (List ℕ) → Option ℤ → Option (List ℕ)
@@ -41,10 +41,10 @@ or_same there None = there
 or_same there (Some n) = Some (number_text n)
 
 -- what a key has after a change of what it had; an add that doesn't apply leaves what was there
-abbrev pub changed : Change → Option (List ℕ) → Option (List ℕ)
-changed (Set value) there = Some value
-changed Remove there = None
-changed (Add d) there = or_same there (added d there)
+abbrev pub changed_content : Change → Option (List ℕ) → Option (List ℕ)
+changed_content (Set value) there = Some value
+changed_content Remove there = None
+changed_content (Add d) there = or_same there (added d there)
 
 -- a set value with a number added to it, if that can be
 abbrev pub set_to : List ℕ → Option ℤ → Change
@@ -65,7 +65,7 @@ merged before (Add d) = added_to before d
 
 -- whether an add can be kept as one change with the earlier change of its key, if there is one: the sum of two adds must fit
 abbrev pub can_add : Option Change → ℤ → Bool
-can_add (Some (Add e)) d = fits (e +ℤ d)
+can_add (Some (Add e)) d = fits_i64 (e +ℤ d)
 can_add before d = true
 
 -- the change can be kept as one with the earlier change of its key, if there is one

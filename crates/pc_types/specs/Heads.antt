@@ -2,10 +2,10 @@
 use Rattle.std.specs.Prelude.{ℕ, zero, suc, ◌+◌, ◌*◌, ◌/◌, ◌^◌, List, [], ◌∷◌, drop}
 
 -- the number of that many digits of base 256 after n: the bytes, and after the last of them zeros
-abbrev pub spelled : ℕ → ℕ → List ℕ → ℕ
-spelled zero n bytes = n
-spelled (suc k) n [] = spelled k (n * 256 + 0) []
-spelled (suc k) n (b ∷ bytes) = spelled k (n * 256 + b) bytes
+abbrev pub base_256_value : ℕ → ℕ → List ℕ → ℕ
+base_256_value zero n bytes = n
+base_256_value (suc k) n [] = base_256_value k (n * 256 + 0) []
+base_256_value (suc k) n (b ∷ bytes) = base_256_value k (n * 256 + b) bytes
 
 -- A number of 64 bits for a space and the first eight of a key's own bytes. In space 0 it is their first 63 bits; in another one
 -- the highest bit is set, the space follows it, and their first 47 bits.
@@ -15,4 +15,4 @@ headed (suc space) own = 2 ^ 63 + (suc space * 2 ^ 47 + own / 2 ^ 17)
 
 -- the head of a key, as of one with zeros after it
 abbrev pub head : List ℕ → ℕ
-head key = headed (spelled 2 0 key) (spelled 8 0 (drop 2 key))
+head key = headed (base_256_value 2 0 key) (base_256_value 8 0 (drop 2 key))

@@ -1,6 +1,6 @@
 //! Writes, and what each does to its key.
 ghost use Rattle.std.specs.Prelude.{◌≡◌, IfOk, option_copied, Some, true, is_some};
-ghost use Rattle.pc_types.specs.Changes.{fits, number_of, added, added_to, can_add, merged, CanMerge};
+ghost use Rattle.pc_types.specs.Changes.{fits_i64, content_number, added, added_to, can_add, merged, CanMerge};
 
 use crate::keys::Key;
 use crate::values::Value;
@@ -71,7 +71,7 @@ impl Change {
 
 /// A number of 64 bits with a sign fits if one is asked for: its type says so, and nothing is done.
 pub fn number_fits(number: i64)
-    ensures { fits number ≡ true }
+    ensures { fits_i64 number ≡ true }
 {
     let _ = number;
 }
@@ -89,7 +89,7 @@ pub fn sum(there: Option<&Value>, delta: i64) -> Option<i64>
 
 /// Whether what a key has is a number: it is a value of eight bytes, or nothing, which counts as 0.
 pub fn is_number(there: Option<&Value>) -> bool
-    ensures { result ≡ is_some (number_of (option_copied there.entry)) }
+    ensures { result ≡ is_some (content_number (option_copied there.entry)) }
 {
     match there {
         Some(value) => value.as_bytes().len() == 8,

@@ -1,7 +1,7 @@
 //! The first bytes of a key as one number.
 ghost use Rattle.std.specs.Prelude.{◌≡◌, ◌≤◌, ◌<◌, length};
 ghost use Rattle.pc_types.specs.Bytes.{IsBytes};
-ghost use Rattle.pc_types.specs.Heads.{head, spelled};
+ghost use Rattle.pc_types.specs.Heads.{head, base_256_value};
 
 use crate::limits::SPACE_BYTES;
 
@@ -24,7 +24,7 @@ pub fn head_of(key: &[u8]) -> u64
 /// The first eight bytes as one number, the highest first, with zeros after fewer.
 #[inline(always)]
 pub fn first_eight(bytes: &[u8]) -> u64
-    ensures number { result ≡ spelled 8 0 bytes.now }
+    ensures number { result ≡ base_256_value 8 0 bytes.now }
     ensures bytes { IsBytes bytes.now }
 {
     if 8 <= bytes.len() {
@@ -39,7 +39,7 @@ pub fn first_eight(bytes: &[u8]) -> u64
 #[inline(never)]
 fn first_few(bytes: &[u8]) -> u64
     requires { length bytes.now < 8 }
-    ensures { result ≡ spelled 8 0 bytes.now }
+    ensures { result ≡ base_256_value 8 0 bytes.now }
 {
     match bytes {
         [] => 0,

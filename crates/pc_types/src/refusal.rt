@@ -1,7 +1,7 @@
 //! Why a call was refused.
 ghost use Rattle.std.specs.Prelude.{◌≡◌};
 ghost use Rattle.pc_types.specs.declared.refusal.Refusal.TheVariants.{OutOfMemory};
-ghost use Rattle.pc_types.specs.Names.{name_of};
+ghost use Rattle.pc_types.specs.Names.{refusal_name};
 
 use crate::numbers::Point;
 use std::alloc::{AllocError, AllocFailed};
@@ -76,7 +76,7 @@ pub enum Refusal {
 impl Refusal {
     /// The word that is printed; that of a gap without its point.
     pub fn name(&self) -> &'static str
-        ensures { result.now ≡ name_of self.now }
+        ensures { result.now ≡ refusal_name self.now }
     {
         match *self {
             Refusal::OutOfMemory => "OutOfMemory",

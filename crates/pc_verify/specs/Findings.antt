@@ -10,7 +10,7 @@ use Rattle.pc_bases.specs.Reading.{base_at}
 use Rattle.pc_log.specs.Reading.{LogRead, log_at}
 use Rattle.pc_faults.specs.Faults.{IsFaultOf}
 use Rattle.pc_faults.specs.declared.texts.TextKind.TheVariants as text
-use Rattle.pc_log_lines.specs.Lines.{rest_of}
+use Rattle.pc_log_lines.specs.Lines.{rest_of_log}
 use Rattle.pc_verify.specs.declared.findings.FileKind.{FileKind}
 use Rattle.pc_verify.specs.declared.findings.FileKind.TheVariants as kind
 use Rattle.pc_verify.specs.declared.findings.Finding.{Finding}
@@ -38,7 +38,7 @@ IsFinding kind.Base bytes (found.Fault why byte) = IsFaultOf text.Base bytes byt
 IsFinding kind.Part bytes (found.Part head points entries) = (file : File) × (part_at bytes ≡ Ok file) × (head ≡ head_of bytes file.run) × (points ≡ set.items file.points) × (entries ≡ map_of.len file.triples)
 IsFinding kind.Part bytes (found.Fault why byte) = IsFaultOf text.Part bytes byte why
 IsFinding kind.Log bytes (found.Log head entries) = (log : LogRead) × (log_at bytes ≡ Ok log) × (log.fault ≡ None) × (head ≡ head_of bytes log.run) × (entries ≡ length log.entries)
-IsFinding kind.Log bytes (found.Fault why byte) = ((rest_of (length bytes) (log_at bytes)).fault ≡ Some why) × (byte ≡ length bytes - ((rest_of (length bytes) (log_at bytes)).bytes - 1))
+IsFinding kind.Log bytes (found.Fault why byte) = ((rest_of_log (length bytes) (log_at bytes)).fault ≡ Some why) × (byte ≡ length bytes - ((rest_of_log (length bytes) (log_at bytes)).bytes - 1))
 IsFinding kind bytes other = ⊥
 
 -- whether it is a whole text

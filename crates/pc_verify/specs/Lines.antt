@@ -1,6 +1,6 @@
 -- The output of `pcalc verify` for a file.
 use Rattle.std.specs.Prelude.{ℕ, List, ◌++◌, codes, decimal}
-use Rattle.pc_types.specs.Names.{name_of}
+use Rattle.pc_types.specs.Names.{refusal_name}
 use Rattle.pc_io.specs.declared.Format.{Format}
 use Rattle.pc_io.specs.declared.Format.TheVariants.{First, Second}
 use Rattle.pc_types.specs.declared.refusal.Refusal.{Refusal}
@@ -28,11 +28,11 @@ log_words entries = codes "entries " ++ (decimal entries ++ codes "\n")
 
 -- a fault, and its byte
 abbrev pub fault_words : Refusal → ℕ → List ℕ
-fault_words why byte = codes " " ++ (name_of why ++ (codes " byte " ++ (decimal byte ++ codes "\n")))
+fault_words why byte = codes " " ++ (refusal_name why ++ (codes " byte " ++ (decimal byte ++ codes "\n")))
 
 -- why a file can't be read
 abbrev pub unread_words : Refusal → List ℕ
-unread_words why = codes " " ++ (name_of why ++ codes "\n")
+unread_words why = codes " " ++ (refusal_name why ++ codes "\n")
 
 -- what follows a file's name
 abbrev pub finding_words : Finding → List ℕ

@@ -15,16 +15,16 @@ use Rattle.pc_verify.specs.Lines.{finding_line}
 
 -- The finding about a file: why it can't be opened, or that a read of it failed; or what its bytes are, said if they are
 -- known.
-abbrev pub IsFound : {R : Type 0} → (R → Option (List ℕ)) → FileKind → Result R Refusal → Finding → Type 0
-IsFound remaining kind (Err why) finding = finding ≡ found.Unread why
-IsFound remaining kind (Ok reader) (found.Unread why) = why ≡ Device
-IsFound remaining kind (Ok reader) finding = (bytes : List ℕ) → HoldsBytes remaining (Ok reader) bytes → IsFinding kind bytes finding
+abbrev pub IsFindingAbout : {R : Type 0} → (R → Option (List ℕ)) → FileKind → Result R Refusal → Finding → Type 0
+IsFindingAbout remaining kind (Err why) finding = finding ≡ found.Unread why
+IsFindingAbout remaining kind (Ok reader) (found.Unread why) = why ≡ Device
+IsFindingAbout remaining kind (Ok reader) finding = (bytes : List ℕ) → HoldsBytes remaining (Ok reader) bytes → IsFinding kind bytes finding
 
 -- the line of what is found went out, and whether that is a whole text is answered
-abbrev pub IsTold : {R T : Type 0} → (R → Option (List ℕ)) → (T → Option (List ℕ)) → FileKind → NamedFile R → Tally T → Tally T → Bool → Type 0
-IsTold remaining contents kind file old new sound = (finding : Finding) × IsFound remaining kind file.opened finding × (sound ≡ is_sound finding) × Puts contents old new (Ok tt) (finding_line file.name.items finding)
+abbrev pub IsFindingPrinted : {R T : Type 0} → (R → Option (List ℕ)) → (T → Option (List ℕ)) → FileKind → NamedFile R → Tally T → Tally T → Bool → Type 0
+IsFindingPrinted remaining contents kind file old new sound = (finding : Finding) × IsFindingAbout remaining kind file.opened finding × (sound ≡ is_sound finding) × Puts contents old new (Ok tt) (finding_line file.name.items finding)
 
 -- an allocation failed, and nothing went out; or the output failed, and the line went out in part
 abbrev pub IsUntold : {R T : Type 0} → (R → Option (List ℕ)) → (T → Option (List ℕ)) → FileKind → NamedFile R → Tally T → Tally T → Refusal → Type 0
 IsUntold remaining contents kind file old new why = ((why ≡ OutOfMemory) × (new ≡ old))
-    ⊎ ((finding : Finding) × IsFound remaining kind file.opened finding × Puts contents old new (Err why) (finding_line file.name.items finding))
+    ⊎ ((finding : Finding) × IsFindingAbout remaining kind file.opened finding × Puts contents old new (Err why) (finding_line file.name.items finding))

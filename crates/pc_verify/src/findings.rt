@@ -2,7 +2,7 @@
 ghost use Rattle.std.specs.Prelude.{◌≡◌, ◌-◌, ℕ, Ok, IfOk};
 ghost use Rattle.pc_types.specs.declared.refusal.Refusal.{Refusal};
 ghost use Rattle.pc_faults.specs.Faults.{IsFaultOf};
-ghost use Rattle.pc_log.specs.Reading.{log_at, text_of};
+ghost use Rattle.pc_log.specs.Reading.{log_at, log_read};
 ghost use Rattle.pc_verify.specs.declared.findings.Finding.TheVariants as found;
 ghost use Rattle.pc_verify.specs.Findings.{IsFinding, format_of, head_of, is_sound};
 
@@ -118,7 +118,7 @@ fn log_finding(alloc: Global, bytes: &[u8]) -> Result<Finding, AllocError>
 }
 
 fn text_finding(bytes: &[u8], text: &LogText) -> Finding
-    requires { log_at bytes.now ≡ Ok (text_of text.now) }
+    requires { log_at bytes.now ≡ Ok (log_read text.now) }
     ensures { IsFinding FileKind.Log bytes.now result }
 {
     match text.fault {

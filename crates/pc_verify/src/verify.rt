@@ -3,7 +3,7 @@ ghost use Rattle.std.specs.Prelude.{◌≡◌, ◌≢◌, IfOk, IfErr};
 ghost use Rattle.pc_types.specs.declared.refusal.Refusal.{Refusal};
 ghost use Rattle.pc_verify.specs.declared.findings.Finding.{Finding};
 ghost use Rattle.pc_verify.specs.Findings.{IsFinding};
-ghost use Rattle.pc_verify.specs.Runs.{IsFound, IsTold, IsUntold};
+ghost use Rattle.pc_verify.specs.Runs.{IsFindingAbout, IsFindingPrinted, IsUntold};
 
 use crate::findings::{FileKind, Finding, finding_of};
 use crate::lines::put_finding;
@@ -22,7 +22,7 @@ pub fn verify_file<R: Read + Drop, W: Write>(
     file: NamedFile<R>,
     out: &mut Tally<W>,
 ) -> Result<bool, Refusal>
-    ensures told { IfOk result (IsTold R.remaining W.contents kind file out.old out.new) }
+    ensures told { IfOk result (IsFindingPrinted R.remaining W.contents kind file out.old out.new) }
     ensures untold { IfErr result (IsUntold R.remaining W.contents kind file out.old out.new) }
 {
     let NamedFile { name, opened } = file;
@@ -37,7 +37,7 @@ fn find<R: Read + Drop>(
     kind: FileKind,
     opened: Result<R, Refusal>,
 ) -> Result<Finding, Refusal>
-    ensures found { IfOk result (IsFound R.remaining kind opened) }
+    ensures found { IfOk result (IsFindingAbout R.remaining kind opened) }
     ensures memory { IfErr result (λ why. why ≡ Refusal.OutOfMemory) }
 {
     let read = read_opened(alloc, opened);

@@ -29,8 +29,8 @@ abbrev pub is_awaited : Awaited → Bool
 is_awaited a = nat_lt 0 a.waiting
 
 -- one more call waits for it, or one fewer
-abbrev pub one_more : Awaited → Awaited
-one_more a = record a { waiting = min (a.waiting + 1) (2 ^ 64 - 1) }
+abbrev pub one_more_waiting : Awaited → Awaited
+one_more_waiting a = record a { waiting = min (a.waiting + 1) (2 ^ 64 - 1) }
 
 abbrev pub one_less : Awaited → Awaited
 one_less a = record a { waiting = a.waiting - 1 }
@@ -65,9 +65,9 @@ is_end told.Aborted = true
 is_end other = false
 
 -- it commits an entry that is waited for, or a later one
-abbrev pub is_due : ℕ → Reply → Bool
-is_due due (told.Committed number) = not (nat_lt number due)
-is_due due other = false
+abbrev pub is_commit_due : ℕ → Reply → Bool
+is_commit_due due (told.Committed number) = not (nat_lt number due)
+is_commit_due due other = false
 
 -- the calls that the reply wakes
 abbrev pub woken_by : Waits → Reply → Woken
@@ -75,7 +75,7 @@ woken_by w reply = record {
   for_locks = is_end reply && not (w.for_locks == 0);
   for_change = is_change reply && is_awaited w.changes;
   for_phase = is_new_phase reply && is_awaited w.phases;
-  for_commit = is_due w.due reply;
+  for_commit = is_commit_due w.due reply;
 }
 
 -- no call is woken
@@ -83,11 +83,11 @@ abbrev pub nobody : Woken
 nobody = record { for_locks = false; for_change = false; for_phase = false; for_commit = false }
 
 -- the state once the reply is noted
-abbrev pub noted : Waits → Reply → Waits
-noted w reply = record w {
+abbrev pub waits_after_reply : Waits → Reply → Waits
+waits_after_reply w reply = record w {
   changes = if is_change reply then come w.changes else w.changes;
   phases = if is_new_phase reply then come w.phases else w.phases;
-  due = if is_due w.due reply then none_due else w.due;
+  due = if is_commit_due w.due reply then none_due else w.due;
 }
 
 -- the calls that the mark of the end wakes

@@ -1,6 +1,6 @@
 //! The calls that wait at a store's latch, and how often the store has changed.
 ghost use Rattle.std.specs.Prelude.{◌≡◌, ◌||◌, ◌-◌, not, nat_lt, min, if◌then◌else◌, true, false};
-ghost use Rattle.pc_waiting.specs.Waking.{come, is_awaited, one_more, one_less, of_news, with_news, nobody, none_come, none_due, none_wait, woken_by, noted, woken_by_end};
+ghost use Rattle.pc_waiting.specs.Waking.{come, is_awaited, one_more_waiting, one_less, of_news, with_news, nobody, none_come, none_due, none_wait, woken_by, waits_after_reply, woken_by_end};
 
 use pc_sessions::SessionSet;
 use pc_types::{Lsn, Reply};
@@ -43,7 +43,7 @@ impl Awaited {
 
     // One more call waits for it.
     fn begin_waiting(&mut self)
-        ensures { self.new ≡ one_more self.old }
+        ensures { self.new ≡ one_more_waiting self.old }
     {
         self.waiting = self.waiting.saturating_add(1);
     }
@@ -119,7 +119,7 @@ impl Waits {
 
     /// One more call waits for the news.
     pub fn begin_waiting(&mut self, news: News)
-        ensures { self.new ≡ with_news self.old news (one_more (of_news self.old news)) }
+        ensures { self.new ≡ with_news self.old news (one_more_waiting (of_news self.old news)) }
     {
         match news {
             News::Change => self.changes.begin_waiting(),
@@ -141,7 +141,7 @@ impl Waits {
     /// locks, those that wait for locks.
     pub fn note(&mut self, reply: &Reply) -> Woken
         ensures woken { result ≡ woken_by self.old reply.now }
-        ensures noted { self.new ≡ noted self.old reply.now }
+        ensures noted { self.new ≡ waits_after_reply self.old reply.now }
     {
         match reply {
             Reply::Wait | Reply::Refused(_) | Reply::NotYet(_) | Reply::NoneLeft => Woken::NOBODY,
@@ -171,7 +171,7 @@ impl Waits {
     /// Notes the reply if that wakes no call; otherwise false, and nothing is noted.
     pub fn note_alone(&mut self, reply: &Reply) -> bool
         ensures alone { result ≡ true → woken_by self.old reply.now ≡ nobody }
-        ensures noted { self.new ≡ (if result then noted self.old reply.now else self.old) }
+        ensures noted { self.new ≡ (if result then waits_after_reply self.old reply.now else self.old) }
     {
         if !self.for_locks.is_empty() || self.changes.waiting > 0 || self.phases.waiting > 0 {
             return false;

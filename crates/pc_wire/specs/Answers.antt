@@ -14,12 +14,12 @@ use Rattle.pc_wire.specs.declared.codes.TheConstants.{BEGUN, FOUND, ABSENT, MADE
 abbrev pub plain : ℕ → Answer
 plain kind = record { kind = kind; refusal = 0; number = 0; entries = 0; file = 0; phase = 0; sum = pos 0; space = 0; key_bytes = 0; value_bytes = 0 }
 
-abbrev pub phase_number : Phase → ℕ
-phase_number phase.Rest = 0
-phase_number phase.Prepare = 1
-phase_number phase.Resolve = 2
-phase_number phase.Capture = 3
-phase_number phase.Complete = 4
+abbrev pub phase_code : Phase → ℕ
+phase_code phase.Rest = 0
+phase_code phase.Prepare = 1
+phase_code phase.Resolve = 2
+phase_code phase.Capture = 3
+phase_code phase.Complete = 4
 
 -- the number of a refusal
 abbrev pub refusal_number : Refusal → ℕ
@@ -76,23 +76,23 @@ taken_told key None = record (plain TOOK_ABSENT) { space = space_of key; key_byt
 taken_told key (Some value) = record (plain TOOK) { space = space_of key; key_bytes = length (own_bytes key); value_bytes = length value }
 
 -- the numbers of a reply
-abbrev pub told_of : Reply → Answer
-told_of (told.Begun txn) = record (plain BEGUN) { number = txn }
-told_of (told.Found value) = record (plain FOUND) { value_bytes = length value }
-told_of told.Absent = plain ABSENT
-told_of told.Ok = plain MADE
-told_of (told.Sum sum) = record (plain SUM) { sum = sum }
-told_of told.Wait = plain WAIT
-told_of told.Died = plain DIED
-told_of (told.Committed lsn) = record (plain COMMITTED) { number = lsn }
-told_of told.Aborted = plain ABORTED
-told_of (told.Phase phase point) = record (plain PHASE) { number = point; phase = phase_number phase }
-told_of (told.NotYet count) = record (plain NOT_YET) { number = count }
-told_of (told.Took key content) = taken_told key content
-told_of told.NoneLeft = plain NONE_LEFT
-told_of (told.PartDone point file entries) = record (plain PART_DONE) { number = point; entries = entries; file = file }
-told_of (told.File file points entries) = record (plain JOINED) { number = length points; entries = entries; file = file }
-told_of (told.Refused why) = refusal_told why
+abbrev pub answer_of_reply : Reply → Answer
+answer_of_reply (told.Begun txn) = record (plain BEGUN) { number = txn }
+answer_of_reply (told.Found value) = record (plain FOUND) { value_bytes = length value }
+answer_of_reply told.Absent = plain ABSENT
+answer_of_reply told.Ok = plain MADE
+answer_of_reply (told.Sum sum) = record (plain SUM) { sum = sum }
+answer_of_reply told.Wait = plain WAIT
+answer_of_reply told.Died = plain DIED
+answer_of_reply (told.Committed lsn) = record (plain COMMITTED) { number = lsn }
+answer_of_reply told.Aborted = plain ABORTED
+answer_of_reply (told.Phase phase point) = record (plain PHASE) { number = point; phase = phase_code phase }
+answer_of_reply (told.NotYet count) = record (plain NOT_YET) { number = count }
+answer_of_reply (told.Took key content) = taken_told key content
+answer_of_reply told.NoneLeft = plain NONE_LEFT
+answer_of_reply (told.PartDone point file entries) = record (plain PART_DONE) { number = point; entries = entries; file = file }
+answer_of_reply (told.File file points entries) = record (plain JOINED) { number = length points; entries = entries; file = file }
+answer_of_reply (told.Refused why) = refusal_told why
 
 -- the own bytes of the key that a reply has
 abbrev pub key_of_reply : Reply → List ℕ

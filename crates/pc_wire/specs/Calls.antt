@@ -11,8 +11,8 @@ use Rattle.pc_wire.specs.declared.calls.TheConstants.{MOST_SPACE}
 use Rattle.pc_wire.specs.declared.codes.TheConstants.{BEGIN, GET, PUT, DEL, ADD, COMMIT, ABORT, POINT, SEAL, CAPTURE, TAKE, DONE, REST, JOIN}
 
 -- events of this kind have a key
-abbrev pub has_key : ℕ → Bool
-has_key kind = nat_le GET kind && nat_le kind ADD
+abbrev pub kind_has_key : ℕ → Bool
+kind_has_key kind = nat_le GET kind && nat_le kind ADD
 
 -- why the space and the bytes are no key, if they aren't
 abbrev pub key_fault : ℕ → List ℕ → Option Refusal
@@ -23,16 +23,16 @@ abbrev pub value_fault : ℕ → List ℕ → Option Refusal
 value_fault kind bytes = if kind == PUT then (if nat_lt MOST_VALUE_BYTES (length bytes) then Some ValueLength else None) else None
 
 -- the first of two causes, if there is one
-abbrev pub first_of : Option Refusal → Option Refusal → Option Refusal
-first_of (Some why) other = Some why
-first_of None other = other
+abbrev pub first_call_fault : Option Refusal → Option Refusal → Option Refusal
+first_call_fault (Some why) other = Some why
+first_call_fault None other = other
 
 -- why a call asks no event with these bytes of a key and of a value, if it doesn't
-abbrev pub fault_of : Call → List ℕ → List ℕ → Option Refusal
-fault_of call own bytes =
+abbrev pub call_fault : Call → List ℕ → List ℕ → Option Refusal
+call_fault call own bytes =
     if call.kind == 0 then Some BadKind else
     if nat_lt JOIN call.kind then Some BadKind else
-    if has_key call.kind then first_of (key_fault call.space own) (value_fault call.kind bytes) else None
+    if kind_has_key call.kind then first_call_fault (key_fault call.space own) (value_fault call.kind bytes) else None
 
 -- the event that a call without a fault asks
 abbrev pub event_at : Call → List ℕ → List ℕ → Event
@@ -53,10 +53,10 @@ event_at call own bytes =
     asked.Join call.first call.second
 
 -- the event, or why there is none
-abbrev pub unless : Option Refusal → Event → Result Event Refusal
-unless None event = Ok event
-unless (Some why) event = Err why
+abbrev pub event_unless : Option Refusal → Event → Result Event Refusal
+event_unless None event = Ok event
+event_unless (Some why) event = Err why
 
 -- the event that a call asks with these bytes, or why it asks none
 abbrev pub event_asked : Call → List ℕ → List ℕ → Result Event Refusal
-event_asked call own bytes = unless (fault_of call own bytes) (event_at call own bytes)
+event_asked call own bytes = event_unless (call_fault call own bytes) (event_at call own bytes)

@@ -1,7 +1,7 @@
 //! The answer, as numbers.
 ghost use Rattle.std.specs.Prelude.{◌≡◌, length};
 ghost use Rattle.pc_types.specs.declared.Reply.TheVariants as told;
-ghost use Rattle.pc_wire.specs.Answers.{plain, phase_number, refusal_number, gap_point, refusal_told, text_told, told_of, key_of_reply, content_bytes, value_of_reply};
+ghost use Rattle.pc_wire.specs.Answers.{plain, phase_code, refusal_number, gap_point, refusal_told, text_told, answer_of_reply, key_of_reply, content_bytes, value_of_reply};
 
 use crate::codes::{
     ABORTED, ABSENT, BEGUN, COMMITTED, DIED, FOUND, JOINED, MADE, NONE_LEFT, NOT_YET, PART_DONE,
@@ -89,7 +89,7 @@ fn gap_point(why: &Refusal) -> u64
 
 /// The answer for a reply of the store.
 pub fn told_of(reply: &Reply) -> Answer
-    ensures { result ≡ told_of reply.now }
+    ensures { result ≡ answer_of_reply reply.now }
 {
     match reply {
         Reply::Begun(txn) => numbered(BEGUN, txn.0),
@@ -144,7 +144,7 @@ fn told_found(value: &Value) -> Answer
 }
 
 fn told_phase(phase: Phase, point: u64) -> Answer
-    ensures { result ≡ record (plain PHASE) { number = point; phase = phase_number phase } }
+    ensures { result ≡ record (plain PHASE) { number = point; phase = phase_code phase } }
 {
     Answer {
         number: point,
@@ -154,7 +154,7 @@ fn told_phase(phase: Phase, point: u64) -> Answer
 }
 
 fn told_taken(key: &Key, content: &Option<Value>) -> Answer
-    ensures { result ≡ told_of (told.Took key.now content.now) }
+    ensures { result ≡ answer_of_reply (told.Took key.now content.now) }
 {
     let space = u32::from(key.space());
     let key_bytes = key.own_bytes().len() as u32;
@@ -177,7 +177,7 @@ fn told_taken(key: &Key, content: &Option<Value>) -> Answer
 }
 
 fn phase_number(phase: Phase) -> u32
-    ensures { result ≡ phase_number phase }
+    ensures { result ≡ phase_code phase }
 {
     match phase {
         Phase::Rest => 0,

@@ -3,7 +3,7 @@ ghost use Rattle.std.specs.Prelude.{◌≡◌, ◌⊎◌, Ok, Err, IsOk, IfOk, I
 ghost use Rattle.pc_types.specs.declared.Event.TheVariants as asked;
 ghost use Rattle.pc_types.specs.declared.refusal.Refusal.TheVariants.{OutOfMemory};
 ghost use Rattle.pc_types.specs.Keys.{key_of};
-ghost use Rattle.pc_wire.specs.Calls.{has_key, key_fault, value_fault, fault_of, event_at, event_asked};
+ghost use Rattle.pc_wire.specs.Calls.{kind_has_key, key_fault, value_fault, call_fault, event_at, event_asked};
 
 use crate::codes::{
     ABORT, ADD, BEGIN, CAPTURE, COMMIT, DEL, DONE, GET, JOIN, POINT, PUT, REST, SEAL, TAKE,
@@ -49,7 +49,7 @@ pub fn event_of(alloc: Global, call: &Call, key: &[u8], value: &[u8]) -> Result<
 
 // Why the call asks no event with these bytes, if it doesn't.
 fn fault_of(call: &Call, key: &[u8], value: &[u8]) -> Option<Refusal>
-    ensures { result ≡ fault_of call.now key.now value.now }
+    ensures { result ≡ call_fault call.now key.now value.now }
 {
     if call.kind == 0 || call.kind > JOIN {
         return Some(Refusal::BadKind);
@@ -65,7 +65,7 @@ fn fault_of(call: &Call, key: &[u8], value: &[u8]) -> Option<Refusal>
 
 // Whether events of this kind have a key.
 fn has_key(kind: u32) -> bool
-    ensures { result ≡ has_key kind }
+    ensures { result ≡ kind_has_key kind }
 {
     GET <= kind && kind <= ADD
 }

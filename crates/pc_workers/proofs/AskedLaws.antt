@@ -12,55 +12,55 @@ use Rattle.pc_jobs.specs.declared.works.Op.{Op}
 use Rattle.pc_jobs.specs.declared.works.Op.TheVariants.{Get, Put, Del, Add}
 use Rattle.pc_shared.specs.declared.session.CallAnswer.{CallAnswer}
 use Rattle.pc_shared.specs.declared.session.CallAnswer.TheVariants as answer
-use Rattle.pc_shared.specs.Answers.{IsRead, IsWriteAnswered, IsAddAnswered}
+use Rattle.pc_shared.specs.Answers.{IsReadAnswered, IsWriteAnswered, IsAddAnswered}
 use Rattle.pc_shared.specs.Sitters.{Sitter}
 use Rattle.pc_workers.specs.Attempts.{IsOpMade, Dies, WasBegun, WasAborted}
-use Rattle.pc_workers.specs.Courses.{IsAsked}
+use Rattle.pc_workers.specs.Courses.{IsOpAnswered}
 use Rattle.pc_workers.proofs.OpenLaws.{open_is_aborted, idle_is_not_aborted}
 
 module _ (st : Setting) (s : ℕ) (a b : History) where
-  read_asked : (key : List ℕ) (ans : CallAnswer) → IsRead st a s key ans b → IsAsked st s (Get key) ans a b
-  read_asked key ans (got.Found value, is, ext) = subst (λ (x : CallAnswer). IsAsked st s (Get key) x a b) (sym is) (told.Found value, refl, ext)
-  read_asked key ans (got.Absent, is, ext) = subst (λ (x : CallAnswer). IsAsked st s (Get key) x a b) (sym is) (told.Absent, refl, ext)
-  read_asked key ans (got.Died, is, ext) = subst (λ (x : CallAnswer). IsAsked st s (Get key) x a b) (sym is) ext
+  read_asked : (key : List ℕ) (ans : CallAnswer) → IsReadAnswered st a s key ans b → IsOpAnswered st s (Get key) ans a b
+  read_asked key ans (got.Found value, is, ext) = subst (λ (x : CallAnswer). IsOpAnswered st s (Get key) x a b) (sym is) (told.Found value, refl, ext)
+  read_asked key ans (got.Absent, is, ext) = subst (λ (x : CallAnswer). IsOpAnswered st s (Get key) x a b) (sym is) (told.Absent, refl, ext)
+  read_asked key ans (got.Died, is, ext) = subst (λ (x : CallAnswer). IsOpAnswered st s (Get key) x a b) (sym is) ext
 
-  put_asked : (key value : List ℕ) (ans : CallAnswer) → IsWriteAnswered st a (asked.Put s key value) ans b → IsAsked st s (Put key value) ans a b
-  put_asked key value ans (true, is, ext) = subst (λ (x : CallAnswer). IsAsked st s (Put key value) x a b) (sym is) (told.Ok, refl, ext)
-  put_asked key value ans (false, is, ext) = subst (λ (x : CallAnswer). IsAsked st s (Put key value) x a b) (sym is) ext
+  put_asked : (key value : List ℕ) (ans : CallAnswer) → IsWriteAnswered st a (asked.Put s key value) ans b → IsOpAnswered st s (Put key value) ans a b
+  put_asked key value ans (true, is, ext) = subst (λ (x : CallAnswer). IsOpAnswered st s (Put key value) x a b) (sym is) (told.Ok, refl, ext)
+  put_asked key value ans (false, is, ext) = subst (λ (x : CallAnswer). IsOpAnswered st s (Put key value) x a b) (sym is) ext
 
-  del_asked : (key : List ℕ) (ans : CallAnswer) → IsWriteAnswered st a (asked.Del s key) ans b → IsAsked st s (Del key) ans a b
-  del_asked key ans (true, is, ext) = subst (λ (x : CallAnswer). IsAsked st s (Del key) x a b) (sym is) (told.Ok, refl, ext)
-  del_asked key ans (false, is, ext) = subst (λ (x : CallAnswer). IsAsked st s (Del key) x a b) (sym is) ext
+  del_asked : (key : List ℕ) (ans : CallAnswer) → IsWriteAnswered st a (asked.Del s key) ans b → IsOpAnswered st s (Del key) ans a b
+  del_asked key ans (true, is, ext) = subst (λ (x : CallAnswer). IsOpAnswered st s (Del key) x a b) (sym is) (told.Ok, refl, ext)
+  del_asked key ans (false, is, ext) = subst (λ (x : CallAnswer). IsOpAnswered st s (Del key) x a b) (sym is) ext
 
-  add_asked : (key : List ℕ) (delta : ℤ) (ans : CallAnswer) → IsAddAnswered st a (asked.Add s key delta) ans b → IsAsked st s (Add key delta) ans a b
-  add_asked key delta ans (Some sum, is, ext) = subst (λ (x : CallAnswer). IsAsked st s (Add key delta) x a b) (sym is) (told.Sum sum, refl, ext)
-  add_asked key delta ans (None, is, ext) = subst (λ (x : CallAnswer). IsAsked st s (Add key delta) x a b) (sym is) ext
+  add_asked : (key : List ℕ) (delta : ℤ) (ans : CallAnswer) → IsAddAnswered st a (asked.Add s key delta) ans b → IsOpAnswered st s (Add key delta) ans a b
+  add_asked key delta ans (Some sum, is, ext) = subst (λ (x : CallAnswer). IsOpAnswered st s (Add key delta) x a b) (sym is) (told.Sum sum, refl, ext)
+  add_asked key delta ans (None, is, ext) = subst (λ (x : CallAnswer). IsOpAnswered st s (Add key delta) x a b) (sym is) ext
 
-  pub asked_made : (op : Op) (ans : CallAnswer) → ans ≢ answer.Died → IsAsked st s op ans a b → IsOpMade st s op a b
+  pub asked_made : (op : Op) (ans : CallAnswer) → ans ≢ answer.Died → IsOpAnswered st s op ans a b → IsOpMade st s op a b
   asked_made op answer.Found alive is = is
   asked_made op answer.Absent alive is = is
   asked_made op answer.Ok alive is = is
   asked_made op (answer.Sum sum) alive is = is
   asked_made op answer.Died alive is = absurd (alive refl)
 
-  pub asked_dies : (op : Op) (ans : CallAnswer) → ans ≡ answer.Died → IsAsked st s op ans a b → Dies st s op a b
-  asked_dies op ans is asked = subst (λ (x : CallAnswer). IsAsked st s op x a b) is asked
+  pub asked_dies : (op : Op) (ans : CallAnswer) → ans ≡ answer.Died → IsOpAnswered st s op ans a b → Dies st s op a b
+  asked_dies op ans is asked = subst (λ (x : CallAnswer). IsOpAnswered st s op x a b) is asked
 
   -- ---- by the results of the calls
 
-  pub get_call : (key : List ℕ) (result : Result CallAnswer Refusal) → IfOk result (λ ans. IsRead st a s key ans b) → IfOk result (λ ans. IsAsked st s (Get key) ans a b)
+  pub get_call : (key : List ℕ) (result : Result CallAnswer Refusal) → IfOk result (λ ans. IsReadAnswered st a s key ans b) → IfOk result (λ ans. IsOpAnswered st s (Get key) ans a b)
   get_call key (Ok ans) is = read_asked key ans is
   get_call key (Err cause) is = tt
 
-  pub put_call : (key value : List ℕ) (result : Result CallAnswer Refusal) → IfOk result (λ ans. IsWriteAnswered st a (asked.Put s key value) ans b) → IfOk result (λ ans. IsAsked st s (Put key value) ans a b)
+  pub put_call : (key value : List ℕ) (result : Result CallAnswer Refusal) → IfOk result (λ ans. IsWriteAnswered st a (asked.Put s key value) ans b) → IfOk result (λ ans. IsOpAnswered st s (Put key value) ans a b)
   put_call key value (Ok ans) is = put_asked key value ans is
   put_call key value (Err cause) is = tt
 
-  pub del_call : (key : List ℕ) (result : Result CallAnswer Refusal) → IfOk result (λ ans. IsWriteAnswered st a (asked.Del s key) ans b) → IfOk result (λ ans. IsAsked st s (Del key) ans a b)
+  pub del_call : (key : List ℕ) (result : Result CallAnswer Refusal) → IfOk result (λ ans. IsWriteAnswered st a (asked.Del s key) ans b) → IfOk result (λ ans. IsOpAnswered st s (Del key) ans a b)
   del_call key (Ok ans) is = del_asked key ans is
   del_call key (Err cause) is = tt
 
-  pub add_call : (key : List ℕ) (delta : ℤ) (result : Result CallAnswer Refusal) → IfOk result (λ ans. IsAddAnswered st a (asked.Add s key delta) ans b) → IfOk result (λ ans. IsAsked st s (Add key delta) ans a b)
+  pub add_call : (key : List ℕ) (delta : ℤ) (result : Result CallAnswer Refusal) → IfOk result (λ ans. IsAddAnswered st a (asked.Add s key delta) ans b) → IfOk result (λ ans. IsOpAnswered st s (Add key delta) ans a b)
   add_call key delta (Ok ans) is = add_asked key delta ans is
   add_call key delta (Err cause) is = tt
 

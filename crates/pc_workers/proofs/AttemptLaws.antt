@@ -11,7 +11,7 @@ use Rattle.pc_model.specs.Calls.{step_of, Extends, IsAnswered}
 use Rattle.pc_jobs.specs.declared.works.Job.{Job}
 use Rattle.pc_jobs.specs.declared.works.Op.{Op}
 use Rattle.pc_jobs.specs.declared.works.Op.TheVariants.{Get, Put, Del, Add}
-use Rattle.pc_workers.specs.Attempts.{event_of, IsOpMade, Dies, WasBegun, WasAborted, AreMade, OneDies, IsRefusedOp, IsStuck, IsAttempt, AreDeaths, IsLast, IsTried, AreTried}
+use Rattle.pc_workers.specs.Attempts.{op_event, IsOpMade, Dies, WasBegun, WasAborted, AreMade, OneDies, IsRefusedOp, IsStuck, IsAttempt, AreDeaths, IsLast, IsTried, AreTried}
 use Rattle.pc_workers.specs.Courses.{IsCourse, IsRepeated, mark_of}
 use Rattle.pc_workers.specs.declared.clients.EndedTransaction.{EndedTransaction}
 use Rattle.pc_workers.specs.declared.clients.EndedTransaction.TheVariants.{Committed, Died, Refused}
@@ -26,7 +26,7 @@ not_committed Died is other = cc
 module _ (st : Setting) (s : ℕ) where
   -- ---- the operations
 
-  op_stays : (op : Op) (reply : Reply) (a b : History) → Extends st a (step_of (event_of s op) reply) b → is_open s b ≡ is_open s a
+  op_stays : (op : Op) (reply : Reply) (a b : History) → Extends st a (step_of (op_event s op) reply) b → is_open s b ≡ is_open s a
   op_stays (Get key) reply a b ext = read_stays st s a b key reply ext
   op_stays (Put key value) reply a b ext = put_stays st s a b key value reply ext
   op_stays (Del key) reply a b ext = del_stays st s a b key reply ext

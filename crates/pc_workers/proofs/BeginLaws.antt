@@ -8,7 +8,7 @@ use Rattle.pc_model.specs.Replies.{Setting}
 use Rattle.pc_types.specs.declared.Step.{Step}
 use Rattle.pc_model.proofs.BeginningLaws.{beginning_self, beginning_trans}
 use Rattle.pc_jobs.specs.declared.works.Op.{Op}
-use Rattle.pc_workers.specs.Attempts.{AreMade, IsNotBegun, IsStuck, OneDies, WasAborted, WasBegun, WasCommitted, event_of}
+use Rattle.pc_workers.specs.Attempts.{AreMade, IsNotBegun, IsStuck, OneDies, WasAborted, WasBegun, WasCommitted, op_event}
 use Rattle.pc_workers.specs.Courses.{IsCourse}
 use Rattle.pc_workers.specs.declared.clients.EndedTransaction.{EndedTransaction}
 use Rattle.pc_workers.specs.declared.clients.EndedTransaction.TheVariants.{Committed, Died, Refused}
@@ -25,7 +25,7 @@ module _ (st : Setting) (s : ℕ) where
   made_begins : (ops : List Op) (a b : History) → AreMade st s ops a b → IsBeginning a b
   made_begins [] a b made = same_begins a b made
   made_begins (op ∷ ops) a b made =
-      let first = call_begins a made.0 (step_of (event_of s op) made.1.0) made.1.2 in
+      let first = call_begins a made.0 (step_of (op_event s op) made.1.0) made.1.2 in
       beginning_trans a made.0 b first (made_begins ops made.0 b made.2)
 
   begun_begins : (a b : History) → WasBegun st s a b → IsBeginning a b
@@ -40,7 +40,7 @@ module _ (st : Setting) (s : ℕ) where
   course_begins ops Died a b course =
       let begun = begun_begins a course.0 course.1 in
       let made = made_begins course.2.made course.0 course.2.between course.2.first in
-      beginning_trans a course.2.between b (beginning_trans a course.0 course.2.between begun made) (call_begins course.2.between b (step_of (event_of s course.2.next) told.Died) course.2.dies)
+      beginning_trans a course.2.between b (beginning_trans a course.0 course.2.between begun made) (call_begins course.2.between b (step_of (op_event s course.2.next) told.Died) course.2.dies)
   course_begins ops Refused a b (inl unbegun) = same_begins a b unbegun.0
   course_begins ops Refused a b (inr course) = beginning_trans a course.0 b (begun_begins a course.0 course.1) (made_begins course.2.made course.0 b course.2.first)
 

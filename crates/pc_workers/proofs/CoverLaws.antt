@@ -9,7 +9,7 @@ use Rattle.pc_model.specs.Sets.{Set, number_order}
 use Rattle.pc_model.specs.Files.{File}
 use Rattle.pc_model.specs.Numbers.{is_one_of, same_number}
 use Rattle.pc_board.specs.Passes.{Pass}
-use Rattle.pc_workers.specs.Collapsing.{has_point, IsShown, HasCollapsed}
+use Rattle.pc_workers.specs.Collapsing.{has_point, HasSeenPublished, HasCollapsed}
 use Rattle.pc_workers.specs.Covering.{HaveAllTo, HaveOnlyTo}
 use Rattle.pc_workers.proofs.Holding.{one_point, has_point_more}
 
@@ -56,12 +56,12 @@ one_more : (n k : ℕ) (files : List File) (file : File) → file.points ≡ set
 one_more n k files file is low high old p has =
     either (has_point files p) (set.contains file.points p) ((1 ≤ p) × (p ≤ n)) (sym (has_point_more files file p) ∙ has) (old p) (one_is_to n k file is low high p)
 
-among : (n : ℕ) (after : Pass) (taken : List ℕ) → All (IsShown n after) taken → (p : ℕ) → is_one_of p (map suc taken) ≡ true → (1 ≤ p) × (p ≤ n)
+among : (n : ℕ) (after : Pass) (taken : List ℕ) → All (HasSeenPublished n after) taken → (p : ℕ) → is_one_of p (map suc taken) ≡ true → (1 ≤ p) × (p ≤ n)
 among n after [] shown p is = cc
 among n after (number ∷ taken) shown p is =
     either (same_number p (suc number)) (is_one_of p (map suc taken)) ((1 ≤ p) × (p ≤ n)) is
-    (λ same. let p_is = is_it p (suc number) same in let low = (All-head (IsShown n after) number taken shown).0 in (omega (arith, p_is), omega (arith, p_is, low)))
-    (among n after taken (All-tail (IsShown n after) number taken shown) p)
+    (λ same. let p_is = is_it p (suc number) same in let low = (All-head (HasSeenPublished n after) number taken shown).0 in (omega (arith, p_is), omega (arith, p_is, low)))
+    (among n after taken (All-tail (HasSeenPublished n after) number taken shown) p)
 
 -- two lists of such files together
 pub both_to : (n : ℕ) (files more : List File) → HaveOnlyTo n files → HaveOnlyTo n more → HaveOnlyTo n (files ++ more)

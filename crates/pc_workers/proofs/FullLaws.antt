@@ -15,7 +15,7 @@ use Rattle.pc_types.specs.declared.limits.TheConstants.{MOST_FILES, MOST_POINTS}
 use Rattle.pc_model.specs.Files.{shelf}
 use Rattle.pc_model.specs.History.{History, phase_of, point_of}
 use Rattle.pc_model.specs.Points.{taken}
-use Rattle.pc_model.specs.Replies.{Setting, IsLegal, TakesFirst, active_in, closed_set, first_refusal, is_empty, log_is_full, not_yet, or_else}
+use Rattle.pc_model.specs.Replies.{Setting, IsLegal, TakesFirst, active_in_class, closed_set, first_refusal, is_empty, log_is_full, not_yet, or_else}
 use Rattle.pc_latch.specs.Cycles.{next_event}
 use Rattle.pc_latch.proofs.CycleLaws.{phase_known, point_known, shelf_known}
 use Rattle.pc_workers.specs.Checkpointing.{IsFull, IsRefusal, Shows}
@@ -84,21 +84,21 @@ module _ (st : Setting) (seen : History) (given : Refusal) where
     at_prepare : phase_of h ≡ Prepare → IsLegal st h asked.Seal (told.Refused given) → IsFullAt st seen given
     at_prepare phase legal =
         let answer : Type 0 = told.Refused given ≡ told.Phase Resolve (point_of h) in
-        let n = active_in st Before h in
+        let n = active_in_class st Before h in
         waits (n == 0) n (first_refusal ((log_is_full h, why.LogFull) ∷ [])) answer (log (log_is_full h) answer (λ is. cc))
         (phase_is h Prepare (or_else (not_yet n) (first_refusal ((log_is_full h, why.LogFull) ∷ []))) answer phase legal)
 
     at_resolve : phase_of h ≡ Resolve → IsLegal st h asked.OpenCapture (told.Refused given) → IsFullAt st seen given
     at_resolve phase legal =
         let answer : Type 0 = told.Refused given ≡ told.Phase Capture (point_of h) in
-        let n = active_in st During h in
+        let n = active_in_class st During h in
         waits (n == 0) n (first_refusal ((log_is_full h, why.LogFull) ∷ [])) answer (log (log_is_full h) answer (λ is. cc))
         (phase_is h Resolve (or_else (not_yet n) (first_refusal ((log_is_full h, why.LogFull) ∷ []))) answer phase legal)
 
     at_complete : phase_of h ≡ Complete → IsLegal st h asked.Rest (told.Refused given) → IsFullAt st seen given
     at_complete phase legal =
         let answer : Type 0 = told.Refused given ≡ told.Phase Rest (point_of h) in
-        let n = active_in st After h in
+        let n = active_in_class st After h in
         waits (n == 0) n (first_refusal ((log_is_full h, why.LogFull) ∷ [])) answer (log (log_is_full h) answer (λ is. cc))
         (phase_is h Complete (or_else (not_yet n) (first_refusal ((log_is_full h, why.LogFull) ∷ []))) answer phase legal)
 

@@ -16,7 +16,7 @@ use Rattle.pc_model.proofs.ContentLaws.{contains-union}
 use Rattle.pc_board.specs.Passes.{Pass}
 use Rattle.pc_latch.specs.Tickets.{IsNoTicket}
 use Rattle.pc_workers.specs.Boards.{HasClaimed}
-use Rattle.pc_workers.specs.Collapsing.{has_point, IsShown, HasCollapsed, CollapserHasStopped, HasShown, HasEnded}
+use Rattle.pc_workers.specs.Collapsing.{has_point, HasSeenPublished, HasCollapsed, CollapserHasStopped, HasShown, HasEnded}
 use Rattle.pc_workers.proofs.BoardCalls.{claimed_none, claimed_on, still_greatest}
 
 or_false : (a : Bool) → (a || false) ≡ a
@@ -52,15 +52,15 @@ one_point point number = contains-from_list number_order (number ∷ []) point
 pub record Holds (points : ℕ) (before after : Pass) (files : List File) : Type 0 where
   pub taken : List ℕ
   pub claims : HasClaimed before after taken
-  pub shown : All (IsShown points after) taken
+  pub shown : All (HasSeenPublished points after) taken
   pub holds : (point : ℕ) → has_point files point ≡ is_one_of point (map suc taken)
 
 pub holds_none : (points : ℕ) (pass : Pass) (files : List File) → files ≡ [] → Holds points pass pass files
 holds_none points pass files none =
-    record { taken = []; claims = claimed_none pass; shown = All-nil (IsShown points pass); holds = λ p. ap (λ fs. has_point fs p) none }
+    record { taken = []; claims = claimed_none pass; shown = All-nil (HasSeenPublished points pass); holds = λ p. ap (λ fs. has_point fs p) none }
 
 -- shown numbers are still shown
-still_shown : (points : ℕ) (before after : Pass) (numbers taken : List ℕ) → HasClaimed before after numbers → All (IsShown points before) taken → All (IsShown points after) taken
+still_shown : (points : ℕ) (before after : Pass) (numbers taken : List ℕ) → HasClaimed before after numbers → All (HasSeenPublished points before) taken → All (HasSeenPublished points after) taken
 still_shown points before after numbers taken a all = λ k d lt. let is = all k d lt in (is.0, omega (arith, is.1, still_greatest before after numbers a))
 
 pub holds_more : (points number : ℕ) (first middle last : Pass) (files more : List File) (file : File) → Holds points first middle files → HasShown points middle last number → file.points ≡ set.insert set.empty (suc number)
@@ -68,7 +68,7 @@ pub holds_more : (points number : ℕ) (first middle last : Pass) (files more : 
 holds_more points number first middle last files more file h s of_it together = record {
   taken = h.taken ++ number ∷ [];
   claims = claimed_on first middle last h.taken (number ∷ []) h.claims s.0;
-  shown = All-append (IsShown points last) h.taken (number ∷ []) (still_shown points middle last (number ∷ []) h.taken s.0 h.shown) (All-cons (IsShown points last) number [] s.1 (All-nil (IsShown points last)));
+  shown = All-append (HasSeenPublished points last) h.taken (number ∷ []) (still_shown points middle last (number ∷ []) h.taken s.0 h.shown) (All-cons (HasSeenPublished points last) number [] s.1 (All-nil (HasSeenPublished points last)));
   holds = λ point.
       together point
       ∙ ((λ i. h.holds point i || set.contains (of_it i) point)
@@ -92,7 +92,7 @@ pub stops_so : (st : Setting) (points number : ℕ) (seen : History) (first midd
 stops_so st points number seen first middle last files why h s is = record {
   numbers = h.taken ++ number ∷ [];
   claims = claimed_on first middle last h.taken (number ∷ []) h.claims s.0;
-  shown = All-append (IsShown points last) h.taken (number ∷ []) (still_shown points middle last (number ∷ []) h.taken s.0 h.shown) (All-cons (IsShown points last) number [] s.1 (All-nil (IsShown points last)));
+  shown = All-append (HasSeenPublished points last) h.taken (number ∷ []) (still_shown points middle last (number ∷ []) h.taken s.0 h.shown) (All-cons (HasSeenPublished points last) number [] s.1 (All-nil (HasSeenPublished points last)));
   cause = inr (h.taken, number, refl, is.0, is.1);
 }
 

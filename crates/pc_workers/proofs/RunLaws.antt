@@ -6,7 +6,7 @@ use Rattle.pc_model.specs.Replies.{Setting}
 use Rattle.pc_jobs.specs.declared.works.Job.{Job}
 use Rattle.pc_shared.specs.Sitters.{Sitter}
 use Rattle.pc_workers.specs.Attempts.{AreTried}
-use Rattle.pc_workers.specs.Clients.{HasCommitted, HasRun, HasTried, marked, writes_of}
+use Rattle.pc_workers.specs.Clients.{HasCommitted, HasRun, HasTried, marked, job_writes}
 use Rattle.pc_workers.proofs.AttemptLaws.{tried_closes, tried_join}
 use Rattle.pc_workers.proofs.ClientJobs.{same_committed, then_committed}
 
@@ -14,7 +14,7 @@ pub marked_join : (marks more : List Bool) (jobs next : List Job) → length mar
 marked_join [] more [] next same = refl
 marked_join [] more (j ∷ jobs) next same = absurd (omega (arith, same))
 marked_join (m ∷ marks) more [] next same = absurd (omega (arith, same))
-marked_join (true ∷ marks) more (j ∷ jobs) next same = ap (λ ws. writes_of j ∷ ws) (marked_join marks more jobs next (omega (arith, same)))
+marked_join (true ∷ marks) more (j ∷ jobs) next same = ap (λ ws. job_writes j ∷ ws) (marked_join marks more jobs next (omega (arith, same)))
 marked_join (false ∷ marks) more (j ∷ jobs) next same = marked_join marks more jobs next (omega (arith, same))
 
 -- if there is nothing to do nothing was done

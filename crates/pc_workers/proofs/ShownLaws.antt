@@ -17,10 +17,10 @@ use Rattle.pc_model.specs.Calls.{step_of, IsAnswered, IsBeginning}
 use Rattle.pc_model.specs.Files.{shelf}
 use Rattle.pc_model.specs.History.{History, Effect, entries_by, log_of, phase_of, point_of}
 use Rattle.pc_model.specs.Points.{taken}
-use Rattle.pc_model.specs.Replies.{Setting, IsLegal, IsLegalHistory, TakesFirst, active_in, closed_set, first_refusal, is_empty, log_is_full, not_yet, or_else}
+use Rattle.pc_model.specs.Replies.{Setting, IsLegal, IsLegalHistory, TakesFirst, active_in_class, closed_set, first_refusal, is_empty, log_is_full, not_yet, or_else}
 use Rattle.pc_model.proofs.EffectLaws.{refused_does_nothing}
 use Rattle.pc_latch.specs.Cycles.{next_event, IsTakeCalled}
-use Rattle.pc_shared.specs.Advances.{EndsWith}
+use Rattle.pc_shared.specs.Advances.{EndsWithAdvance}
 use Rattle.pc_workers.specs.Checkpointing.{Shows}
 
 -- LogFull is a reply that is due, or the answer, or a failed allocation
@@ -50,10 +50,10 @@ module _ (st : Setting) (h : History) where
   abbrev full : Option Reply
   full = first_refusal ((log_is_full h, why.LogFull) ∷ [])
 
-  of_move : (from to : Phase) (class : Class) → Told (or_else (first_refusal ((not (same_phase (phase_of h) from), why.WrongPhase) ∷ [])) (or_else (not_yet (active_in st class h)) full)) (told.Refused why.LogFull ≡ told.Phase to (point_of h)) → log_is_full h ≡ true
+  of_move : (from to : Phase) (class : Class) → Told (or_else (first_refusal ((not (same_phase (phase_of h) from), why.WrongPhase) ∷ [])) (or_else (not_yet (active_in_class st class h)) full)) (told.Refused why.LogFull ≡ told.Phase to (point_of h)) → log_is_full h ≡ true
   of_move from to class is =
       let answer : Type 0 = told.Refused why.LogFull ≡ told.Phase to (point_of h) in
-      let n = active_in st class h in
+      let n = active_in_class st class h in
       by_log (log_is_full h) answer (λ a. cc (a)) (behind_wait (n == 0) n full answer (behind_phase (not (same_phase (phase_of h) from)) (or_else (not_yet n) full) answer is))
 
   -- if LogFull is legal, the log is full
@@ -79,7 +79,7 @@ refused_log : (phase : Phase) (given : Refusal) (h : History) → log_is_full (s
 refused_log phase given h = ap (λ (log : List Entry). length log == MOST_LOG_ENTRIES) (ap (λ (e : Effect). log_of h ++ entries_by e h) (refused_does_nothing (next_event phase) given) ∙ append-nil (log_of h))
 
 -- the facts by a witness that ends with the refusal
-pub shows : (st : Setting) (seen shown : History) (reply : Reply) (given : Refusal) → reply ≡ told.Refused given → EndsWith st seen reply shown → Shows st seen given shown
+pub shows : (st : Setting) (seen shown : History) (reply : Reply) (given : Refusal) → reply ≡ told.Refused given → EndsWithAdvance st seen reply shown → Shows st seen given shown
 shows st seen shown reply given is ends = record { legal = ends.legal; had_seen = ends.had_seen; log = by }
   where
     last : shown ≡ step_of (next_event (phase_of ends.before)) (told.Refused given) ∷ ends.before

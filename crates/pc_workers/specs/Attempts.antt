@@ -19,11 +19,11 @@ use Rattle.pc_workers.specs.declared.clients.EndedTransaction.TheVariants.{Commi
 use Rattle.pc_workers.specs.declared.clients.TheConstants.{MOST_REPEATS}
 
 -- the event that the session calls with for the operation
-abbrev pub event_of : ℕ → Op → Event
-event_of s (Get key) = asked.Get s key
-event_of s (Put key value) = asked.Put s key value
-event_of s (Del key) = asked.Del s key
-event_of s (Add key delta) = asked.Add s key delta
+abbrev pub op_event : ℕ → Op → Event
+op_event s (Get key) = asked.Get s key
+op_event s (Put key value) = asked.Put s key value
+op_event s (Del key) = asked.Del s key
+op_event s (Add key delta) = asked.Add s key delta
 
 -- the reply says that the operation was made
 abbrev pub is_made : Reply → Bool
@@ -35,11 +35,11 @@ is_made other = false
 
 -- the operation was asked for, and made
 abbrev pub IsOpMade : Setting → ℕ → Op → History → History → Type 0
-IsOpMade st s op early late = (reply : Reply) × (is_made reply ≡ true) × Extends st early (step_of (event_of s op) reply) late
+IsOpMade st s op early late = (reply : Reply) × (is_made reply ≡ true) × Extends st early (step_of (op_event s op) reply) late
 
 -- it was asked for, and died
 abbrev pub Dies : Setting → ℕ → Op → History → History → Type 0
-Dies st s op early late = Extends st early (step_of (event_of s op) told.Died) late
+Dies st s op early late = Extends st early (step_of (op_event s op) told.Died) late
 
 -- a transaction was begun
 abbrev pub WasBegun : Setting → ℕ → History → History → Type 0
@@ -77,7 +77,7 @@ TakesMemory (Add key delta) = SPACE_BYTES + 16 < length key
 
 -- the session, which has seen this history, was refused the operation; or an allocation failed for a copy of its key or value
 abbrev pub IsRefusedOp : Setting → ℕ → Op → Refusal → History → Type 0
-IsRefusedOp st s op cause seen = ((cause ≡ why.OutOfMemory) × TakesMemory op) ⊎ IsAnswered st s seen (event_of s op) (told.Refused cause)
+IsRefusedOp st s op cause seen = ((cause ≡ why.OutOfMemory) × TakesMemory op) ⊎ IsAnswered st s seen (op_event s op) (told.Refused cause)
 
 -- it was refused the next call: the first of these operations, or the commit if none is left
 abbrev pub IsRefusedNext : Setting → ℕ → List Op → History → Type 0

@@ -28,12 +28,12 @@ wrote_all writes [] = writes
 wrote_all writes (op ∷ ops) = wrote_all (wrote writes op) ops
 
 -- a job's writes: of each key the last write, in the order in which the keys were first written
-abbrev pub writes_of : Job → List Write
-writes_of job = wrote_all [] job.ops
+abbrev pub job_writes : Job → List Write
+job_writes job = wrote_all [] job.ops
 
 -- the writes of the session's transaction, by its history
-abbrev pub written_by : Sitter → List Write
-written_by s = (own_of s.number s.seen).writes
+abbrev pub session_writes : Sitter → List Write
+session_writes s = (own_of s.number s.seen).writes
 
 -- the session still has its number, and after its receipts one with each of these lists of writes
 pub record HasCommitted (done : List (List Write)) (old new : Sitter) : Type 0 where
@@ -52,7 +52,7 @@ done_by Refused writes = []
 abbrev pub marked : List Bool → List Job → List (List Write)
 marked [] jobs = []
 marked (mark ∷ marks) [] = []
-marked (true ∷ marks) (job ∷ jobs) = writes_of job ∷ marked marks jobs
+marked (true ∷ marks) (job ∷ jobs) = job_writes job ∷ marked marks jobs
 marked (false ∷ marks) (job ∷ jobs) = marked marks jobs
 
 -- Of the jobs those that are marked were committed in their order, this many, and the others given up.

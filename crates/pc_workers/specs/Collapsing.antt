@@ -20,8 +20,8 @@ abbrev pub has_point : List File → ℕ → Bool
 has_point files point = list_any (λ (file : File). set.contains file.points point) files
 
 -- the number is below points, and the pass has seen published the point after it or a greater one
-abbrev pub IsShown : ℕ → Pass → ℕ → Type 0
-IsShown points pass number = (number < points) × (number < greatest_of pass.seen)
+abbrev pub HasSeenPublished : ℕ → Pass → ℕ → Type 0
+HasSeenPublished points pass number = (number < points) × (number < greatest_of pass.seen)
 
 -- the number isn't below points, or the pass has seen published neither the point after it nor a greater one
 abbrev pub IsUnshown : ℕ → Pass → ℕ → Type 0
@@ -39,7 +39,7 @@ pub record HasCollapsed (points : ℕ) (before after : Pass) (files : List File)
   pub taken : List ℕ
   pub last : List ℕ
   pub claims : HasClaimed before after (taken ++ last)
-  pub shown : All (IsShown points after) taken
+  pub shown : All (HasSeenPublished points after) taken
   pub holds : (point : ℕ) → has_point files point ≡ is_one_of point (map suc taken)
   pub ended : IsAtEnd points after last
 
@@ -48,12 +48,12 @@ pub record HasCollapsed (points : ℕ) (before after : Pass) (files : List File)
 pub record CollapserHasStopped (st : Setting) (points : ℕ) (seen : History) (before after : Pass) (why : Refusal) : Type 0 where
   pub numbers : List ℕ
   pub claims : HasClaimed before after numbers
-  pub shown : All (IsShown points after) numbers
+  pub shown : All (HasSeenPublished points after) numbers
   pub cause : (why ≡ OutOfMemory) ⊎ ((earlier : List ℕ) × (last : ℕ) × (numbers ≡ earlier ++ last ∷ []) × IsLegalHistory st seen × IsNoTicket st seen (suc last) why)
 
 -- a number was claimed since, and shown
 abbrev pub HasShown : ℕ → Pass → Pass → ℕ → Type 0
-HasShown points before after number = HasClaimed before after (number ∷ []) × IsShown points after number
+HasShown points before after number = HasClaimed before after (number ∷ []) × HasSeenPublished points after number
 
 -- at most one number was claimed since, and no more files are taken
 abbrev pub HasEnded : ℕ → Pass → Pass → Type 0

@@ -1,6 +1,6 @@
 -- How far an attempt at a job has come.
 use Rattle.std.specs.Prelude.{◌≡◌, ◌⊎◌, ◌<◌, ⊤, ℕ, ◌+◌, Bool, true, false, List}
-use Rattle.pc_types.specs.Changes.{fits}
+use Rattle.pc_types.specs.Changes.{fits_i64}
 use Rattle.pc_model.specs.History.{History}
 use Rattle.pc_model.specs.Replies.{Setting}
 use Rattle.pc_jobs.specs.declared.works.Op.{Op}
@@ -14,13 +14,13 @@ use Rattle.pc_workers.specs.declared.clients.TheConstants.{MOST_REPEATS}
 
 -- the number that it adds, if any, is in the range of 64 bits with a sign
 abbrev pub IsInRange : Op → Type 0
-IsInRange (Add key delta) = fits delta ≡ true
+IsInRange (Add key delta) = fits_i64 delta ≡ true
 IsInRange other = ⊤
 
 -- the answer to the operation: it was made, or it died
-abbrev pub IsAsked : Setting → ℕ → Op → CallAnswer → History → History → Type 0
-IsAsked st s op answer.Died early late = Dies st s op early late
-IsAsked st s op other early late = IsOpMade st s op early late
+abbrev pub IsOpAnswered : Setting → ℕ → Op → CallAnswer → History → History → Type 0
+IsOpAnswered st s op answer.Died early late = Dies st s op early late
+IsOpAnswered st s op other early late = IsOpMade st s op early late
 
 -- an attempt that ended in this way, before its abort
 abbrev pub IsCourse : Setting → ℕ → List Op → EndedTransaction → History → History → Type 0

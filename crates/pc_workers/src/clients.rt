@@ -3,9 +3,9 @@ ghost use Rattle.std.specs.Prelude.{◌≡◌, ◌≢◌, ◌<◌, ◌-◌, ◌^
 ghost use Rattle.pc_model.specs.Calls.{IsBeginning};
 ghost use Rattle.pc_model.specs.History.{is_open};
 ghost use Rattle.pc_workers.specs.Attempts.{WasAborted, AreMade, OneDies, IsRefusedOp, IsStuck, IsAttempt, IsTried};
-ghost use Rattle.pc_workers.specs.Clients.{HasCommitted, HasRun, HasTried, done_by, written_by, wrote, wrote_all, writes_of};
+ghost use Rattle.pc_workers.specs.Clients.{HasCommitted, HasRun, HasTried, done_by, session_writes, wrote, wrote_all, job_writes};
 ghost use Rattle.pc_workers.specs.Waits.{AreHeld, HasWaited, IsSeatedOut, KeepsMark};
-ghost use Rattle.pc_workers.specs.Courses.{IsInRange, IsAsked, IsCourse, IsRepeated, mark_of};
+ghost use Rattle.pc_workers.specs.Courses.{IsInRange, IsOpAnswered, IsCourse, IsRepeated, mark_of};
 
 use crate::client_gate::ClientGate;
 use pc_jobs::{Job, Op};
@@ -78,8 +78,8 @@ fn make<N: StoreName, R: Wait>(
     op: &Op,
 ) -> Result<CallAnswer, Refusal>
     ensures receipts { HasCommitted [] session.old session.new }
-    ensures wrote { IfOk result (λ answer. answer ≢ CallAnswer.Died → written_by session.new ≡ wrote (written_by session.old) op.now) }
-    ensures asked { IfOk result (λ answer. IsAsked N.name.setting session.old.number op.now answer session.old.seen session.new.seen) }
+    ensures wrote { IfOk result (λ answer. answer ≢ CallAnswer.Died → session_writes session.new ≡ wrote (session_writes session.old) op.now) }
+    ensures asked { IfOk result (λ answer. IsOpAnswered N.name.setting session.old.number op.now answer session.old.seen session.new.seen) }
     ensures refused { IfErr result (λ cause. IsRefusedOp N.name.setting session.old.number op.now cause session.old.seen) }
     ensures same { OnErr result (session.new ≡ session.old) }
 {
@@ -125,7 +125,7 @@ fn make_all<N: StoreName, R: Wait, G: ClientGate>(
     gate: &G,
 ) -> Result<bool, Refusal>
     ensures receipts { HasCommitted [] session.old session.new }
-    ensures wrote { IfOk result (λ all. all ≡ true → written_by session.new ≡ wrote_all (written_by session.old) ops.now) }
+    ensures wrote { IfOk result (λ all. all ≡ true → session_writes session.new ≡ wrote_all (session_writes session.old) ops.now) }
     ensures made { IfOk result (λ all. MatchBool all (AreMade N.name.setting session.old.number ops.now session.old.seen session.new.seen) (OneDies N.name.setting session.old.number ops.now session.old.seen session.new.seen)) }
     ensures stuck { OnErr result (IsStuck N.name.setting session.old.number ops.now session.old.seen session.new.seen) }
 {
@@ -290,7 +290,7 @@ fn try_job<'a, N: StoreName, R: Wait, G: ClientGate>(
     patience: &mut Patience<'a>,
     gate: &G,
 ) -> EndedTransaction
-    ensures receipts { HasCommitted (done_by result (writes_of job.now)) session.old session.new }
+    ensures receipts { HasCommitted (done_by result (job_writes job.now)) session.old session.new }
     ensures begins { IsBeginning session.old.seen session.new.seen }
     ensures tried { is_open session.old.number session.old.seen ≡ false → IsTried N.name.setting session.old.number job.now (mark_of result) session.old.seen session.new.seen }
     ensures lag { patience.new.lag ≡ patience.old.lag }
@@ -317,7 +317,7 @@ fn run<'a, N: StoreName, R: Wait, G: ClientGate>(
     patience: &mut Patience<'a>,
     gate: &G,
 ) -> EndedTransaction
-    ensures receipts { HasCommitted (done_by result (writes_of job.now)) session.old session.new }
+    ensures receipts { HasCommitted (done_by result (job_writes job.now)) session.old session.new }
     ensures begins { IsBeginning session.old.seen session.new.seen }
     ensures tried { is_open session.old.number session.old.seen ≡ false → IsTried N.name.setting session.old.number job.now (mark_of result) session.old.seen session.new.seen }
     ensures lag { patience.new.lag ≡ patience.old.lag }

@@ -1,14 +1,14 @@
 -- Adds: the sums that they return, their refusals, and their effect on a commit.
 -- Made from the text of the worked examples.
 use Rattle.std.proofs.Common.{[], ◌∷◌, refl}
-use Rattle.pc_types.specs.Changes.{number_text, number_in, number_of}
+use Rattle.pc_types.specs.Changes.{number_text, value_number, content_number}
 use Rattle.pc_model.specs.Maps as map_of
 use Rattle.test_model.specs.Examples.{plain, holding, with_room_for, with_sessions, a, b, k, x, y, seven, nine}
 use Rattle.pc_model.proofs.Ample.{legal_run, legal_lean_run}
 use Rattle.test_model.specs.ExamplesOfAdds.{add_behind_a_later_one, add_dies, add_waits, add_waits_for_a_reader, adds_before_and_after_the_seal, adds_of_two_transactions, causes_of_adds, changes_of_one_transaction, deltas_past_the_ends, reads_over_open_adds, refused_add_makes_no_request, set_sums_past_the_ends, sums_past_the_ends, values_that_are_no_numbers, ExamplesOfAdds}
 
 pub examples_of_adds : ExamplesOfAdds
-unfolding map_of.empty map_of.get map_of.insert map_of.remove number_text number_in number_of
+unfolding map_of.empty map_of.get map_of.insert map_of.remove number_text value_number content_number
 examples_of_adds = record {
   adds_of_two_transactions_runs = record { legal = legal_run plain adds_of_two_transactions refl; by_replies = refl; by_log = refl; leaves = refl };
   adds_of_two_transactions_log = refl;

@@ -6,7 +6,7 @@ use Rattle.pc_types.specs.declared.Phase.TheVariants.{Prepare, Resolve}
 use Rattle.pc_types.specs.declared.Event.TheVariants as asked
 use Rattle.pc_types.specs.declared.Reply.TheVariants as told
 use Rattle.pc_types.specs.declared.Refusal.TheVariants as why
-use Rattle.pc_types.specs.Changes.{number_text, number_in, number_of}
+use Rattle.pc_types.specs.Changes.{number_text, value_number, content_number}
 use Rattle.pc_model.specs.Maps as map_of
 use Rattle.pc_model.specs.Database.{same_bytes}
 use Rattle.test_model.specs.Examples.{plain, holding, with_room_for, IsIllegal, a, b, k, n, x, y, v1, v2, v5, v6, v9, seven, nine}
@@ -123,52 +123,52 @@ point_number_skipped (inl e) = cc
 point_number_skipped (inr e) = cc
 
 add_to_seven_bytes : IsIllegal (holding y [] (holding x nine (holding k seven plain))) (take 1 values_that_are_no_numbers) (asked.Add 1 k (pos 1)) (told.Sum (pos 1))
-unfolding map_of.empty map_of.get map_of.insert map_of.remove number_text number_in number_of
+unfolding map_of.empty map_of.get map_of.insert map_of.remove number_text value_number content_number
 add_to_seven_bytes e = cc
 
 memory_before_not_number : IsIllegal (holding y [] (holding x nine (holding k seven plain))) (take 1 values_that_are_no_numbers) (asked.Add 1 k (pos 1)) (told.Refused why.OutOfMemory)
-unfolding map_of.empty map_of.get map_of.insert map_of.remove number_text number_in number_of
+unfolding map_of.empty map_of.get map_of.insert map_of.remove number_text value_number content_number
 memory_before_not_number e = cc
 
 sum_past_the_greatest : IsIllegal (holding b (128 ∷ 0 ∷ 0 ∷ 0 ∷ 0 ∷ 0 ∷ 0 ∷ 0 ∷ []) (holding a (127 ∷ 255 ∷ 255 ∷ 255 ∷ 255 ∷ 255 ∷ 255 ∷ 255 ∷ []) plain)) (take 1 sums_past_the_ends) (asked.Add 1 a (pos 1)) (told.Sum (negsuc 9223372036854775807))
-unfolding map_of.empty map_of.get map_of.insert map_of.remove number_text number_in number_of
+unfolding map_of.empty map_of.get map_of.insert map_of.remove number_text value_number content_number
 sum_past_the_greatest e = cc
 
 delta_past_the_greatest : IsIllegal (holding a (128 ∷ 0 ∷ 0 ∷ 0 ∷ 0 ∷ 0 ∷ 0 ∷ 1 ∷ []) plain) (take 2 deltas_past_the_ends) (asked.Add 1 a (pos 9223372036854775807)) (told.Sum (pos 9223372036854775807))
-unfolding map_of.empty map_of.get map_of.insert map_of.remove number_text number_in number_of
+unfolding map_of.empty map_of.get map_of.insert map_of.remove number_text value_number content_number
 delta_past_the_greatest e = cc
 
 out_of_range_before_not_number : IsIllegal (holding y [] (holding x nine (holding k seven plain))) (take 1 values_that_are_no_numbers) (asked.Add 1 k (pos 9223372036854775807)) (told.Refused why.OutOfRange)
-unfolding map_of.empty map_of.get map_of.insert map_of.remove number_text number_in number_of
+unfolding map_of.empty map_of.get map_of.insert map_of.remove number_text value_number content_number
 out_of_range_before_not_number e = cc
 
 sum_without_the_own_add : IsIllegal plain (take 2 adds_of_two_transactions) (asked.Add 1 n (negsuc 1)) (told.Sum (negsuc 1))
-unfolding map_of.empty map_of.get map_of.insert map_of.remove number_text number_in number_of
+unfolding map_of.empty map_of.get map_of.insert map_of.remove number_text value_number content_number
 sum_without_the_own_add (inl e) = cc
 sum_without_the_own_add (inr e) = cc
 
 add_that_is_told_ok : IsIllegal plain (take 1 adds_of_two_transactions) (asked.Add 1 n (pos 5)) told.Ok
-unfolding map_of.empty map_of.get map_of.insert map_of.remove number_text number_in number_of
+unfolding map_of.empty map_of.get map_of.insert map_of.remove number_text value_number content_number
 add_that_is_told_ok (inl e) = cc
 add_that_is_told_ok (inr e) = cc
 
 read_before_the_own_add : IsIllegal (holding a (0 ∷ 0 ∷ 0 ∷ 0 ∷ 0 ∷ 0 ∷ 0 ∷ 10 ∷ []) plain) (take 6 reads_over_open_adds) (asked.Get 1 b) told.Absent
-unfolding map_of.empty map_of.get map_of.insert map_of.remove number_text number_in number_of
+unfolding map_of.empty map_of.get map_of.insert map_of.remove number_text value_number content_number
 read_before_the_own_add (inl e) = cc
 read_before_the_own_add (inr e) = cc
 
 not_number_before_the_lock : IsIllegal (holding k seven plain) (take 3 add_waits_for_a_reader) (asked.Add 1 k (pos 1)) (told.Refused why.NotNumber)
-unfolding map_of.empty map_of.get map_of.insert map_of.remove number_text number_in number_of
+unfolding map_of.empty map_of.get map_of.insert map_of.remove number_text value_number content_number
 not_number_before_the_lock (inl e) = cc
 not_number_before_the_lock (inr e) = cc
 
 not_number_of_one_that_dies : IsIllegal (holding x nine (holding k (0 ∷ 0 ∷ 0 ∷ 0 ∷ 0 ∷ 0 ∷ 0 ∷ 5 ∷ []) plain)) (take 9 add_dies) (asked.Add 1 x (pos 1)) (told.Refused why.NotNumber)
-unfolding map_of.empty map_of.get map_of.insert map_of.remove number_text number_in number_of
+unfolding map_of.empty map_of.get map_of.insert map_of.remove number_text value_number content_number
 not_number_of_one_that_dies (inl e) = cc
 not_number_of_one_that_dies (inr e) = cc
 
 pub examples_of_illegal_replies : ExamplesOfIllegalReplies
-unfolding map_of.empty map_of.get map_of.insert map_of.remove number_text number_in number_of
+unfolding map_of.empty map_of.get map_of.insert map_of.remove number_text value_number content_number
 examples_of_illegal_replies = record {
   seal_over_an_open_transaction = seal_over_an_open_transaction;
   memory_before_not_yet = memory_before_not_yet;

@@ -11,7 +11,7 @@ use Rattle.pc_model.specs.Log.{state_at}
 use Rattle.pc_model.specs.History.{log_of, contents}
 use Rattle.pc_model.specs.Points.{AtPoint}
 use Rattle.pc_model.specs.Files.{File, BaseFile, shelf, file_at}
-use Rattle.pc_model.specs.Standing.{file_of}
+use Rattle.pc_model.specs.Standing.{file_of_points}
 use Rattle.pc_model.specs.LaidFiles.{gap_above, laid_file}
 use Rattle.pc_model.specs.Replies.{Setting, IsLegal, IsLegalHistory}
 use Rattle.pc_model.specs.Quiet.{IsQuiet}
@@ -54,7 +54,7 @@ files_shelved st steps = map listed (shelf st.run (reverse steps))
 
 -- the files of the same points, read off the log
 abbrev pub files_by_log : Setting → List Step → List (List ℕ × List (List ℕ × AtPoint))
-files_by_log st steps = map (λ file. listed (file_of st.run st.base (log_of (reverse steps)) file.points)) (shelf st.run (reverse steps))
+files_by_log st steps = map (λ file. listed (file_of_points st.run st.base (log_of (reverse steps)) file.points)) (shelf st.run (reverse steps))
 
 -- the file of this number after the steps
 abbrev pub file_after : Setting → List Step → ℕ → Option File

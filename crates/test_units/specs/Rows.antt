@@ -4,7 +4,7 @@ use Rattle.pc_dirty.specs.declared.side.SideSlot.{SideSlot}
 use Rattle.pc_dirty.specs.declared.side.Side.{Side}
 use Rattle.pc_dirty.specs.declared.side.Side.TheVariants.{First, Second}
 use Rattle.pc_dirty.specs.declared.dirty.Dirty.{Dirty}
-use Rattle.pc_dirty.specs.Sets.{place_of, AreSets}
+use Rattle.pc_dirty.specs.Sets.{place_on_side, AreSets}
 
 -- of two links that on the side
 abbrev pub on_side : Side → Option SideSlot → Option SideSlot → Option SideSlot
@@ -23,4 +23,4 @@ has_links firsts seconds place = (place.slot < length firsts) × (place.slot < l
 pub record AreKept (firsts seconds : List (Option SideSlot)) (dirty : Dirty) (opened : List ℕ) : Type 0 where
   pub closed : List ℕ
   pub sets : AreSets (has_links firsts seconds) (link_at firsts seconds) dirty opened closed
-  pub last : has_links firsts seconds (place_of First 11)
+  pub last : has_links firsts seconds (place_on_side First 11)

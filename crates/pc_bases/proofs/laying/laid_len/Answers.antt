@@ -2,7 +2,7 @@ use Rattle.std.proofs.Common.{rules, ◌≡◌, ◌<◌, length, get_or, ap, ari
 use Rattle.std.proofs.lemmas.List.{length_push, length-map}
 use Rattle.std.proofs.lemmas.Iterator.{YieldsList-from_slice}
 use Rattle.std.proofs.lemmas.Iterator.Consumers.{YieldsList-turn, YieldsList-end}
-use Rattle.pc_model.specs.TripleLists.{entry_of, entries_of}
+use Rattle.pc_model.specs.TripleLists.{entry_of, map_entries}
 use Rattle.pc_bases.specs.Layings.{laid_there}
 use Rattle.pc_bases.proofs.PassedItems.{entries_in, items_of_pairs, all_to_come}
 use Rattle.pc_bases.proofs.LaidLists.{laid_items, counted_one, counted_none, all_counted}
@@ -13,7 +13,7 @@ use Rattle.pc_bases.proofs.laying.laid_len.Goals.{In-Some, Then-is_some, Else-is
 
 pub loop-item-init : goal.loop-item-init
 loop-item-init c =
-    let all = ap length (merged_items (laid_there c.args.point) c.args.pairs.now (entries_of c.args.triples.now)) in
+    let all = ap length (merged_items (laid_there c.args.point) c.args.pairs.now (map_entries c.args.triples.now)) in
     (omega (arith, all), omega arith)
 
 -- the item is the next one
@@ -24,7 +24,7 @@ turn c = YieldsList-turn (items_of_pairs _ _ c.into_iter-item-iterator.ensures.i
 pub overflow_add-len : goal.overflow_add-len
 overflow_add-len c =
     let t = turn (goal.at.overflow_add-len c).In-Some in
-    let all = items_len c.args.pairs.now (entries_of c.args.triples.now) in
+    let all = items_len c.args.pairs.now (map_entries c.args.triples.now) in
     let entries = length-map c.args.triples.now entry_of in
     let pairs_fit = c.iter.ensures.bound in
     omega (arith, c.loop-item.invariant.1, t.0, all, entries, pairs_fit, c.requires)

@@ -2,7 +2,7 @@ use Rattle.std.proofs.Common.{rules, ◌≡◌, ◌++◌, [], ◌∙◌, ap}
 use Rattle.std.proofs.lemmas.List.{length_push}
 use Rattle.std.proofs.lemmas.Iterator.{YieldsList-from_slice}
 use Rattle.std.proofs.lemmas.Iterator.Consumers.{YieldsList-turn, YieldsList-end}
-use Rattle.pc_model.specs.TripleLists.{entries_of}
+use Rattle.pc_model.specs.TripleLists.{map_entries}
 use Rattle.pc_bases.specs.Layings.{laid_there}
 use Rattle.pc_bases.proofs.PassedItems.{items_of_pairs, all_to_come}
 use Rattle.pc_bases.proofs.LaidLists.{laid_items, lays_from, all_laid}
@@ -12,7 +12,7 @@ use Rattle.pc_bases.proofs.laying.lay_in_order.Goals as goal
 pub loop-item-init : goal.loop-item-init
 loop-item-init c =
     let none : c.new-out.result.items ≡ [] = search rules in
-    ap (λ es. es ++ lays_from c.args.point c.args.pairs.now c.args.triples.now 0) none ∙ merged_items (laid_there c.args.point) c.args.pairs.now (entries_of c.args.triples.now)
+    ap (λ es. es ++ lays_from c.args.point c.args.pairs.now c.args.triples.now 0) none ∙ merged_items (laid_there c.args.point) c.args.pairs.now (map_entries c.args.triples.now)
 
 pub loop-item-preserved : goal.loop-item-preserved
 loop-item-preserved c =

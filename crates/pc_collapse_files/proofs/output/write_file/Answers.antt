@@ -5,7 +5,7 @@ use Rattle.pc_merge.specs.Coming.{Coming}
 use Rattle.pc_merge.specs.Given.{IsMerge}
 use Rattle.pc_merge.specs.Inputs.{all_known}
 use Rattle.pc_streams.specs.Readers.{coming_of, standing_of}
-use Rattle.pc_stream_join.specs.Joining.{IsUnjoinedFor, JoinStands, file_of}
+use Rattle.pc_stream_join.specs.Joining.{IsUnjoinedFor, JoinStands, file_of_entries}
 use Rattle.pc_collapse_files.specs.Inputs.{IsUnwritten}
 use Rattle.pc_collapse_files.proofs.Ends.{short_of, whole_of}
 use Rattle.pc_collapse_files.proofs.Headed.{have_header}
@@ -19,7 +19,7 @@ returns-in-Ok-join_entries-clause-written g c = λ files are.
     let written = c.in-Ok-join_entries.ensures.written in
     record {
       opened = are.opened;
-      file = file_of c.args.inputs.header.run c.args.inputs.header.ranges.items written.given;
+      file = file_of_entries c.args.inputs.header.run c.args.inputs.header.ranges.items written.given;
       join = join_is g.R.Read.remaining files c.args.inputs.readers.items are.readers c.args.inputs.header.run c.args.inputs.header.ranges.items written.given are.headed written.lawful
           (subst (λ inputs. (was : List Coming) → all_known (map (coming_of g.R.Read.remaining) inputs) ≡ Some was → IsMerge was written.given) c.deref_mut.ensures.value written.merge);
       whole = λ known. whole_of (g.F.Write.contents c.new-file.result.inner) _ _ (known c.new-file.result.inner) (known c.join_entries.new.out.inner) (rw c.new-file.ensures.inner c.in-Ok.ensures.empty) written.text;

@@ -5,7 +5,7 @@ use Rattle.pc_merge.specs.Inputs.{left_in}
 use Rattle.pc_types.specs.declared.Triple.{Triple}
 use Rattle.pc_types.specs.declared.limits.TheConstants.{MOST_FILE_ENTRIES}
 use Rattle.pc_merge.specs.Given.{IsCauseOfAll, IsMerge}
-use Rattle.pc_merge.specs.Merging.{GoesOn}
+use Rattle.pc_merge.specs.Merging.{MergesNext}
 use Rattle.pc_merge.specs.Standings.{AllGiveWithin}
 use Rattle.pc_merge.proofs.StandingLaws.{stands_on, stands_since}
 use Rattle.pc_merge.proofs.DrawingLaws.{handed_on}
@@ -20,7 +20,7 @@ returns-in_err-entry-clause-known g c = λ was known.
 
 pub returns-in_default-clause-known : goal.returns-in_default-clause-known
 returns-in_default-clause-known g c = λ was known.
-    way_end was c.loop.all.items (left_in (map g.E.Entries.coming c.loop.inputs) c.loop.merge) (left_in (map g.E.Entries.coming c.next.new.inputs) c.next.new.self) (c.loop.invariant.way was known) (subst (λ (e : Option Triple). GoesOn (left_in (map g.E.Entries.coming c.loop.inputs) c.loop.merge) (left_in (map g.E.Entries.coming c.next.new.inputs) c.next.new.self) (gives e)) c.in_default.is c.in_ok-entry.ensures.goes_on)
+    way_end was c.loop.all.items (left_in (map g.E.Entries.coming c.loop.inputs) c.loop.merge) (left_in (map g.E.Entries.coming c.next.new.inputs) c.next.new.self) (c.loop.invariant.way was known) (subst (λ (e : Option Triple). MergesNext (left_in (map g.E.Entries.coming c.loop.inputs) c.loop.merge) (left_in (map g.E.Entries.coming c.next.new.inputs) c.next.new.self) (gives e)) c.in_default.is c.in_ok-entry.ensures.goes_on)
 
 pub loop-preserved : goal.loop-preserved
 loop-preserved g c =
@@ -37,7 +37,7 @@ loop-preserved g c =
       given = λ points all. rw c.in_ok-push_triple.ensures.items (All-push (λ (e : Triple). IsTrue (points e.point)) c.loop.all.items entry (before.given points all) (given_within points (before.to_come points all)).0);
       way = λ was known. rw (c.in_ok-push_triple.ensures.items, c.take_back.ensures)
           (way_on was c.loop.all.items (left_in (map g.E.Entries.coming c.loop.inputs) c.loop.merge) (left_in (map g.E.Entries.coming c.next.new.inputs) c.next.new.self) (before.way was known) entry
-          (subst (λ (e : Option Triple). GoesOn (left_in (map g.E.Entries.coming c.loop.inputs) c.loop.merge) (left_in (map g.E.Entries.coming c.next.new.inputs) c.next.new.self) (gives e)) c.in-Some.is next.goes_on));
+          (subst (λ (e : Option Triple). MergesNext (left_in (map g.E.Entries.coming c.loop.inputs) c.loop.merge) (left_in (map g.E.Entries.coming c.next.new.inputs) c.next.new.self) (gives e)) c.in-Some.is next.goes_on));
     }
 
 pub returns-in_err-next-clause-known : goal.returns-in_err-next-clause-known
@@ -48,7 +48,7 @@ returns-in_err-next-clause-known g c = λ was known.
 
 pub returns-in-None-clause-known : goal.returns-in-None-clause-known
 returns-in-None-clause-known g c = λ was known.
-    way_end was c.loop.all.items (left_in (map g.E.Entries.coming c.loop.inputs) c.loop.merge) (left_in (map g.E.Entries.coming c.next-2.new.inputs) c.next-2.new.self) (c.loop.invariant.way was known) (subst (λ (e : Option Triple). GoesOn (left_in (map g.E.Entries.coming c.loop.inputs) c.loop.merge) (left_in (map g.E.Entries.coming c.next-2.new.inputs) c.next-2.new.self) (gives e)) c.in-None.is c.in_ok-next.ensures.goes_on)
+    way_end was c.loop.all.items (left_in (map g.E.Entries.coming c.loop.inputs) c.loop.merge) (left_in (map g.E.Entries.coming c.next-2.new.inputs) c.next-2.new.self) (c.loop.invariant.way was known) (subst (λ (e : Option Triple). MergesNext (left_in (map g.E.Entries.coming c.loop.inputs) c.loop.merge) (left_in (map g.E.Entries.coming c.next-2.new.inputs) c.next-2.new.self) (gives e)) c.in-None.is c.in_ok-next.ensures.goes_on)
 
 pub returns-clause-known : goal.returns-clause-known
 returns-clause-known g c = λ was known.
@@ -59,7 +59,7 @@ returns-clause-known g c = λ was known.
     let last = c.loop-test.false in
     let many : MOST_FILE_ENTRIES < length (c.loop.all.items ++ entry ∷ []) = omega arith in
     too_many was (c.loop.all.items ++ entry ∷ []) (left_in (map g.E.Entries.coming c.next-2.new.inputs) c.next-2.new.self)
-    (way_on was c.loop.all.items (left_in (map g.E.Entries.coming c.loop.inputs) c.loop.merge) (left_in (map g.E.Entries.coming c.next-2.new.inputs) c.next-2.new.self) (c.loop.invariant.way was known) entry (subst (λ (e : Option Triple). GoesOn (left_in (map g.E.Entries.coming c.loop.inputs) c.loop.merge) (left_in (map g.E.Entries.coming c.next-2.new.inputs) c.next-2.new.self) (gives e)) c.in-Some-2.is c.in_ok-next.ensures.goes_on))
+    (way_on was c.loop.all.items (left_in (map g.E.Entries.coming c.loop.inputs) c.loop.merge) (left_in (map g.E.Entries.coming c.next-2.new.inputs) c.next-2.new.self) (c.loop.invariant.way was known) entry (subst (λ (e : Option Triple). MergesNext (left_in (map g.E.Entries.coming c.loop.inputs) c.loop.merge) (left_in (map g.E.Entries.coming c.next-2.new.inputs) c.next-2.new.self) (gives e)) c.in-Some-2.is c.in_ok-next.ensures.goes_on))
     many
 
 pub returns-in_err-entry-clause-stand : goal.returns-in_err-entry-clause-stand

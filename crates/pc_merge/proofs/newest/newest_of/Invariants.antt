@@ -2,7 +2,7 @@ use Rattle.std.proofs.Common.{◌≡◌, ℕ, Bool, IsTrue, List, Some, length, 
 use Rattle.pc_merge.specs.Coming.{Coming}
 use Rattle.pc_merge.specs.Drawing.{ArePassing}
 use Rattle.pc_merge.specs.Standings.{AreWithin}
-use Rattle.pc_merge.specs.Tournaments.{at, IsNoLater}
+use Rattle.pc_merge.specs.Tournaments.{first_entry_at, IsNoLater}
 use Rattle.pc_merge.proofs.PlacesLeft.{having}
 use Rattle.pc_merge.proofs.newest.newest_of.Given as goal
 
@@ -12,7 +12,7 @@ invariant-loop-place g l = record {
   stand : map g.E.Entries.standing l.inputs ≡ map g.E.Entries.standing l.fn.inputs;
   key : l.newest.key ≡ l.fn.entry.key;
   within : (points : ℕ → Bool) → IsTrue (points l.fn.entry.point) → AreWithin g.E.Entries.within points l.fn.inputs l.fn.firsts → IsTrue (points l.newest.point) × AreWithin g.E.Entries.within points l.inputs l.firsts;
-  least : (place : ℕ) → IsNoLater (Some l.newest) (at l.firsts place);
+  least : (place : ℕ) → IsNoLater (Some l.newest) (first_entry_at l.firsts place);
   passing : (was : List Coming) → ArePassing was (map g.E.Entries.coming l.fn.inputs) l.fn.firsts l.fn.entry → ArePassing was (map g.E.Entries.coming l.inputs) l.firsts l.newest;
 }
 

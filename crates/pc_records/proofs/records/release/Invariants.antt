@@ -1,4 +1,4 @@
-use Rattle.pc_records.specs.Floor.{IsFloorWhole, AreSpotsSound, IsOver, IsFloorReleased, standing}
+use Rattle.pc_records.specs.Floor.{IsFloorWhole, AreSpotsSound, HasNoPendingWrite, IsFloorReleased, standing}
 use Rattle.std.proofs.Common.{ℕ}
 use Rattle.pc_records.proofs.records.release.Given as goal
 
@@ -6,7 +6,7 @@ use Rattle.pc_records.proofs.records.release.Given as goal
 abbrev pub invariant-loop-transaction : goal.invariant-loop-transaction
 invariant-loop-transaction l = record {
   whole : IsFloorWhole l.slots;
-  left : (point : ℕ) → AreSpotsSound point l.fn.slots.spots → IsOver l.transaction l.fn.slots.spots → IsFloorReleased point l.transaction l.fn.slots l.slots;
+  left : (point : ℕ) → AreSpotsSound point l.fn.slots.spots → HasNoPendingWrite l.transaction l.fn.slots.spots → IsFloorReleased point l.transaction l.fn.slots l.slots;
 }
 
 -- the transaction has fewer requests

@@ -1,7 +1,7 @@
 use Rattle.std.proofs.Common.{◌≡◌, ℕ, ◌++◌, ◌∷◌, [], length, add-one, length-set, get_or, ◌∙◌, refl, subst, arith}
 use Rattle.std.proofs.lemmas.Result.{err_from_is_err_and}
 use Rattle.pc_streams.specs.Readers.{standing_of}
-use Rattle.pc_stream_join.specs.Headers.{AreReadTo, IsRead}
+use Rattle.pc_stream_join.specs.Headers.{AreReadTo, IsHeaderRead}
 use Rattle.pc_stream_join.proofs.StandingLaws.{ok_stands}
 use Rattle.pc_stream_join.proofs.HeaderLaws.{more_seen, next_refused, next_stands, next_unread, one_read_now, still}
 use Rattle.pc_stream_join.proofs.headers.read_runs.Goals as goal
@@ -20,7 +20,7 @@ returns-in_err-run-clause-stand g c =
 
 pub loop-place-preserved : goal.loop-place-preserved
 loop-place-preserved g c =
-    let is : IsRead g.R.Read.remaining (get_or c.loop-place.inputs c.loop-place.place c.index-inputs-place.result) c.header.new.self c.in_ok-run.run' = record {
+    let is : IsHeaderRead g.R.Read.remaining (get_or c.loop-place.inputs c.loop-place.place c.index-inputs-place.result) c.header.new.self c.in_ok-run.run' = record {
       told = c.in_ok-run.ensures.told;
       apart = c.in_ok-run.ensures.apart;
       header = c.in_ok-run.ensures.stays;

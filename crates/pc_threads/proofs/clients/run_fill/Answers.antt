@@ -2,7 +2,7 @@ use Rattle.std.specs.Prelude.{is_some}
 use Rattle.std.proofs.lemmas.Result.{err_from_is_err_and}
 use Rattle.std.proofs.Common.{◌≡◌, ℕ, ◌+◌, [], List, refl, sym, subst, arith}
 use Rattle.pc_jobs.specs.declared.works.Job.{Job}
-use Rattle.pc_threads.specs.Clients.{AreFillsTried, HasDone, first_of}
+use Rattle.pc_threads.specs.Clients.{AreFillsTried, HasDone, first_jobs}
 use Rattle.pc_threads.proofs.ClientLaws.{fill_next}
 use Rattle.pc_threads.proofs.DoneLaws.{nothing_done}
 use Rattle.pc_threads.proofs.StopLaws.{at_most, fill_counts, fill_stops}
@@ -15,7 +15,7 @@ pub loop-number-preserved : goal.loop-number-preserved
 loop-number-preserved g c =
     let st = g.N.StoreName.name.setting in
     let old = c.loop-number in
-    let jobs : List Job = first_of c.args.fill.now (old.number + 1) in
+    let jobs : List Job = first_jobs c.args.fill.now (old.number + 1) in
     subst (λ n. HasDone (AreFillsTried st jobs) jobs n c.args.session.now c.run_made.new.session) (sym c.in_ok-given_up.ensures.sum)
     (fill_next st c.args.fill.now old.number old.given_up c.in_ok-more.more c.args.session.now old.session c.run_made.new.session old.invariant c.in_ok-more.ensures.done)
 
@@ -24,7 +24,7 @@ returns-clause-done g c =
     let old = c.loop-number in
     let fill = c.args.fill.now in
     let whole : old.number ≡ fill.count = omega (arith, c.loop-number-test.false, old.auto.number-end) in
-    subst (λ (n : ℕ). HasDone (AreFillsTried g.N.StoreName.name.setting (first_of fill n)) (first_of fill n) old.given_up c.args.session.now old.session) whole old.invariant
+    subst (λ (n : ℕ). HasDone (AreFillsTried g.N.StoreName.name.setting (first_jobs fill n)) (first_jobs fill n) old.given_up c.args.session.now old.session) whole old.invariant
 
 pub returns-in_err-more-clause-stopped : goal.returns-in_err-more-clause-stopped
 returns-in_err-more-clause-stopped g c =

@@ -1,5 +1,5 @@
 use Rattle.std.proofs.Common.{refl, ◌∙◌}
-use Rattle.pc_jobs.specs.Jobs.{job_of, key_at}
+use Rattle.pc_jobs.specs.Jobs.{job_of, fill_key}
 use Rattle.pc_jobs.specs.declared.works.Op.TheVariants.{Put}
 use Rattle.pc_threads.proofs.DoneLaws.{filled_ones, unmade_one}
 use Rattle.pc_threads.proofs.clients.run_made.Goals as goal
@@ -11,4 +11,4 @@ pub returns-in-Err-clause-done : goal.returns-in-Err-clause-done
 returns-in-Err-clause-done g c =
     let fill = c.args.fill.now in
     let number = c.args.number in
-    unmade_one g.N.StoreName.name.setting (job_of fill number) (Put (key_at fill number) fill.value) c.args.session.now refl c.in-Err.ensures.refusals.1
+    unmade_one g.N.StoreName.name.setting (job_of fill number) (Put (fill_key fill number) fill.value) c.args.session.now refl c.in-Err.ensures.refusals.1

@@ -1,7 +1,7 @@
 use Rattle.std.proofs.Common.{rules}
 use Rattle.std.proofs.lemmas.Fn.{always_returns_same}
 use Rattle.pc_model.specs.Database.{key_cmp}
-use Rattle.pc_txn.specs.Orders.{key_at}
+use Rattle.pc_txn.specs.Orders.{key_at_position}
 use Rattle.pc_txn.specs.Sets.{written_keys}
 use Rattle.pc_txn.proofs.Orders.{key_at_place, key_at_gap}
 use Rattle.pc_txn.proofs.writes.position.Goals as goal
@@ -10,9 +10,9 @@ use Rattle.pc_txn.proofs.writes.position.Goals as goal
 pub returns-clause-at : goal.returns-clause-at
 returns-clause-at c =
     let searched = c.binary_search_by.ensures in
-    key_at_place (written_keys c.args.writes.now) c.args.order.now c.args.key.now _ c.requires searched.bound (searched.position (λ place. key_cmp (key_at (written_keys c.args.writes.now) place) c.args.key.now) (always_returns_same _ _ _ (λ a r f' called. search rules)))
+    key_at_place (written_keys c.args.writes.now) c.args.order.now c.args.key.now _ c.requires searched.bound (searched.position (λ place. key_cmp (key_at_position (written_keys c.args.writes.now) place) c.args.key.now) (always_returns_same _ _ _ (λ a r f' called. search rules)))
 
 pub returns-clause-gap : goal.returns-clause-gap
 returns-clause-gap c =
     let searched = c.binary_search_by.ensures in
-    key_at_gap (written_keys c.args.writes.now) c.args.order.now c.args.key.now _ c.requires searched.bound (searched.position (λ place. key_cmp (key_at (written_keys c.args.writes.now) place) c.args.key.now) (always_returns_same _ _ _ (λ a r f' called. search rules)))
+    key_at_gap (written_keys c.args.writes.now) c.args.order.now c.args.key.now _ c.requires searched.bound (searched.position (λ place. key_cmp (key_at_position (written_keys c.args.writes.now) place) c.args.key.now) (always_returns_same _ _ _ (λ a r f' called. search rules)))

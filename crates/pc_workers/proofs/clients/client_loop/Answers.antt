@@ -2,7 +2,7 @@ use Rattle.std.proofs.Common.{◌≡◌, ◌∙◌, false, List, take, refl, sub
 use Rattle.std.specs.Prelude.{is_some}
 use Rattle.std.proofs.lemmas.List.{take_all}
 use Rattle.pc_jobs.specs.declared.works.Job.{Job}
-use Rattle.pc_workers.specs.Clients.{HasTried, writes_of}
+use Rattle.pc_workers.specs.Clients.{HasTried, job_writes}
 use Rattle.pc_workers.proofs.ClientJobs.{tried_next}
 use Rattle.pc_workers.proofs.RunLaws.{no_jobs_tried}
 use Rattle.pc_workers.proofs.WaitLaws.{next_held, none_held}
@@ -18,7 +18,7 @@ loop-job-preserved g c =
       lag = c.run-ended.ensures.lag ∙ c.loop-job.invariant.lag;
       held =
           next_held g.N.StoreName.out g.N.StoreName.name.setting c.args.lag c.loop-job.patience.lag (is_some c.loop-job.patience.log_end) (is_some c.run-ended.new.patience.log_end) c.loop-job.session c.run-ended.new.session
-          c.run-ended.result (writes_of c.job-item.result) c.loop-job.count.commits c.note.new.self.commits c.loop-job.invariant.lag c.run-ended.ensures.mark.stays c.run-ended.ensures.receipts c.run-ended.ensures.begins c.run-ended.ensures.held
+          c.run-ended.result (job_writes c.job-item.result) c.loop-job.count.commits c.note.new.self.commits c.loop-job.invariant.lag c.run-ended.ensures.mark.stays c.run-ended.ensures.receipts c.run-ended.ensures.begins c.run-ended.ensures.held
           c.note.ensures.commits c.loop-job.invariant.held;
       ours = c.run-ended.ensures.mark.ours c.loop-job.invariant.ours;
     }

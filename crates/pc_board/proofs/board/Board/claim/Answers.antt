@@ -3,7 +3,7 @@ use Rattle.pc_types.specs.declared.limits.TheConstants.{MOST_CLAIMS}
 use Rattle.pc_board.specs.declared.calls.CallKind.TheVariants.{Claim}
 use Rattle.pc_board.specs.Calls.{calls_by, claims_of}
 use Rattle.pc_board.specs.Passes.{Pass, MakesCall, claims_made}
-use Rattle.pc_board.specs.Rules.{number_of, seen_of}
+use Rattle.pc_board.specs.Rules.{pass_number, seen_of}
 use Rattle.pc_board.proofs.Steps.{claims_as}
 use Rattle.pc_board.proofs.Passing.{pass_at, still_holder, made_claims, makes_call}
 use Rattle.pc_board.proofs.board.Board.claim.Goals as goal
@@ -13,7 +13,7 @@ fetch_add-number-requires c =
     let me = c.pass.inside.seat.me in
     let not_all = c.if-pass.false in
     let most : c.pass.inside.claims < 4294967296 = search rules in
-    let room : claims_of (calls_by (number_of me.0) (seen_of me.0)) < MOST_CLAIMS = omega (arith, c.pass.invariant.1, not_all, most) in (
+    let room : claims_of (calls_by (pass_number me.0) (seen_of me.0)) < MOST_CLAIMS = omega (arith, c.pass.invariant.1, not_all, most) in (
       ap (λ p. p.board) c.pass.view_is ∙ (c.requires ∙ sym (ap (λ b. b.name) c.self.view_is)),
       omega (arith, c.self.invariant.0),
       claims_as _ _ _ _ _ _ c.pass.invariant.0 room,

@@ -34,7 +34,7 @@ use Rattle.std.proofs.alloc.Global.TheLaws as heap_laws
 use Rattle.std.proofs.GlobalToken.{dealloc_token-Testable}
 use Rattle.std_heap.specs.contracts.GlobalAllocator.TheImpl.{ghosts}
 use Rattle.std.proofs.raw_atomic.Walks.{proved_at, leaves}
-use Rattle.pc_c.specs.Held.{held, may_free}
+use Rattle.pc_c.specs.Held.{box_or_null, may_free}
 use Rattle.pc_c.proofs.UnboxedValues.{word, Unboxed, word_is_typed, closed}
 use Rattle.pc_c.proofs.HandleValues.{R, Z, one_field, handle_out}
 use Rattle.pc_c.specs.contracts.handle.Handle as handle
@@ -54,9 +54,9 @@ give_up_spec 𝓤 𝓛 𝓜 𝓡 wired =
     let toks = raw (alive 𝓛 En.signature κs qs) in
     let start : (p : Ptr) → d.at ≡ p → z.0.4.0 ≡ one_field (ptr_val d.at) ∷ [] → ent 𝓤 (Run (one_field (ptr_val p) ∷ h.0 ∷ [])) (Run (z.0.4.0 ++ (z.0.4.1.0 ++ []))) =
     λ p e ws. subst (λ (us : List Val). ent 𝓤 (Run (one_field (ptr_val p) ∷ h.0 ∷ [])) (Run us)) (sym (λ i. (ws ∙ ap (λ (r : Ptr). one_field (ptr_val r) ∷ []) e) i ++ (h.1 i ++ []))) (id⊢ 𝓤 _) in
-    let Γ₀ : Option R.Denot → SProp 𝓤 = λ x. ⋆ 𝓛 (‵ (held R d.at x) ∷ ‵ (Z.own_val a (h.0 ∷ [])) ∷ toks ∷ []) in
+    let Γ₀ : Option R.Denot → SProp 𝓤 = λ x. ⋆ 𝓛 (‵ (box_or_null R d.at x) ∷ ‵ (Z.own_val a (h.0 ∷ [])) ∷ toks ∷ []) in
     let empty : d.value ≡ None → z.0.4.0 ≡ one_field (ptr_val d.at) ∷ [] → ent 𝓤 (Γ₀ None) (Run (z.0.4.0 ++ (z.0.4.1.0 ++ []))) = λ e ws.
-    qed 𝓛 (‵ (held R d.at None) ∷ ‵ (Z.own_val a (h.0 ∷ [])) ∷ toks ∷ []) ∵ feq_l ! (λ null. keep ! (1 ∷ []) $
+    qed 𝓛 (‵ (box_or_null R d.at None) ∷ ‵ (Z.own_val a (h.0 ∷ [])) ∷ toks ∷ []) ∵ feq_l ! (λ null. keep ! (1 ∷ []) $
     suffices ! (Run (one_field (ptr_val null_ptr) ∷ h.0 ∷ [])) (start null_ptr null ws) $
     enter ! 𝓣.C 𝓣.Λ fn (one_field (ptr_val null_ptr) ∷ h.0 ∷ []) Post $ alloc_all ! (λ l. pass_all ! refl ((tt, (record { fits = lit< tt }, tt)), (h.2, tt)) $
     sets ! (of_opd ! (get_in ! (fld ! refl (stop !)) (sub ! 0 refl (whole !)))) refl (Ptr-Good null_ptr) $

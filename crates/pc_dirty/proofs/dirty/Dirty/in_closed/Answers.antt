@@ -1,5 +1,5 @@
 use Rattle.std.proofs.Common.{subst, ◌↔◌, ◌≡◌, false, arith}
-use Rattle.pc_dirty.specs.Sets.{other_side, place_of, places_of}
+use Rattle.pc_dirty.specs.Sets.{other_side, place_on_side, places_of}
 use Rattle.pc_dirty.specs.declared.side.Side.{Side}
 use Rattle.pc_chain.specs.Chains.{Avoids}
 use Rattle.pc_dirty.proofs.Changing.{places_count, place_told}
@@ -15,4 +15,4 @@ contains-requires-clause-stands g c =
 pub returns : goal.returns
 returns g c = λ opened closed d.
     place_told (other_side c.args.self.now.side) c.args.slot closed _
-    (subst (λ (side : Side). (c.contains.result ≡ false) ↔ Avoids (place_of side c.args.slot) (places_of (other_side c.args.self.now.side) closed)) c.other-side.ensures (c.contains.ensures (places_of (other_side c.args.self.now.side) closed) d.closed_chain))
+    (subst (λ (side : Side). (c.contains.result ≡ false) ↔ Avoids (place_on_side side c.args.slot) (places_of (other_side c.args.self.now.side) closed)) c.other-side.ensures (c.contains.ensures (places_of (other_side c.args.self.now.side) closed) d.closed_chain))

@@ -1,7 +1,7 @@
 use Rattle.std.proofs.Common.{ℕ, List, ◌∷◌, Option, Some, is_some, refl, sym, ap, ◌∙◌, subst}
 use Rattle.pc_chain.specs.Slots.{Slots, at}
 use Rattle.pc_chain.proofs.SlotLaws.{at_here}
-use Rattle.pc_index.specs.Indexes.{IndexView, place_of, chain_at, IsIndex}
+use Rattle.pc_index.specs.Indexes.{IndexView, bucket_of, chain_at, IsIndex}
 use Rattle.pc_index.specs.Keys.{IsSlotOf}
 use Rattle.pc_index.proofs.Linked.{linked, of_slots}
 use Rattle.pc_index.proofs.Places.{chain_read, table_written}
@@ -25,7 +25,7 @@ returns-clause-index g c =
     let item = g.S.KeyedSlots.blank_of c.args.key.now in
     let id : ℕ = c.in_ok-id.id in
     let free = c.in_ok-id.ensures.free.1 in
-    let p : ℕ = place_of t c.args.key.now in
+    let p : ℕ = bucket_of t c.args.key.now in
     let here = chain_read _ t c.place-place.result p c.index_mut.result.now c.self.view_is c.place-place.ensures.place c.place-place.ensures.within c.index_mut.ensures.value in
     let lies = linked mid (g.S.Links.has c.make_blank.new.self) (g.S.Links.next_of c.make_blank.new.self) (g.met.S.KeyedSlots.leads c.make_blank.new.self) in
     let stays = of_slots new (g.S.Links.has c.push_front.new.links) (g.S.Links.next_of c.push_front.new.links) (g.met.S.KeyedSlots.leads c.push_front.new.links) in

@@ -1,6 +1,6 @@
 use Rattle.std.proofs.Common.{◌≡◌, ℕ, List, ◌∷◌, ◌++◌, None, is_some, sym, ap, ◌∙◌, subst, set, Option, arith}
 use Rattle.pc_chain.specs.Slots.{at}
-use Rattle.pc_index.specs.Indexes.{IndexView, place_of, chain_at, IsIndex}
+use Rattle.pc_index.specs.Indexes.{IndexView, bucket_of, chain_at, IsIndex}
 use Rattle.pc_index.specs.Keys.{IsSlotOf}
 use Rattle.pc_index.proofs.Finding.{item_there}
 use Rattle.pc_index.proofs.Linked.{linked, of_slots}
@@ -13,8 +13,8 @@ unlink-requires-clause-stands g c =
     let t : IndexView = c.args.self.now in
     let old = g.S.KeyedSlots.slots_of c.args.slots.now in
     let there = item_there g.S.KeyedSlots.key_of (at old.items c.args.id) c.key_in.result.now c.key_in.ensures.key in
-    let p : ℕ = place_of t (g.S.KeyedSlots.key_of there.0) in
-    let here = chain_read _ t c.place-place.result p c.index.result.now c.self.view_is (c.place-place.ensures.place ∙ ap (place_of t) (sym there.2)) c.place-place.ensures.within c.index.ensures in
+    let p : ℕ = bucket_of t (g.S.KeyedSlots.key_of there.0) in
+    let here = chain_read _ t c.place-place.result p c.index.result.now c.self.view_is (c.place-place.ensures.place ∙ ap (bucket_of t) (sym there.2)) c.place-place.ensures.within c.index.ensures in
     let s = standing g.S.KeyedSlots.key_of old t c.requires.index c.args.id there.0 c.index.result.now there.1 here.0 here.1 in
     let line = linked old (g.S.Links.has c.args.slots.now) (g.S.Links.next_of c.args.slots.now) (g.met.S.KeyedSlots.leads c.args.slots.now) c.index.result.now (s.before ++ c.args.id ∷ s.rest) (g.met.S.KeyedSlots.taken_has c.args.slots.now) s.line in
     (s.before, s.rest, line, omega (arith, s.short, c.key_in.ensures.most))
@@ -43,8 +43,8 @@ returns-clause-index g c =
     let new = g.S.KeyedSlots.slots_of c.free.new.self in
     let there = item_there g.S.KeyedSlots.key_of (at old.items c.args.id) c.key_in.result.now c.key_in.ensures.key in
     let item = there.0 in
-    let p : ℕ = place_of t (g.S.KeyedSlots.key_of item) in
-    let placed : c.place-place.result ≡ p = c.place-place.ensures.place ∙ ap (place_of t) (sym there.2) in
+    let p : ℕ = bucket_of t (g.S.KeyedSlots.key_of item) in
+    let placed : c.place-place.result ≡ p = c.place-place.ensures.place ∙ ap (bucket_of t) (sym there.2) in
     let here = chain_read _ t c.place-place.result p c.index.result.now c.self.view_is placed c.place-place.ensures.within c.index.ensures in
     let s = standing g.S.KeyedSlots.key_of old t i c.args.id item c.index.result.now there.1 here.0 here.1 in
     let lies = linked old (g.S.Links.has c.args.slots.now) (g.S.Links.next_of c.args.slots.now) (g.met.S.KeyedSlots.leads c.args.slots.now) in

@@ -3,7 +3,7 @@ use Rattle.std.specs.Prelude.{IfOk}
 use Rattle.pc_model.specs.Queues.{stands_in}
 use Rattle.pc_model.proofs.QueueLaws.{stands_is}
 use Rattle.pc_locks.specs.Lines.{ids_of, ids_by}
-use Rattle.pc_locks.specs.States.{queue_at, is_waiting, IsRequestAnswered}
+use Rattle.pc_locks.specs.States.{queue_at, is_waiting_in_state, IsRequestAnswered}
 use Rattle.pc_locks.specs.Tables.{links_in, requests, IsOwn}
 use Rattle.pc_locks.specs.Keepers.{KeptRequests, queues_of, state_of, AreLocksSound}
 use Rattle.pc_locks.proofs.LocksLemmas.{Answered, own_at}
@@ -19,7 +19,7 @@ answered g c =
     let ends = g.E.QueueEnds.ends_of c.args.keeper.now in
     let kept = c.self.inside.table in
     let a = subst (AreLocksSound (g.E.QueueEnds.has c.args.keeper.now) ends) (sym c.self.view_is) c.requires.sound in
-    let ready = ap (λ (k : KeptRequests). is_waiting (state_of ends k) c.args.transaction) c.self.view_is ∙ c.requires.ready in
+    let ready = ap (λ (k : KeptRequests). is_waiting_in_state (state_of ends k) c.args.transaction) c.self.view_is ∙ c.requires.ready in
     answered_in ends kept c.again.new.self.nodes.slots (ids_of (links_in kept.nodes.slots) c.ends-queue.result) c.args.slot c.args.transaction c.in-Some.found.previous c.in-Some.found.id c.args.mode c.again.result a.ends_are (ap (ids_of (links_in kept.nodes.slots)) c.ends-queue.ensures)
     ready c.in-Some.ensures.some c.again.ensures.told c.again.ensures.queue c.again.ensures.places c.again.ensures.others
 
@@ -51,7 +51,7 @@ returns-in-None-clause-sound g c =
     let ends = g.E.QueueEnds.ends_of c.args.keeper.now in
     let new_ends = g.E.QueueEnds.ends_of c.first.new.keeper in
     let a = subst (AreLocksSound has ends) (sym c.self.view_is) c.requires.sound in
-    let ready = ap (λ (k : KeptRequests). is_waiting (state_of ends k) c.args.transaction) c.self.view_is ∙ c.requires.ready in
+    let ready = ap (λ (k : KeptRequests). is_waiting_in_state (state_of ends k) c.args.transaction) c.self.view_is ∙ c.requires.ready in
     let stays : (u : ℕ) → g.E.QueueEnds.has c.args.keeper.now u → g.E.QueueEnds.has c.first.new.keeper u = λ u h. (g.met.E.QueueEnds.beside_has c.args.keeper.now c.first.new.keeper u c.first.ensures.beside).0 h in
     sound_first c.first.result (λ o. o) has (g.E.QueueEnds.has c.first.new.keeper) ends new_ends c.self.inside.table c.first.new.self c.args.slot c.args.transaction c.args.mode a
     (stays c.args.slot c.requires.has) stays (fresh g c) ready c.first.ensures.tied

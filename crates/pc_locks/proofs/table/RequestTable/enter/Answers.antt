@@ -1,6 +1,6 @@
 use Rattle.std.proofs.Common.{subst}
 use Rattle.pc_locks.specs.Lines.{ids_by}
-use Rattle.pc_locks.specs.Changes.{IsAdded}
+use Rattle.pc_locks.specs.Changes.{IsRequestAdded}
 use Rattle.pc_locks.specs.Tables.{Placed, links_in}
 use Rattle.pc_locks.proofs.Growing.{added_lines, added_fresh, added_linked}
 use Rattle.pc_locks.proofs.TableLemmas.{Added, added_table, added_queues, added_list, added_others}
@@ -18,7 +18,7 @@ entered : (g : given.Over) (c : After-link g) → Added c.args.self.now.nodes.sl
     c.args.self.now.entries c.link.new.self.entries c.args.slot c.in_ok-id.id (record { transaction = c.args.transaction; mode = c.args.mode; granted = c.args.granted })
 entered g c =
     let request : Placed = record { request = record { transaction = c.args.transaction; mode = c.args.mode; granted = c.args.granted }; slot = c.args.slot } in
-    let added = subst (λ slot. IsAdded c.args.self.now c.add.new.self (record request { slot = slot }) c.in_ok-id.id) c.slot.view_is c.in_ok-id.ensures.added in
+    let added = subst (λ slot. IsRequestAdded c.args.self.now c.add.new.self (record request { slot = slot }) c.in_ok-id.id) c.slot.view_is c.in_ok-id.ensures.added in
     added_linked c.args.self.now c.add.new.self request c.in_ok-id.id added (g.E.QueueEnds.ends_of c.args.keeper.now) c.requires.tied c.link.new.self (g.E.QueueEnds.ends_of c.link.new.keeper) c.link.ensures.linked c.link.ensures.nodes c.link.ensures.entries
 
 pub returns-clause-tied : goal.returns-clause-tied

@@ -1,5 +1,5 @@
 use Rattle.std.proofs.Common.{◌≤◌, length, sym, ◌∙◌, ap, arith}
-use Rattle.pc_locks.specs.Lines.{next_in, ids_of}
+use Rattle.pc_locks.specs.Lines.{next_id, ids_of}
 use Rattle.pc_locks.specs.Tables.{links_in}
 use Rattle.pc_locks.proofs.Grants.{grant_step, grant_halt, grant_all, grant_end}
 use Rattle.pc_locks.proofs.LineLemmas.{fits}
@@ -19,7 +19,7 @@ loop-preserved c =
       grant_step _ _ _ _ c.loop.is_first c.loop.are_shared c.stay_shared-are_shared.result c.loop.at c.next-at.result c.loop.counter c.in-Some.id c.request-request.result c.loop.invariant.2 c.in-Some.is
           c.request-request.ensures c.stay_shared-are_shared.ensures (sym c.fits.ensures ∙ c.if-not-fits.false)
           c.write.ensures.written c.write.ensures.others
-          (λ before rest e. c.next-at.ensures ∙ (ap (λ l. next_in l c.in-Some.id) links ∙ next_listed (links_in c.args.self.now.nodes.slots) c.args.queue c.in-Some.id before rest c.requires.line e)),
+          (λ before rest e. c.next-at.ensures ∙ (ap (λ l. next_id l c.in-Some.id) links ∙ next_listed (links_in c.args.self.now.nodes.slots) c.args.queue c.in-Some.id before rest c.requires.line e)),
     )
 
 pub returns-clause-granted : goal.returns-clause-granted

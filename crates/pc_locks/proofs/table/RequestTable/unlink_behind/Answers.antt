@@ -1,6 +1,6 @@
 use Rattle.std.proofs.Common.{◌++◌, sym, ◌∙◌, ap, subst}
 use Rattle.pc_locks.specs.Lines.{ids_by, IsLine, AreLines, LineBecomes}
-use Rattle.pc_locks.specs.States.{rest_of}
+use Rattle.pc_locks.specs.States.{rest_of_list}
 use Rattle.pc_locks.specs.Tables.{links_in}
 use Rattle.pc_locks.specs.Keepers.{KeptRequests}
 use Rattle.pc_locks.proofs.LineLemmas.{same_last}
@@ -19,7 +19,7 @@ returns-clause-unlinked g c = λ before rest split p.
     let ends = g.E.QueueEnds.ends_of c.args.keeper.now in
     let new_links = links_in c.unlink_after.new.links.slots in
     let new_ends = g.E.QueueEnds.ends_of c.set_ends.new.self in
-    subst (λ (v : KeptRequests). LineBecomes (links_in v.nodes.slots) new_links ends new_ends c.args.slot (before ++ rest_of rest)) c.self.view_is
+    subst (λ (v : KeptRequests). LineBecomes (links_in v.nodes.slots) new_links ends new_ends c.args.slot (before ++ rest_of_list rest)) c.self.view_is
     (slot_remove (links_in c.self.inside.nodes.slots) new_links ends new_ends c.args.slot c.args.queue c.unlink_after.new.self c.args.previous before rest
     (subst (λ (v : KeptRequests). AreLines (links_in v.nodes.slots) (g.E.QueueEnds.ends_of c.args.keeper.now)) (sym c.self.view_is) c.requires.lines) c.requires.queue
     (ap (λ (v : KeptRequests). ids_by (links_in v.nodes.slots) ends c.args.slot) c.self.view_is ∙ split) p c.unlink_after.ensures.taken.list c.unlink_after.ensures.taken.others c.set_ends.ensures.set c.set_ends.ensures.others)

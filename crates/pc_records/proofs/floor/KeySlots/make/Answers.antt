@@ -8,7 +8,7 @@ use Rattle.pc_locks.specs.Keepers.{KeptRequests}
 use Rattle.pc_records.specs.Ends.{queues_in}
 use Rattle.pc_records.specs.Slots.{slots_in}
 use Rattle.pc_records.specs.SetLists.{open_keys, closed_keys}
-use Rattle.pc_records.specs.Floor.{Floor, floor_of, number_of}
+use Rattle.pc_records.specs.Floor.{Floor, floor_of, slot_number_of}
 use Rattle.pc_records.proofs.FloorLaws.{number_there}
 use Rattle.pc_records.proofs.FloorMaking.{made_kept, made_ends, made_listed, made_floor, made_fresh, made_there, made_room, made_refused}
 use Rattle.pc_records.proofs.SpotSets.{whole_there}
@@ -17,12 +17,12 @@ use Rattle.pc_records.proofs.floor.KeySlots.make.Goals as goal
 pub make-requires : goal.make-requires
 make-requires c =
     let i = c.self.inside in
-    number_there i.sets.side (queues_in i.table.rows i.locks) c.args.key.now i.table.rows ∙ ap (λ (f : Floor). number_of f.spots c.args.key.now) c.self.view_is ∙ c.requires.new
+    number_there i.sets.side (queues_in i.table.rows i.locks) c.args.key.now i.table.rows ∙ ap (λ (f : Floor). slot_number_of f.spots c.args.key.now) c.self.view_is ∙ c.requires.new
 
 pub invariant_of-self : goal.invariant_of-self
 invariant_of-self c =
     let i = c.self.inside in
-    let none = number_there i.sets.side (queues_in i.table.rows i.locks) c.args.key.now i.table.rows ∙ ap (λ (f : Floor). number_of f.spots c.args.key.now) c.self.view_is ∙ c.requires.new in (
+    let none = number_there i.sets.side (queues_in i.table.rows i.locks) c.args.key.now i.table.rows ∙ ap (λ (f : Floor). slot_number_of f.spots c.args.key.now) c.self.view_is ∙ c.requires.new in (
       made_kept i.table c.make.new.table c.args.key.now i.locks i.sets c.self.invariant.0 c.self.invariant.2 none c.make.ensures.after c.make.result c.make.ensures.made c.make.ensures.fresh c.make.ensures.err c.self.invariant.1,
       made_ends i.table c.make.new.table c.args.key.now i.locks i.sets c.self.invariant.0 c.self.invariant.2 none c.make.ensures.after c.make.result c.make.ensures.made c.make.ensures.fresh c.make.ensures.err c.self.invariant.1,
       made_listed i.table c.make.new.table c.args.key.now i.locks i.sets c.self.invariant.0 c.self.invariant.2 none c.make.ensures.after c.make.result c.make.ensures.made c.make.ensures.fresh c.make.ensures.err c.self.invariant.1,
@@ -31,7 +31,7 @@ invariant_of-self c =
 pub returns-clause-made : goal.returns-clause-made
 returns-clause-made c =
     let i = c.self.inside in
-    let none = number_there i.sets.side (queues_in i.table.rows i.locks) c.args.key.now i.table.rows ∙ ap (λ (f : Floor). number_of f.spots c.args.key.now) c.self.view_is ∙ c.requires.new in
+    let none = number_there i.sets.side (queues_in i.table.rows i.locks) c.args.key.now i.table.rows ∙ ap (λ (f : Floor). slot_number_of f.spots c.args.key.now) c.self.view_is ∙ c.requires.new in
     rw (← c.self.view_is) (made_floor i.table c.make.new.table c.args.key.now i.locks i.sets c.self.invariant.0 c.self.invariant.2 none c.make.ensures.after c.make.result c.make.ensures.made c.make.ensures.fresh)
 
 pub returns-clause-fresh : goal.returns-clause-fresh

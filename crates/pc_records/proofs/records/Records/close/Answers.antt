@@ -1,5 +1,5 @@
 use Rattle.std.proofs.Common.{◌∙◌, ap, sym, subst}
-use Rattle.pc_records.specs.Floor.{Floor, AreSpotsSound, rows_in, writes_in}
+use Rattle.pc_records.specs.Floor.{Floor, AreSpotsSound, rows_in, pending_writes}
 use Rattle.pc_records.proofs.SpotSets.{sound_closed, rows_closed, writes_closed}
 use Rattle.pc_records.proofs.records.Records.close.Goals as goal
 
@@ -19,7 +19,7 @@ returns-clause-closed c =
     rw (← c.self.view_is) (λ i. record {
       capacity = (new i).capacity;
       rows = (ap (λ (f : Floor). rows_in f.spots) new ∙ rows) i;
-      pending = (ap (λ (f : Floor). writes_in f.spots) new ∙ writes_closed c.self.inside.slots.spots) i;
+      pending = (ap (λ (f : Floor). pending_writes f.spots) new ∙ writes_closed c.self.inside.slots.spots) i;
       point = c.args.point;
       opened = (new i).opened;
       shut = (new i).closed;

@@ -2,7 +2,7 @@ use Rattle.std.proofs.Common.{◌∙◌, ◌++◌, sym, ap, subst}
 use Rattle.std.specs.FinMap.{find, is_sorted}
 use Rattle.pc_model.specs.Database.{key_cmp}
 use Rattle.pc_slots.specs.Slots.{settled}
-use Rattle.pc_records.specs.Floor.{Floor, AreSpotsSound, rows_in, writes_in}
+use Rattle.pc_records.specs.Floor.{Floor, AreSpotsSound, rows_in, pending_writes}
 use Rattle.pc_records.proofs.Moments.{settled_key, settled_writer, settled_again, settled_sound}
 use Rattle.pc_records.proofs.SpotWrites.{sound_writes, writes_gone, rows_settled, keys_opened}
 use Rattle.pc_records.proofs.records.Records.commit.Goals as goal
@@ -25,7 +25,7 @@ returns-clause-rows c =
 pub returns-clause-pending : goal.returns-clause-pending
 returns-clause-pending c =
     let p = c.self.inside.point in
-    rw (← c.self.view_is) (λ q. ap (λ (f : Floor). find key_cmp q (writes_in f.spots)) c.settle_all.ensures.settled
+    rw (← c.self.view_is) (λ q. ap (λ (f : Floor). find key_cmp q (pending_writes f.spots)) c.settle_all.ensures.settled
     ∙ writes_gone (settled p) (settled_key p) (settled_writer p) (settled_again p) c.args.writes.now c.self.inside.slots.spots c.self.invariant.0.rise (ap (λ (f : Floor). is_sorted key_cmp (rows_in f.spots)) (sym c.settle_all.ensures.settled) ∙ c.settle_all.ensures.whole.rise) q)
 
 pub returns-clause-rise : goal.returns-clause-rise

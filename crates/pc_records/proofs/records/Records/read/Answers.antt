@@ -1,7 +1,7 @@
 use Rattle.std.proofs.Common.{◌∙◌, ap, sym, subst, cond, Bool}
 use Rattle.pc_types.specs.declared.Mode.TheVariants.{Shared}
 use Rattle.pc_types.specs.declared.Refusal.TheVariants.{Full, OutOfMemory}
-use Rattle.pc_records.specs.RowSteps.{is_waiting}
+use Rattle.pc_records.specs.RowSteps.{is_waiting_in_rows}
 use Rattle.pc_records.specs.Tables.{RecordsView}
 use Rattle.pc_records.specs.Floor.{Floor, AreSpotsSound, table_on}
 use Rattle.pc_records.proofs.SpotLaws.{found}
@@ -10,11 +10,11 @@ use Rattle.pc_records.proofs.records.Records.read.Goals as goal
 
 pub request-requires-clause-ready : goal.request-requires-clause-ready
 request-requires-clause-ready c =
-    waits_same c.args.transaction c.self.inside.slots.spots ∙ ap (λ (k : RecordsView). is_waiting k.rows c.args.transaction) c.self.view_is ∙ c.requires.ready
+    waits_same c.args.transaction c.self.inside.slots.spots ∙ ap (λ (k : RecordsView). is_waiting_in_rows k.rows c.args.transaction) c.self.view_is ∙ c.requires.ready
 
 pub request_new-requires-clause-ready : goal.request_new-requires-clause-ready
 request_new-requires-clause-ready c =
-    waits_same c.args.transaction c.self.inside.slots.spots ∙ ap (λ (k : RecordsView). is_waiting k.rows c.args.transaction) c.self.view_is ∙ c.requires.ready
+    waits_same c.args.transaction c.self.inside.slots.spots ∙ ap (λ (k : RecordsView). is_waiting_in_rows k.rows c.args.transaction) c.self.view_is ∙ c.requires.ready
 
 pub request_new-requires-clause-new : goal.request_new-requires-clause-new
 request_new-requires-clause-new c =
@@ -53,7 +53,7 @@ returns-in_ok-outcome-in-Some-clause-rows c =
 pub returns-in_ok-outcome-in-Some-clause-clear : goal.returns-in_ok-outcome-in-Some-clause-clear
 returns-in_ok-outcome-in-Some-clause-clear c =
     let f = found c.self.inside.slots c.args.key.now c.in-Some.id c.self.invariant.0 (sym c.in-Some.ensures.found) in
-    rw (← c.self.view_is) (clear_there c.self.inside.slots c.self.invariant.0 c.args.key.now c.in-Some.id f.0 f.1 c.self.inside.point c.args.transaction c.self.invariant.1 (waits_same c.args.transaction c.self.inside.slots.spots ∙ ap (λ (k : RecordsView). is_waiting k.rows c.args.transaction) c.self.view_is ∙ c.requires.ready) Shared c.in_ok-outcome-in-Some.outcome c.in_ok-outcome-in-Some.ensures.told)
+    rw (← c.self.view_is) (clear_there c.self.inside.slots c.self.invariant.0 c.args.key.now c.in-Some.id f.0 f.1 c.self.inside.point c.args.transaction c.self.invariant.1 (waits_same c.args.transaction c.self.inside.slots.spots ∙ ap (λ (k : RecordsView). is_waiting_in_rows k.rows c.args.transaction) c.self.view_is ∙ c.requires.ready) Shared c.in_ok-outcome-in-Some.outcome c.in_ok-outcome-in-Some.ensures.told)
 
 pub returns-in_ok-outcome-in-Some-clause-room : goal.returns-in_ok-outcome-in-Some-clause-room
 returns-in_ok-outcome-in-Some-clause-room c =

@@ -3,9 +3,9 @@ use Rattle.pc_types.specs.declared.Mode.TheVariants.{Exclusive}
 use Rattle.pc_types.specs.declared.Outcome.TheVariants.{Granted}
 use Rattle.pc_types.specs.declared.Refusal.TheVariants.{Full, OutOfMemory}
 use Rattle.pc_model.specs.Locks.{outcome}
-use Rattle.pc_records.specs.RowSteps.{is_waiting}
+use Rattle.pc_records.specs.RowSteps.{is_waiting_in_rows}
 use Rattle.pc_records.specs.Tables.{RecordsView}
-use Rattle.pc_records.specs.Floor.{Floor, IsFloorWhole, AreSpotsSound, table_on, asked, has_spot, number_of, queue_of, waits_anywhere, with_spot, with_new_spot}
+use Rattle.pc_records.specs.Floor.{Floor, IsFloorWhole, AreSpotsSound, table_on, asked, has_spot, slot_number_of, queue_at_slot, waits_anywhere, with_spot, with_new_spot}
 use Rattle.pc_records.proofs.SpotLaws.{found, has_same}
 use Rattle.pc_records.proofs.SpotAnswers.{waits_same, told_there, clear_there, told_new, clear_new, IsWritten, written_there, written_first, full, full_there, full_new, ran_out, refused_same, on_err}
 use Rattle.pc_records.proofs.records.Records.write.Goals as goal
@@ -14,16 +14,16 @@ use Rattle.pc_records.proofs.records.Records.write.Goals.{After-put_granted, Aft
 pub request-requires-clause-ready : goal.request-requires-clause-ready
 request-requires-clause-ready c =
     ap (λ (f : Floor). waits_anywhere f.spots c.args.transaction) c.room.ensures.same
-    ∙ waits_same c.args.transaction c.self.inside.slots.spots ∙ ap (λ (k : RecordsView). is_waiting k.rows c.args.transaction) c.self.view_is ∙ c.requires.ready
+    ∙ waits_same c.args.transaction c.self.inside.slots.spots ∙ ap (λ (k : RecordsView). is_waiting_in_rows k.rows c.args.transaction) c.self.view_is ∙ c.requires.ready
 
 pub request_new-requires-clause-ready : goal.request_new-requires-clause-ready
 request_new-requires-clause-ready c =
     ap (λ (f : Floor). waits_anywhere f.spots c.args.transaction) c.room_in.ensures.same
-    ∙ waits_same c.args.transaction c.self.inside.slots.spots ∙ ap (λ (k : RecordsView). is_waiting k.rows c.args.transaction) c.self.view_is ∙ c.requires.ready
+    ∙ waits_same c.args.transaction c.self.inside.slots.spots ∙ ap (λ (k : RecordsView). is_waiting_in_rows k.rows c.args.transaction) c.self.view_is ∙ c.requires.ready
 
 pub request_new-requires-clause-new : goal.request_new-requires-clause-new
 request_new-requires-clause-new c =
-    ap (λ (f : Floor). number_of f.spots c.args.key.now) c.room_in.ensures.same ∙ sym c.in-None.ensures.found
+    ap (λ (f : Floor). slot_number_of f.spots c.args.key.now) c.room_in.ensures.same ∙ sym c.in-None.ensures.found
 
 pub put_granted-requires-clause-whole : goal.put_granted-requires-clause-whole
 put_granted-requires-clause-whole c =
@@ -35,15 +35,15 @@ put_granted-requires-clause-there c =
     ∙ has_same (asked c.args.transaction Exclusive c.in_ok-outcome-in-Some.outcome) (λ s. refl) c.in-Some.id c.in-Some.id c.self.inside.slots.spots ∙ c.in-Some.ensures.there
 
 -- the request was answered by the content there before the box was taken out
-told : (c : After-put_granted) → c.in_ok-outcome-in-Some.outcome ≡ outcome (queue_of c.self.inside.slots.spots c.in-Some.id) c.args.transaction Exclusive
+told : (c : After-put_granted) → c.in_ok-outcome-in-Some.outcome ≡ outcome (queue_at_slot c.self.inside.slots.spots c.in-Some.id) c.args.transaction Exclusive
 told c =
-    c.in_ok-outcome-in-Some.ensures.told ∙ ap (λ (f : Floor). outcome (queue_of f.spots c.in-Some.id) c.args.transaction Exclusive) c.room.ensures.same
+    c.in_ok-outcome-in-Some.ensures.told ∙ ap (λ (f : Floor). outcome (queue_at_slot f.spots c.in-Some.id) c.args.transaction Exclusive) c.room.ensures.same
 
 -- what is known once a key that has a slot was written
 there : (c : After-put_granted) → IsWritten c.self.inside.point c.args.transaction c.args.class c.args.value c.self.inside.slots c.put_granted.new.slots c.args.key.now c.in_ok-outcome-in-Some.outcome
 there c =
     written_there c.self.inside.point c.args.transaction c.args.class c.in_ok-copy-in-Some.copy c.args.value c.self.inside.slots c.request.new.self c.put_granted.new.slots c.args.key.now c.in-Some.id c.in_ok-outcome-in-Some.outcome c.self.invariant.0 c.self.invariant.1
-    (waits_same c.args.transaction c.self.inside.slots.spots ∙ ap (λ (k : RecordsView). is_waiting k.rows c.args.transaction) c.self.view_is ∙ c.requires.ready)
+    (waits_same c.args.transaction c.self.inside.slots.spots ∙ ap (λ (k : RecordsView). is_waiting_in_rows k.rows c.args.transaction) c.self.view_is ∙ c.requires.ready)
     (sym c.in-Some.ensures.found) (told c) c.in_ok-copy-in-Some.ensures (rw (← c.self.view_is) at c.requires.outside) (rw (← c.self.view_is) at c.requires.again)
     (c.in_ok-outcome-in-Some.ensures.asked ∙ ap (with_spot (asked c.args.transaction Exclusive c.in_ok-outcome-in-Some.outcome) c.in-Some.id) c.room.ensures.same) c.put_granted.ensures.put c.put_granted.ensures.whole
 
@@ -52,7 +52,7 @@ first : (c : After-put) → IsWritten c.self.inside.point c.args.transaction c.a
 first c =
     written_first c.self.inside.point c.args.transaction c.args.class c.args.value c.self.inside.slots c.request_new.new.slots c.put.new.self c.args.key.now c.in_ok-id-in-None.id (sym c.in-None.ensures.found)
     (subst (λ (f : Floor). IsFloorWhole (with_new_spot c.in_ok-id-in-None.id c.args.key.now f)) c.room_in.ensures.same c.in_ok-id-in-None.ensures.made) c.self.invariant.1
-    (waits_same c.args.transaction c.self.inside.slots.spots ∙ ap (λ (k : RecordsView). is_waiting k.rows c.args.transaction) c.self.view_is ∙ c.requires.ready)
+    (waits_same c.args.transaction c.self.inside.slots.spots ∙ ap (λ (k : RecordsView). is_waiting_in_rows k.rows c.args.transaction) c.self.view_is ∙ c.requires.ready)
     (c.in_ok-id-in-None.ensures.asked ∙ ap (λ (f : Floor). with_spot (asked c.args.transaction Exclusive Granted) c.in_ok-id-in-None.id (with_new_spot c.in_ok-id-in-None.id c.args.key.now f)) c.room_in.ensures.same) c.put.ensures.put c.put.ensures.whole
 
 pub invariant_of-self : goal.invariant_of-self
@@ -93,7 +93,7 @@ returns-in_ok-outcome-in-Some-clause-written c = record {
   clear =
       let f = found c.self.inside.slots c.args.key.now c.in-Some.id c.self.invariant.0 (sym c.in-Some.ensures.found) in
       rw (← c.self.view_is) (clear_there c.self.inside.slots c.self.invariant.0 c.args.key.now c.in-Some.id f.0 f.1 c.self.inside.point c.args.transaction c.self.invariant.1
-      (waits_same c.args.transaction c.self.inside.slots.spots ∙ ap (λ (k : RecordsView). is_waiting k.rows c.args.transaction) c.self.view_is ∙ c.requires.ready) Exclusive c.in_ok-outcome-in-Some.outcome (told c));
+      (waits_same c.args.transaction c.self.inside.slots.spots ∙ ap (λ (k : RecordsView). is_waiting_in_rows k.rows c.args.transaction) c.self.view_is ∙ c.requires.ready) Exclusive c.in_ok-outcome-in-Some.outcome (told c));
   point =
       ap (λ (k : RecordsView). k.point) c.self.view_is;
   opened =

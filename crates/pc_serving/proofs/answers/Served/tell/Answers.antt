@@ -6,7 +6,7 @@ use Rattle.pc_sessions.specs.SessionSets.{has_session, is_number}
 use Rattle.pc_engine.specs.Store.{Store}
 use Rattle.pc_texts.specs.Texts.{reply_text}
 use Rattle.pc_serving.specs.Serving.{is_wait}
-use Rattle.pc_serving.specs.Sweeps.{IsTold, swept_to, waits_now}
+use Rattle.pc_serving.specs.Sweeps.{IsTextSent, swept_to, waits_now}
 use Rattle.pc_serving.proofs.AnswerLaws.{told_then}
 use Rattle.pc_serving.proofs.SweepLaws.{swept_same}
 use Rattle.pc_serving.proofs.answers.Served.tell.Goals as goal
@@ -20,5 +20,5 @@ returns-clause-told g c =
     let same : (s : ℕ) → waits_now c.note.new.self.world s ≡ waits s = λ s. ap (λ (world : Store). waits_now world s) c.note.ensures.world in
     told_then contents c.args.out.now c.put.new.self c.sweep.new.out c.sweep.result (reply_text c.args.reply.now ++ codes "\n") (swept_to waits was own MOST_SESSIONS)
     (puts_then contents c.args.out.now c.put_reply.new.out c.put.new.self (Ok tt) (reply_text c.args.reply.now) (codes "\n") c.in_ok-put_reply.ensures c.in_ok-put.ensures)
-    (subst (λ (t : List ℕ). IsTold contents c.put.new.self c.sweep.new.out c.sweep.result t)
+    (subst (λ (t : List ℕ). IsTextSent contents c.put.new.self c.sweep.new.out c.sweep.result t)
     (swept_same waits (waits_now c.note.new.self.world) was (has_session c.note.new.self.waiting) own MOST_SESSIONS same c.note.ensures.noted) c.sweep.ensures.told)
