@@ -6,8 +6,7 @@ from unittest import mock
 
 from support import InFolder
 
-import check_edits
-import gate_times
+from tools.house import check_edits, gate_times
 
 CACHES = (check_edits.functions_near, check_edits.below, check_edits.names_in, check_edits.sources_of)
 PAGE = "| promise | contract | bodies | tests |\n|---|---|---|---|\n| **doubling**: twice as much | `twice` |%s| none |\n| **nothing**: none | `none` |  | none |\n"
@@ -59,7 +58,7 @@ class Edits(InFolder):
     def test_the_column_of_bodies(self):
         self.faults("old: + lowest(a)", "new: + 7", "promise: doubling")
         self.write("crates/pc_low/tried/other.edit", "file: src/lib.rt\nold: {\nnew: { 7;\npromise: doubling\n")
-        stale = "docs/PROMISES.md: the column of wrong bodies is not as it is to be: tools/check_edits.py --mark\n2 edits, 1 faults\n"
+        stale = "docs/PROMISES.md: the column of wrong bodies is not as it is to be: tools/house/check_edits.py --mark\n2 edits, 1 faults\n"
         self.assertEqual(self.printed(check_edits.main, []), (1, stale))
         self.assertEqual(self.printed(check_edits.main, ["--mark"]), (0, "2 edits, 0 faults\n"))
         self.assertEqual(self.read("docs/PROMISES.md"), PAGE % " `body`, +1 ")
