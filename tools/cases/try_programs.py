@@ -17,8 +17,9 @@
     client_cases.py       the client and the relay of clients/python over served stores: threads, kills, sockets
     embedding_cases.py    the library of pc_c in programs of C, C++ and Python, where there is a C compiler
     refused_growths.py    a run and the tests of test_memory and test_growths, each growth of memory that they ask for refused in turn
-    PAGES                 what tools make of the crates stands in docs/ as they make it, and each wrong body is one, those of house/meetings as they
-                          were seen, and none that was refused waits to be tried again since the function that it changes was another one
+    PAGES                 what tools make of the crates stands in docs/ as they make it, each promise names contracts that are there, and each wrong
+                          body is one, those of house/meetings as they were seen, and none that was refused waits to be tried again since the
+                          function that it changes was another one
     tests/                the tests of these tools, on what is made up
 
 What differs is shown, and what was seen of growths; the last line is 'N passed, M failed'; the status is 1 where one failed.
@@ -58,7 +59,7 @@ from tools.cases import (
 
 SECONDS = 60
 NOBODY = 65_534
-PAGES = ("check_edits.py",), ("crate_tables.py",), ("spec_guide.py", "--check"), ("try_meetings.py", "--known"), ("try_bodies.py", "--known")
+PAGES = ("check_edits.py",), ("promises.py",), ("crate_tables.py",), ("spec_guide.py", "--check"), ("try_meetings.py", "--known"), ("try_bodies.py", "--known")
 TESTS = os.path.join(ROOT, "tools", "tests")
 
 

@@ -1,19 +1,13 @@
 #!/usr/bin/env python3
 """Looks over the wrong bodies in crates/*/must-fail and crates/*/tried, in a second and without a proof: each must be able to
-change something, and to name the promises for which it stands.
-
-    check_edits.py            tells what is wrong
-    check_edits.py --mark     writes the column of wrong bodies in docs/PROMISES.md
+change something, and to name the promises that it breaks (promises.py has those).
 
 An edit is a file of lines `file: PATH`, `old: TEXT` and `new: TEXT`, and one `promise: NAME; NAME ..`. Each text is one line: what stands
 on further lines is not read, so an edit that is spread over several lines may change nothing, and is then proved. Told are a line
 of another form, an old text that doesn't stand exactly once in its file, a new text that is the old one, and one that calls a function
 which no source of its crate names, or a method of a name that no function has in the crate, in those that it stands on, or in
 the kit's library: that is no body at all, and the gate takes no such refusal. (A method is looked for by its name alone, since
-no types are known here.) A row of docs/PROMISES.md begins with the name of its promise, in bold; its third cell has those edits that
-name it and that the gate tries, and behind a plus how many more are tried on demand; of a name that several rows have, those of the
-crates that the heading above the row names. Told are a name that no row has, and a page whose
-column is another one. The status is 1 where anything is told.
+no types are known here.) The status is 1 where anything is told.
 """
 
 import functools
@@ -22,7 +16,6 @@ import os
 import re
 import shutil
 import sys
-from collections import Counter
 
 if __name__ == "__main__":
     sys.path.insert(0, os.path.join(os.path.dirname(os.path.abspath(__file__)), "..", ".."))
@@ -32,10 +25,6 @@ from tools.house import rt_source
 from tools.house.gate_times import crates_of
 
 CRATES = os.path.join(ROOT, "crates")
-PROMISES = os.path.join(ROOT, "docs", "PROMISES.md")
-ROW = re.compile(r"^\| \*\*([^*]+)\*\*: ")
-HEADING = re.compile(r"^## (.*)$")
-COLUMN = 3
 CALL = re.compile(r"(?<![\w.:])([a-z_]\w*)\(")
 METHOD = re.compile(r"\.([a-z_]\w*)(?:::<[^()]*>)?\(")
 FUNCTION = re.compile(r"\bfn ([a-z_]\w*)")
@@ -141,40 +130,11 @@ def bodies():
     return found
 
 
-def marked(text, found):
-    """The text with the column of wrong bodies as it is to be."""
-    lines, crates = [], []
-    rows = Counter(row[1] for row in map(ROW.match, text.split("\n")) if row)
-    for line in text.split("\n"):
-        heading, row = HEADING.match(line), ROW.match(line)
-        if heading:
-            crates = re.findall(r"`(\w+)`", heading[1])
-        if row:
-            cells = line.split("|")
-            named = {}
-            for (crate, body), gated in found.get(row[1], {}).items():
-                if rows[row[1]] == 1 or crate in crates:
-                    named[body] = named.get(body, False) or gated
-            gate = [f"`{name}`" for name in sorted(named) if named[name]]
-            others = len(named) - len(gate)
-            cells[COLUMN] = " " + ", ".join(gate + ([f"+{others}"] if others else [])) + " "
-            line = "|".join(cells)
-        lines.append(line)
-    return "\n".join(lines)
-
-
 def main(words):
+    if words:
+        sys.exit(__doc__)
     told = ["%s: %s" % (os.path.relpath(edit, CRATES), fault) for edit in edits() for fault in faults_of(edit)]
-    text, found = text_of(PROMISES), bodies()
-    rows = {row[1] for row in map(ROW.match, text.split("\n")) if row}
     told += ["%s: it names no promise" % os.path.relpath(edit, CRATES) for edit in edits() if not promises_of(edit)]
-    told += ["docs/PROMISES.md: no row has the name %s" % name for name in found if name not in rows]
-    right = marked(text, found)
-    if "--mark" in words:
-        with open(PROMISES, "w", encoding="utf-8") as it:
-            it.write(right)
-    elif right != text:
-        told.append("docs/PROMISES.md: the column of wrong bodies is not as it is to be: tools/house/check_edits.py --mark")
     print("\n".join(told + ["%d edits, %d faults" % (len(edits()), len(told))]))
     return 1 if told else 0
 

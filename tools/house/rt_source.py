@@ -10,6 +10,8 @@ import os
 import re
 from collections import namedtuple
 
+from tools import text_of
+
 # A literal or a comment. What begins with a slash is a comment.
 LITERAL = re.compile(r"\"(?:[^\"\\]|\\.)*\"|'(?:[^'\\\n]|\\[^\n]{1,8}?)'|//[^\n]*|/\*.*?\*/", re.S)
 VISIBLE = r"(?:pub(?:\([a-z]+\))? )?(?:(?:const|unsafe|final|extern \"C\") )*"
@@ -140,6 +142,27 @@ def is_public(item):
     """Whether other crates may call the function, as far as its own words say; those of a trait are as public as the trait."""
     head = signature_in(item).partition("\n")[0]
     return head.startswith("pub ") or bool(item.trait) and not head.startswith("pub(")
+
+
+def exports(text):
+    """The words that the root of a crate hands on from its modules, and the modules that are public themselves."""
+    text = without_comments(text)
+    uses = re.findall(r"(?m)^pub use (?:self::)?([\w:]+?)(?:::\{([^}]*)\}|::(\w+)(?: as \w+)?)?;", text)
+    names = {it.split(" as ")[0].strip() for path, some, one in uses for it in (some or one or path).split(",")}
+    return names - {""}, set(re.findall(r"(?m)^pub mod (\w+)", text))
+
+
+def public_functions(folder):
+    """The functions of a crate that others may call: of what its root exports the functions, and the methods of types and traits; not those of a trait's
+    `impl`, whose contract is the trait's."""
+    roots = [it for it in sources(folder) if os.path.basename(it) in ("lib.rt", "main.rt")]
+    names, modules = exports("\n".join(text_of(it) for it in roots))
+    for path in sources(folder):
+        module = os.path.relpath(path, os.path.join(folder, "src")).removesuffix(".rt").split(os.sep)[0]
+        is_open = path in roots or module in modules
+        for item in functions_in(without_tests(os.path.basename(path), text_of(path)), path):
+            if is_public(item) and (is_open or (item.owner or item.name) in names) and item.trait in ("", item.owner):
+                yield item
 
 
 def signature_in(item):

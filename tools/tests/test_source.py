@@ -4,7 +4,7 @@ import os
 import re
 import unittest
 
-from support import ROOT
+from support import ROOT, InFolder
 
 from tools import text_of
 from tools.house import rt_source
@@ -121,6 +121,20 @@ class Sources(unittest.TestCase):
     def test_comments_end_where_literals_begin(self):
         self.assertEqual(rt_source.without_comments("a // b\n\"//\" '/' '\\'' /* c\nd */ e // f"), "a \n\"//\" '/' '\\''  e ")
         self.assertEqual(rt_source.blanked("a // b\n\"//\" /* c\nd */ e"), "a \n\"\" \n e")
+
+
+class Exports(InFolder):
+    def test_what_a_root_exports(self):
+        root = "//! pub use a::gone;\nmod a;\npub mod codes;\npub use a::{Chest, open as opened, put};\npub use a::b::Lid;\npub use a::{\n    first,\n    second,\n};\n"
+        self.assertEqual(rt_source.exports(root), ({"Chest", "open", "put", "Lid", "first", "second"}, {"codes"}))
+
+    def test_public_functions(self):
+        """Those that the root exports, of its types and traits and of public modules; not those of a trait's `impl`."""
+        self.write("src/lib.rt", "mod a;\npub mod codes;\npub use a::{Chest, Lid, handed};\n")
+        self.write("src/a.rt", SOURCE + "pub fn hidden() {\n}\n\nimpl Other {\n    pub fn of_no_one() {\n    }\n}\n")
+        self.write("src/codes.rt", "pub fn code() {\n}\n")
+        found = [rt_source.full_name(it) for it in rt_source.public_functions(self.folder)]
+        self.assertEqual(found, ["Chest::deep", "Lid::lift", "Lid::shut", "handed", "code"])
 
 
 class Repository(unittest.TestCase):
