@@ -18,9 +18,9 @@ import tempfile
 import child
 import history
 
-sys.path.insert(0, os.path.join(os.path.dirname(os.path.abspath(__file__)), "..", "tools"))
+sys.path.insert(0, os.path.join(os.path.dirname(os.path.abspath(__file__)), ".."))
 
-import plain_files
+from tools.oracle import plain_files
 
 PROGRAM = os.path.join(os.path.dirname(os.path.abspath(__file__)), "..", "crates", "pcalc", "out", "pcalc")
 RUNS = 7

@@ -8,9 +8,10 @@ With DIR `busy` it ends as where another process has the folder. With `--fails` 
 import os
 import sys
 
-sys.path.insert(0, os.path.dirname(os.path.dirname(os.path.abspath(__file__))))
+if __name__ == "__main__":
+    sys.path.insert(0, os.path.join(os.path.dirname(os.path.abspath(__file__)), "..", ".."))
 
-from plain_store import Script, lines_of  # noqa: E402
+from tools.oracle.plain_store import Script, lines_of
 
 
 class Server:

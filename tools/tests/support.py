@@ -1,4 +1,4 @@
-"""What the tests of the tools share: the folder of the tools on the path of imports, and a folder of its own for each test."""
+"""What the tests of the tools share: the repository on the path of imports, and a folder of its own for each test."""
 
 import contextlib
 import io
@@ -10,7 +10,7 @@ from unittest import mock
 
 TOOLS = os.path.dirname(os.path.dirname(os.path.abspath(__file__)))
 ROOT = os.path.dirname(TOOLS)
-sys.path.insert(0, TOOLS)
+sys.path.insert(0, ROOT)
 
 
 def stored(*path):

@@ -1,17 +1,12 @@
 """Which bodies `try_bodies.py` and `try_meetings.py` try again: those whose text, or that of what refuses them, is another one than when they were tried."""
 
 import os
-import subprocess
 import unittest
 from unittest import mock
 
 from support import InFolder
 
-import gate_times
-import reach
-import spec_guide
-import try_bodies
-import try_meetings
+from tools.house import gate_times, reach, spec_guide, try_bodies, try_meetings
 
 EDIT = "file: src/lib.rt\nold: 1\nnew: 2\npromise: one\n"
 SOURCE = """\
@@ -38,7 +33,7 @@ class Bodies(InFolder):
         self.write("crates/pc_low/tried/one.edit", EDIT)
         self.write("crates/pc_high/tried/one.edit", EDIT)
         self.write("crates/pc_high/tried/two.edit", EDIT.replace("new: 2", "new: 3"))
-        os.makedirs(os.path.join(self.folder, "tools"))
+        os.makedirs(os.path.join(self.folder, "tools", "house"))
 
     def noted(self, *bodies, reason="clause"):
         record, today = try_bodies.Record(), try_bodies.Today()
@@ -88,7 +83,7 @@ class Bodies(InFolder):
         self.assertEqual(self.states()[HIGH], "void")
 
     def test_a_note_of_an_earlier_text_is_void(self):
-        self.write("tools/tried", "# one\npc_low earlier 2026-11-28: one:123456\n")
+        self.write("tools/house/tried", "# one\npc_low earlier 2026-11-28: one:123456\n")
         self.assertEqual(self.states(), {ONE: "void", TWO: "never", HIGH: "never"})
         self.assertEqual(self.printed(try_bodies.tell_known)[0], 0)
 
@@ -126,7 +121,7 @@ class Bodies(InFolder):
         self.change("pc_low", "1", "1 + 0")
         os.remove(os.path.join(self.folder, "crates/pc_high/tried/one.edit"))
         self.noted(ONE)
-        lines = self.read("tools/tried").splitlines()
+        lines = self.read("tools/house/tried").splitlines()
         self.assertEqual(len(lines), 2)
         self.assertRegex(lines[1], r"^pc_low clause \d{4}-\d\d-\d\d: one:%s$" % ":".join(try_bodies.Today().sums(*ONE)))
 
@@ -188,9 +183,9 @@ class Meetings(InFolder):
         self.write("crates/test_threads/stdout", "two meet: met true, commits 2\n")
         self.write("examples/small.out", "commits 2\npoints 0\n")
         change = "file: pc_low/src/lib.rt\nold: a = 1\nnew: a = 3\nold: a = 3\nnew: a = 4\n"
-        self.write("tools/meetings/meet.edit", "meeting: two meet\n" + change)
-        self.write("tools/meetings/work.edit", "workload: small --lag 0\n" + change)
-        self.write("tools/meetings/test.edit", "test: test_units it_is_one\n" + change)
+        self.write("tools/house/meetings/meet.edit", "meeting: two meet\n" + change)
+        self.write("tools/house/meetings/work.edit", "workload: small --lag 0\n" + change)
+        self.write("tools/house/meetings/test.edit", "test: test_units it_is_one\n" + change)
 
     def wrong(self, name, *printed):
         """What is wrong with the body where the copies print these lines, one after the other."""
@@ -217,7 +212,7 @@ class Meetings(InFolder):
         self.assertEqual(self.wrong("meet", ["two meet: met false"]), "two meet shows it as it stands")
 
     def test_a_meeting_that_never_ends(self):
-        self.write("tools/meetings/meet.edit", "meeting: two meet\nends: never\nfile: pc_low/src/lib.rt\nold: a = 1\nnew: a = 5\n")
+        self.write("tools/house/meetings/meet.edit", "meeting: two meet\nends: never\nfile: pc_low/src/lib.rt\nold: a = 1\nnew: a = 5\n")
         as_it_stands, without_end = (["two meet: met true"], "the end"), ([], try_meetings.NO_END)
         wrong = lambda *told: self.wrong_by("meet", *told)
         self.assertEqual(wrong(as_it_stands, without_end), "")
@@ -262,14 +257,14 @@ class Meetings(InFolder):
             try_meetings.note(name)
         self.write("crates/pc_low/src/lib.rt", "let a = 1;\n")
         self.assertEqual(self.printed(try_meetings.tell, try_meetings.is_known)[0], 0)
-        self.write("tools/meetings/meet.edit", "meeting: two meet\nfile: pc_low/src/lib.rt\nold: a = 1\nnew: a = 5\n")
+        self.write("tools/house/meetings/meet.edit", "meeting: two meet\nfile: pc_low/src/lib.rt\nold: a = 1\nnew: a = 5\n")
         self.assertEqual([name for name in try_meetings.bodies() if not try_meetings.is_known(name)], ["meet"])
 
     def test_the_record_has_none_that_is_gone(self):
         for name in ("meet", "work", "test"):
             try_meetings.note(name)
         self.assertEqual(self.printed(try_meetings.tell, try_meetings.is_tried)[0], 0)
-        os.remove(os.path.join(self.folder, "tools/meetings/work.edit"))
+        os.remove(os.path.join(self.folder, "tools/house/meetings/work.edit"))
         try_meetings.note("meet")
         self.assertEqual([*try_meetings.record()], ["meet", "test"])
 

@@ -6,7 +6,7 @@ from unittest import mock
 
 from support import InFolder
 
-import contracts
+from tools.house import contracts
 
 SOURCE = """\
 /// A box.

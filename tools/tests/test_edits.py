@@ -1,4 +1,4 @@
-"""What `check_edits.py` tells of wrong bodies, and the column that it writes."""
+"""What `check_edits.py` tells of wrong bodies."""
 
 import shutil
 import unittest
@@ -6,11 +6,9 @@ from unittest import mock
 
 from support import InFolder
 
-import check_edits
-import gate_times
+from tools.house import check_edits, gate_times
 
 CACHES = (check_edits.functions_near, check_edits.below, check_edits.names_in, check_edits.sources_of)
-PAGE = "| promise | contract | bodies | tests |\n|---|---|---|---|\n| **doubling**: twice as much | `twice` |%s| none |\n| **nothing**: none | `none` |  | none |\n"
 
 
 class Edits(InFolder):
@@ -29,7 +27,6 @@ class Edits(InFolder):
         self.write("crates.txt", "# store\npc_low: std\npc_high: pc_low\n")
         self.write("crates/pc_low/src/lib.rt", "pub fn lowest(a: u64) -> u64\n{\n    a\n}\n")
         self.write("crates/pc_high/src/lib.rt", "use pc_low::lowest;\n// gone(a)\npub fn twice(a: u64) -> u64\n{\n    lowest(a) + lowest(a)\n}\n")
-        self.write("docs/PROMISES.md", PAGE % "  ")
 
     def faults(self, *lines):
         return [*check_edits.faults_of(self.write("crates/pc_high/must-fail/body.edit", "file: src/lib.rt\n" + "".join(f"{line}\n" for line in lines)))]
@@ -56,23 +53,13 @@ class Edits(InFolder):
         self.assertEqual(self.faults("old: + lowest(a)", "new: + a.gone()"), ["no source has a method gone"])
         self.assertEqual(self.faults("old: + lowest(a)", "new: + a.reserve() + a.lowest()"), [])
 
-    def test_the_column_of_bodies(self):
-        self.faults("old: + lowest(a)", "new: + 7", "promise: doubling")
+    def test_bodies_by_their_promises(self):
+        self.faults("old: + lowest(a)", "new: + 7", "promise: doubling; adding")
         self.write("crates/pc_low/tried/other.edit", "file: src/lib.rt\nold: {\nnew: { 7;\npromise: doubling\n")
-        stale = "docs/PROMISES.md: the column of wrong bodies is not as it is to be: tools/check_edits.py --mark\n2 edits, 1 faults\n"
-        self.assertEqual(self.printed(check_edits.main, []), (1, stale))
-        self.assertEqual(self.printed(check_edits.main, ["--mark"]), (0, "2 edits, 0 faults\n"))
-        self.assertEqual(self.read("docs/PROMISES.md"), PAGE % " `body`, +1 ")
+        self.assertEqual(check_edits.bodies(), {"doubling": {("pc_high", "body"): True, ("pc_low", "other"): False}, "adding": {("pc_high", "body"): True}})
         self.assertEqual(self.printed(check_edits.main, []), (0, "2 edits, 0 faults\n"))
 
-    def test_a_name_of_two_rows_counts_the_bodies_of_the_heading_s_crates(self):
-        found = {"kept": {("pc_low", "a"): True, ("pc_high", "b"): True, ("pc_high", "c"): False}}
-        page = "## `pc_low`\n| **kept**: it is | `lowest` |%s|\n## `pc_high`, `pc_more`\n| **kept**: it is | `twice` |%s|\n"
-        self.assertEqual(check_edits.marked(page % (" ", " "), found), page % (" `a` ", " `b`, +1 "))
-
-    def test_promises_that_are_not_there(self):
-        self.faults("old: + lowest(a)", "new: + 7", "promise: gone")
-        self.assertEqual(self.printed(check_edits.main, []), (1, "docs/PROMISES.md: no row has the name gone\n1 edits, 1 faults\n"))
+    def test_a_body_without_a_promise(self):
         self.faults("old: + lowest(a)", "new: + 7")
         self.assertEqual(self.printed(check_edits.main, []), (1, "pc_high/must-fail/body.edit: it names no promise\n1 edits, 1 faults\n"))
 

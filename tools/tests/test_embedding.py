@@ -8,18 +8,11 @@ import re
 import unittest
 from unittest import mock
 
-from support import InFolder
+from support import ROOT, InFolder
 
-import embedding_border
-import embedding_cases
-import plain_store
-
-ROOT = os.path.join(os.path.dirname(os.path.abspath(__file__)), "..", "..")
-
-
-def text_of(*path):
-    with open(os.path.join(ROOT, *path), encoding="utf-8") as it:
-        return it.read()
+from tools import text_of
+from tools.cases import embedding_border, embedding_cases
+from tools.oracle import plain_store
 
 
 def bare(text):
@@ -45,8 +38,8 @@ def constants_of(source):
 
 class Numbers(unittest.TestCase):
     def setUp(self):
-        self.header = text_of("embedding", "include", "pcalc.h")
-        self.events, self.kinds, self.texts = constants_of(text_of("crates", "pc_wire", "src", "codes.rt"))
+        self.header = text_of(ROOT, "embedding", "include", "pcalc.h")
+        self.events, self.kinds, self.texts = constants_of(text_of(ROOT, "crates", "pc_wire", "src", "codes.rt"))
 
     def test_events_of_the_header(self):
         self.assertEqual(enum_of(self.header, "pcalc_event"), self.events)
@@ -58,19 +51,19 @@ class Numbers(unittest.TestCase):
         self.assertEqual(enum_of(self.header, "pcalc_text"), self.texts)
 
     def test_refusals_of_the_header(self):
-        source = text_of("crates", "pc_wire", "src", "answers.rt")
+        source = text_of(ROOT, "crates", "pc_wire", "src", "answers.rt")
         wanted = {re.sub(r"(?<!^)(?=[A-Z])", "_", name).upper(): int(number) for name, number in re.findall(r"Refusal::(\w+)(?:\(_\))? => (\d+),", source)
                   if number != "0"}
         self.assertEqual(enum_of(self.header, "pcalc_refusal"), wanted)
 
     def test_python(self):
-        source = text_of("embedding", "python", "pcalc_embedded.py")
+        source = text_of(ROOT, "embedding", "python", "pcalc_embedded.py")
         ranges = re.findall(r"^\(?([A-Z_, \n]+)\)? = range\((?:(\d+), )?(\d+)\)", source, re.MULTILINE)
         found = [dict(zip((it.strip() for it in names.split(",")), range(int(first or 0), int(last)), strict=True)) for names, first, last in ranges]
         self.assertEqual(found, [self.events, self.kinds, self.texts])
 
     def test_refusals_of_python(self):
-        source = text_of("embedding", "python", "pcalc_embedded.py")
+        source = text_of(ROOT, "embedding", "python", "pcalc_embedded.py")
         first = re.search(r'enumerate\("""(.*?)"""', source, re.DOTALL)[1].split()
         names = {number: name for number, name in enumerate(first, 1)} | {int(number): name for number, name in re.findall(r'(\d+): "(\w+)"', source)}
         wanted = {number: name.title().replace("_", "") for name, number in enum_of(self.header, "pcalc_refusal").items()}
@@ -84,14 +77,14 @@ def blocks_of(page, language):
 class Pages(unittest.TestCase):
     def test_the_readme_shows_parts_of_the_examples(self):
         for language, name in (("c", "first.c"), ("python", "first.py")):
-            source = text_of("embedding", "examples", name)
+            source = text_of(ROOT, "embedding", "examples", name)
             shown = [it for it in blocks_of("README.md", language) if it in source]
             self.assertEqual(len(shown), 1, name)
             self.assertGreaterEqual(len(shown[0].splitlines()), 10)
 
     def test_the_page_shows_the_examples(self):
         for language, name in (("c", "first.c"), ("python", "first.py")):
-            first = text_of("embedding", "examples", name)
+            first = text_of(ROOT, "embedding", "examples", name)
             self.assertEqual([first.endswith(it) for it in blocks_of("docs/EMBEDDING.md", language)], [True], name)
 
 

@@ -5,7 +5,7 @@ import unittest
 
 from support import stored
 
-import plain_files
+from tools.oracle import plain_files
 
 KINDS = {b"P": "part", b"B": "base", b"L": "log"}
 # Two hexadecimal digits a byte, up to what is said of them.

@@ -9,10 +9,10 @@ import sys
 import time
 import unittest
 
-from support import ROOT, InFolder
+from support import ROOT, TOOLS, InFolder
 
-import gate_times
-import try_programs
+from tools.cases import try_programs
+from tools.house import gate_times
 
 # After so long a program that is waited for has got stuck.
 SECONDS = 120
@@ -145,10 +145,11 @@ class Follower(InFolder):
     """A copy of the tool that follows a run; it is a program of its own, since it takes signals."""
 
     def follow(self, script):
-        shutil.copy(gate_times.__file__, self.write("tools/gate_times.py", ""))
+        for name in ("__init__.py", "house/__init__.py", "house/gate_times.py", "house/rt_source.py"):
+            shutil.copy(os.path.join(TOOLS, name), self.write(f"tools/{name}", ""))
         self.write("crates.txt", "pc_low: std\n")
         env = {**os.environ, "RT_JOBS": "3", "GATE_TIMES": "times.json"}
-        words = (sys.executable, "tools/gate_times.py", "follow", "log", "sh", self.write("run.sh", script))
+        words = (sys.executable, "tools/house/gate_times.py", "follow", "log", "sh", self.write("run.sh", script))
         return subprocess.Popen(words, cwd=self.folder, env=env, stdin=subprocess.DEVNULL, stdout=subprocess.PIPE, text=True)
 
     def said(self, text):
@@ -231,9 +232,9 @@ class Gate(InFolder):
     def run_with(self, checks, programs, statuses=(0, 0)):
         shutil.copytree(os.path.join(ROOT, ".ci"), os.path.join(self.folder, ".ci"), dirs_exist_ok=True)
         tell = "import sys\nsys.stdout.write(%r)\nsys.exit(%d)\n"
-        self.write("tools/gate_times.py", "import sys\nopen(sys.argv[2], 'w').write(%r)\nsys.exit(%d)\n" % (checks, statuses[0]))
-        self.write("tools/try_programs.py", tell % (programs, statuses[1]))
-        self.write("tools/try_bodies.py", tell % ("forgotten\n5 bodies\n", 1))
+        self.write("tools/house/gate_times.py", "import sys\nopen(sys.argv[2], 'w').write(%r)\nsys.exit(%d)\n" % (checks, statuses[0]))
+        self.write("tools/cases/try_programs.py", tell % (programs, statuses[1]))
+        self.write("tools/house/try_bodies.py", tell % ("forgotten\n5 bodies\n", 1))
         os.chmod(self.write("bin/rt", "#!/bin/sh\n"), 0o755)
         env = {**os.environ, "PATH": os.path.join(self.folder, "bin") + os.pathsep + os.environ["PATH"]}
         ran = subprocess.run(["bash", ".ci/run"], cwd=self.folder, env=env, capture_output=True, text=True, timeout=SECONDS)

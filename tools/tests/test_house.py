@@ -4,8 +4,7 @@ import unittest
 
 from support import InFolder
 
-import gate_times
-import house
+from tools.house import gate_times, house, rt_source
 
 SOURCE = '''\
 //! What is small.
@@ -54,7 +53,7 @@ class Counts(InFolder):
         self.write("README.md", "four words of it\n")
 
     def test_functions_with_their_parameters_and_bodies(self):
-        found = [*house.functions_in("lib.rt", gate_times.without_tests("lib.rt", SOURCE))]
+        found = [*rt_source.sizes_in("lib.rt", rt_source.without_tests("lib.rt", SOURCE))]
         self.assertEqual(found, [("lib.rt", "first", 4, 2), ("lib.rt", "third", 1, 0), ("lib.rt", "fourth", 7, 1)])
 
     def test_a_crate(self):

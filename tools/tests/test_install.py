@@ -10,7 +10,7 @@ import unittest
 
 from support import TOOLS, InFolder, stored
 
-import shell_pages
+from tools import shell_pages
 
 
 def loaded():

@@ -5,8 +5,7 @@ import unittest
 
 from support import InFolder, stored
 
-import crate_tables
-import spec_guide
+from tools.house import crate_tables, spec_guide
 
 CRATES = "# The store.\npc_low: std\npc_mid: pc_low\npc_high: pc_low pc_mid\n# What the gate runs.\ntest_low: pc_low\n"
 TABLES = """\
@@ -42,7 +41,7 @@ class Tables(InFolder):
         self.assertEqual(self.printed(crate_tables.main, []), (0, ""))
 
     def test_tables_that_are_not(self):
-        told = "docs/ARCHITECTURE.md: the tables of crates are not as they are to be: tools/crate_tables.py --mark\n"
+        told = "docs/ARCHITECTURE.md: the tables of crates are not as they are to be: tools/house/crate_tables.py --mark\n"
         self.write("docs/ARCHITECTURE.md", TABLES.replace("What is high.", "What was high."))
         self.assertEqual(self.printed(crate_tables.main, []), (1, told))
         self.assertEqual(self.printed(crate_tables.main, ["--mark"]), (0, ""))

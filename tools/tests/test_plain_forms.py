@@ -10,15 +10,12 @@ import unittest
 
 from support import ROOT, InFolder, stored
 
-import list_counts
-import lock_counts
-import plain_files
-import plain_store
-import soak
-import walk_counts
-import worked_examples
-from plain_files import FIRST, SECOND, commit
-from plain_store import keyed
+from tools.cases import soak
+from tools.cases.program_cases import ADDS, ADDS_TOLD
+from tools.house import worked_examples
+from tools.oracle import list_counts, lock_counts, plain_files, plain_store, walk_counts
+from tools.oracle.plain_files import FIRST, SECOND, commit
+from tools.oracle.plain_store import keyed
 
 # Of longer texts each change of a byte takes seconds.
 LONGEST_CHANGED = 45
@@ -178,26 +175,7 @@ def without_imports(text):
     return " ".join(" ".join(line for line in lines if not line.startswith("use ")).split())
 
 
-ROW = b"""begin 1\nadd 1 n 5\nadd 1 n -2\nget 1 n\ncommit 1\nbegin 1\nput 1 t x\nadd 1 t 1\nadd 1 n 9223372036854775807\nadd 1 n -4\ncommit 1
-point\nseal\ncapture\ntake\ntake\n"""
-REPLIES_OF_ROW = rb"""begun 1
-sum 5
-sum 3
-= \x00\x00\x00\x00\x00\x00\x00\x03
-committed 1
-begun 2
-ok
-refused NotNumber
-refused OutOfRange
-sum -1
-committed 2
-phase prepare 1
-phase resolve 1
-phase capture 1
-took n \xff\xff\xff\xff\xff\xff\xff\xff
-took t x
-status 0
-"""
+REPLIES_OF_ROW = ADDS_TOLD + b"status 0\n"
 LOG_OF_ROW = "5043414c434c3031 0000000000000001 00000000 00000010 01 01 0001 0001 6e 02 0000000000000003"
 LOG_OF_ROW += "00000019 01 01 0002 0001 74 01 00000001 78 0001 6e 02 fffffffffffffffc"
 SECOND_OF_ROW = "5043414c434c3032 0000000000000001 00000000 00000012 01 01 0001 0001 0000 6e 02 0000000000000003"
@@ -214,7 +192,7 @@ class Adds(unittest.TestCase):
         return "; ".join(run.answer(line.encode()).decode().rstrip("\n") for line in script.split("; "))
 
     def test_the_worked_row(self):
-        self.assertEqual(plain_store.run_script([], ROW), REPLIES_OF_ROW)
+        self.assertEqual(plain_store.run_script([], ADDS), REPLIES_OF_ROW)
 
     def test_spellings(self):
         told = self.answers("begin 1; add 1 n -0; add 1 n 007; add 1 n 0000000000000000001; add 1 m 9223372036854775807; add 1 o -9223372036854775808")

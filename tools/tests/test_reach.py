@@ -4,8 +4,7 @@ import unittest
 
 from support import InFolder
 
-import reach
-import spec_guide
+from tools.house import reach, spec_guide
 
 BASE = """\
 -- The least number.

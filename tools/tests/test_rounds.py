@@ -5,11 +5,7 @@ import unittest
 
 from support import InFolder
 
-import gate_times
-import reach
-import rounds
-import spec_guide
-import try_bodies
+from tools.house import gate_times, reach, rounds, rt_source, spec_guide, try_bodies
 
 SOURCE = """\
 /// One of two with this name.
@@ -67,7 +63,7 @@ class Rounds(InFolder):
         self.assertEqual(rounds.rounds_of(some), [["method", "trait", "free"], ["again"]])
 
     def test_a_function_is_told_by_its_type(self):
-        lines = rounds.owners_in(SOURCE)
+        lines = rt_source.owners_in(SOURCE)
         told = {number: lines[number] for number, line in enumerate(SOURCE.split("\n"), 1) if line.lstrip().startswith(("1", "2", "One"))}
         self.assertEqual([*told.values()], [("One", "new"), ("One", "from"), ("", "new")])
         for full, wanted in (("pc_one::One::new", "method"), ("pc_one::OneFromU8::from", "trait")):
@@ -88,7 +84,7 @@ class Rounds(InFolder):
         source = SOURCE.replace("    fn from", "    #[inline(always)]\n    #[tactic(auto)]\n    fn from")
         self.write("crates/pc_one/src/lib.rt", source)
         line = source.split("\n").index("    #[inline(always)]") + 1
-        lines = rounds.owners_in(source)
+        lines = rt_source.owners_in(source)
         self.assertEqual(lines[line - 1 : line + 3], [("One", "new"), ("One", "from"), ("One", "from"), ("One", "from")])
         said = f"note: src/lib.rt:{line}:5: it is not proved that what the function ensures holds (`returns`)\nfn pc_one::OneFromU8::from: no proof: x\n"
         self.assertEqual(self.tried(["trait"], said), {"trait": "clause"})

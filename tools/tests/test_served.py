@@ -4,9 +4,8 @@ import unittest
 
 import support  # noqa: F401
 
-import plain_serving
-import plain_store
-import serve_cases
+from tools.cases import serve_cases
+from tools.oracle import plain_serving, plain_store
 
 
 class Served(unittest.TestCase):

@@ -9,13 +9,9 @@ from unittest import mock
 
 from support import InFolder
 
-import json_cases
-import pair_cases
-import plain_files
-import plain_serving
-import plain_store
-import soak
-from run_cases import files_of
+from tools.cases import json_cases, pair_cases, soak
+from tools.cases.run_cases import files_of
+from tools.oracle import plain_files, plain_serving, plain_store
 
 
 def step(path, sessions, capacity, run):

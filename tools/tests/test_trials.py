@@ -1,4 +1,4 @@
-"""What runs that are killed, and growths that are refused, are held to: `crash_cases.py`, `refused_growths.py`, and the pipes of `program_cases.py`."""
+"""What runs that are killed, and growths that are refused, are held to: `crash_cases.py`, `refused_growths.py`, and the pipes of `case.py`."""
 
 import os
 import subprocess
@@ -7,10 +7,8 @@ from unittest import mock
 
 from support import InFolder
 
-import crash_cases
-import plain_files
-import program_cases
-import refused_growths
+from tools.cases import case, crash_cases, refused_growths
+from tools.oracle import plain_files
 
 
 class Crashes(InFolder):
@@ -29,7 +27,7 @@ class Crashes(InFolder):
     def faults(self, least=0):
         log = plain_files.Log(1)
         log.entries = self.commits
-        program_cases.written(self.folder, "log.pcl", log.text())
+        case.written(self.folder, "log.pcl", log.text())
         return crash_cases.faults_of(self.folder, b"a", self.pairs, least)
 
     def test_what_is_right(self):
@@ -81,7 +79,7 @@ class Crashes(InFolder):
     def test_what_a_program_recovers(self):
         """It is right where the program prints what the files are worth, and nothing else."""
         for name, text in (("base.pcb", plain_files.Base(1, 0, {}).text()), ("log.pcl", plain_files.Log(1).text())):
-            program_cases.written(self.folder, name, text)
+            case.written(self.folder, name, text)
         ended = lambda status, out, err=b"": mock.patch.object(subprocess, "run", return_value=subprocess.CompletedProcess([], status, out, err))
         right = b"point 0\nentries 0\npairs 0\n"
         for told, lines in (((0, right), 0), ((1, right), 1), ((0, right + b"a 1\n"), 1), ((0, right, b"skipped"), 1)):
@@ -168,15 +166,15 @@ class Growths(InFolder):
 
 class Pipes(InFolder):
     def test_a_pipe_is_fed_once_it_is_read(self):
-        path, done = program_cases.piped(self.folder, "pipe"), []
-        with program_cases.beside(lambda: program_cases.feed(path, b"text", lambda: done.append(1))):
+        path, done = case.piped(self.folder, "pipe"), []
+        with case.beside(lambda: case.feed(path, b"text", lambda: done.append(1))):
             with open(path, "rb") as it:
                 self.assertEqual(it.read(), b"text")
         self.assertEqual(done, [1])
 
     def test_a_pipe_that_nobody_reads(self):
-        self.replace(program_cases, PATIENCE=0)
-        program_cases.feed(program_cases.piped(self.folder, "pipe"), b"text", self.fail)
+        self.replace(case, PATIENCE=0)
+        case.feed(case.piped(self.folder, "pipe"), b"text", self.fail)
 
 
 if __name__ == "__main__":

@@ -4,7 +4,7 @@ import unittest
 
 from support import InFolder, stored
 
-import tutorial_cases
+from tools.cases import tutorial_cases
 
 PAGE = "Text.\n\n```console\n$ echo a\na\n$ true\n```\n\n```\n$ not run\n```\n\n```console\n$ printf 'b\\nc\\n'\nb\nc\n```\n"
 

@@ -1,0 +1,358 @@
+"""The client and the relay of `clients/python` over the built program, for `try_programs.py`: transactions of threads, those that wait and those that
+die, what stands in the folder once the process was killed, and clients of the relay over sockets.
+
+That a store has what it is to have is seen by a store that is opened anew, or by `serve_cases.state_of`, which reads the folder by plain forms.
+"""
+
+import contextlib
+import os
+import random
+import signal
+import socket
+import subprocess
+import sys
+import threading
+
+from tools import ROOT
+from tools.cases.serve_cases import state_of
+from tools.oracle.plain_store import text_of
+
+CLIENTS = os.path.join(ROOT, "clients", "python")
+sys.path.insert(0, CLIENTS)
+
+import pcalc  # noqa: E402
+
+SECONDS = 60
+THREADS, ADDS = 8, 200
+KILLS = 8
+SESSIONS = 64
+SEED = 71
+
+
+def differing(got, wanted):
+    return [] if got == wanted else [f"{got!r} beside {wanted!r}"]
+
+
+def together(*bodies):
+    """Runs the bodies on threads of their own. What was raised in them is told."""
+    raised = []
+
+    def guarded(body):
+        try:
+            body()
+        except BaseException as fault:
+            raised.append(repr(fault))
+
+    threads = [threading.Thread(target=guarded, args=(body,), daemon=True) for body in bodies]
+    for it in threads:
+        it.start()
+    for it in threads:
+        it.join(SECONDS)
+    return raised + [f"a thread doesn't end: {it.name}" for it in threads if it.is_alive()]
+
+
+def opened(program, room, **settings):
+    return pcalc.Store(os.path.join(room, "S"), program=program, create=True, **settings)
+
+
+def all_of(store, keys):
+    """The values of the keys, in one transaction."""
+    with store.transaction() as t:
+        return [t.get(key) for key in keys]
+
+
+# The client.
+
+EVERY = bytes(range(256))
+ODD = {b"fig": b"7", b"-": b"-", (9, b"fig"): b"", (65_535, b"\\s7:k"): EVERY, EVERY[1:]: b"\\x41", b" #": b"a b\r\n", b"k" * 255: bytes(65_535)}
+
+
+def operations(program, room):
+    """What one transaction does, and what the next process has of it."""
+    with opened(program, room, run=7) as store:
+        with store.transaction() as t:
+            for key, value in ODD.items():
+                t[key] = value
+            got = [t[key] for key in ODD], t.add(b"n", -5), t.add(b"n", 3), t.get(b"none", b"0")
+            del t[b"fig"]
+            got += (t.get(b"fig"), t.entry)
+        counts = {name: number for name, number in store.stats().items() if name != "bytes"}
+        got += (t.entry, store.run_number, store.pairs, store.check(), counts)
+        yield "a transaction of the client", differing(got, (list(ODD.values()), -5, -2, b"0", None, None, 1, 7, 0, True, {"entries": 1, "commits": 1, "points": 0, "open": 0, "pairs": len(ODD)}))
+        yield "one that raises leaves nothing", raises(store)
+    with opened(program, room, sync=True, lag=0) as store:
+        wanted = [None, *list(ODD.values())[1:], text_of(-2), None]
+        yield "and the next process", differing((all_of(store, [*ODD, b"n", b"left"]), store.run_number, store.pairs), (wanted, 8, len(ODD)))
+
+
+def raises(store):
+    lines = []
+    bodies = (lambda t: t[b"none"], KeyError), (lambda t: t.add(b"-", 1), pcalc.Refused), (lambda t: t.add(b"n", 2**63 - 1) and t.add(b"n", 9), pcalc.Refused)
+    for body, fault in bodies:
+        try:
+            with store.transaction() as t:
+                t[b"left"] = b"1"
+                body(t)
+            lines.append(f"no {fault.__name__} is raised")
+        except fault:
+            pass
+    return lines + differing(all_of(store, [b"left", b"-", b"n"]), [None, b"-", text_of(-2)])
+
+
+def refused(program, room):
+    """Stores that can't be opened."""
+    with opened(program, room):
+        for words, told in (({"folder": "S"}, "pcalc: %s: Busy"), ({"folder": "none"}, "pcalc: %s: NoFile")):
+            path = os.path.join(room, words["folder"])
+            try:
+                pcalc.Store(path, program=program).close()
+                lines = ["it is opened"]
+            except pcalc.Ended as fault:
+                lines = differing((str(fault), fault.status), (told % path, 1))
+            yield f"a client of a store that can't be had, {words['folder']}", lines
+
+
+def adds(store, calls, number):
+    """A thread that moves between accounts and counts itself, and keeps how often it was begun."""
+    chance = random.Random(SEED + number)
+    for _ in range(ADDS):
+        one, two = chance.sample(range(5), 2)
+
+        def move(t):
+            calls[number] += 1
+            t.add(b"a%d" % one, -1)
+            t.add(b"a%d" % two, 1)
+            t.add(b"count", 1)
+
+        store.run(move)
+
+
+def threads(program, room):
+    """Threads that want the same keys, more of them than there are sessions."""
+    with opened(program, room, sessions=THREADS - 2) as store:
+        calls = [0] * THREADS
+        lines = together(*(lambda number=number: adds(store, calls, number) for number in range(THREADS)))
+        values = [pcalc.number_of(it) for it in all_of(store, [b"count", *(b"a%d" % it for it in range(5))])]
+        print(f"{THREADS} threads of the client, {THREADS * ADDS} transactions: begun {sum(calls)} times")
+        yield "threads that want the same keys", lines + differing((values[0], sum(values[1:]), store.check()), (THREADS * ADDS, 0, True))
+        yield "pipelines that want the same keys", pipelines(store)
+
+
+def pipelines(store):
+    def work(keys):
+        with store.pipeline(depth=50) as pipeline:
+            for _ in range(500):
+                with pipeline.transaction() as t:
+                    for key in keys:
+                        t.add(key, 1)
+
+    def alone():
+        for _ in range(100):
+            store.run(lambda t: (t.add(b"q", 1), t.add(b"p", 1)))
+
+    lines = together(lambda: work((b"p", b"q")), lambda: work((b"q", b"p")), alone)
+    return lines + differing(all_of(store, [b"p", b"q"]), [text_of(1100)] * 2)
+
+
+def deaths(program, room):
+    """The younger transaction dies, and the older one waits, and what it waited for is done."""
+    with opened(program, room) as store:
+        told, is_begun, is_locked = [], threading.Event(), threading.Event()
+
+        def dies():
+            try:
+                with store.transaction() as t:
+                    t[b"a"] = b"2"
+            except pcalc.Died as fault:
+                told.append(str(fault))
+
+        with store.transaction() as t:
+            t[b"a"] = b"1"
+            lines = together(dies)
+        yield "the younger transaction dies", lines + differing((told, all_of(store, [b"a"])), ([str(pcalc.Died())], [b"1"]))
+
+        def younger():
+            is_begun.wait(SECONDS)
+            with store.transaction() as t:
+                t[b"b"] = b"younger"
+                is_locked.set()
+                threading.Event().wait(0.1)
+
+        def older():
+            with store.transaction() as t:
+                is_begun.set()
+                is_locked.wait(SECONDS)
+                t[b"b"] = b"older"
+
+        yield "the older transaction waits", together(younger, older) + differing(all_of(store, [b"b"]), [b"older"])
+
+
+def killed(program, room):
+    """Each commit that was answered is there again, wherever the process was killed, whether it is asked line by line or many at a time."""
+    chance, most = random.Random(SEED), [0] * THREADS
+    for time in range(KILLS):
+        store, answered = opened(program, room), list(most)
+
+        def work(number):
+            with contextlib.suppress(pcalc.Ended):
+                while number % 2:
+                    answered[number] = store.run(lambda t: t.add(b"k%d" % number, 1))
+                pipeline = store.pipeline(depth=20)
+                while True:
+                    with contextlib.ExitStack() as blocks:
+                        for _ in range(20):
+                            blocks.enter_context(pipeline.transaction()).add(b"k%d" % number, 1)
+                    answered[number] += 20
+
+        killer = threading.Timer(chance.random() * 0.3, store.process.kill)
+        killer.start()
+        lines = together(*(lambda number=number: work(number) for number in range(THREADS)))
+        killer.join()
+        try:
+            store.close()
+            lines.append("the end isn't told")
+        except pcalc.Ended as fault:
+            lines += differing(fault.status, -signal.SIGKILL)
+        pairs = state_of(os.path.join(room, "S"))
+        most = [int.from_bytes(pairs.get((0, b"k%d" % number), b""), "big") for number in range(THREADS)]
+        # what was under way at the kill may be there too
+        is_right = all(there <= got <= there + (1 if number % 2 else 20) for number, (there, got) in enumerate(zip(answered, most)))
+        yield f"a client whose process is killed, the time {time + 1}", lines + ([] if is_right else [f"{most} beside {answered} that were answered"])
+    print(f"clients of processes that were killed {KILLS} times: {sum(most)} transactions in the end")
+
+
+# The relay.
+
+@contextlib.contextmanager
+def relayed(program, room, address, *words):
+    """A relay of a store, and how it is reached."""
+    command = [sys.executable, os.path.join(CLIENTS, "relay.py"), address, "S", "--program", program, "--create", *words]
+    with subprocess.Popen(command, cwd=room, stdout=subprocess.PIPE) as process:
+        process.stdout.readline()
+        told = process.stdout.readline().decode().removeprefix("listening on ").rstrip()
+        try:
+            yield (lambda: Client(room, told)), process
+        finally:
+            process.send_signal(signal.SIGTERM)
+
+
+class Client:
+    """A client of a relay's socket."""
+
+    def __init__(self, room, address):
+        host, _, port = address.rpartition(":")
+        self.sock = socket.create_connection((host, int(port))) if host else socket.socket(socket.AF_UNIX)
+        if not host:
+            self.sock.connect(os.path.join(room, address))
+        self.sock.settimeout(SECONDS)
+        self.answers = self.sock.makefile("rb")
+
+    def ask(self, text, count=1):
+        """Sends the text, and reads so many lines."""
+        self.sock.sendall(text)
+        return b"".join(self.answers.readline() for _ in range(count))
+
+    def is_ended(self):
+        return self.answers.read() == b""
+
+    def close(self):
+        self.answers.close()
+        self.sock.close()
+
+
+def command(*words):
+    """A command in Redis' form of an array."""
+    return b"*%d\r\n" % len(words) + b"".join(b"$%d\r\n%s\r\n" % (len(it), it) for it in words)
+
+
+COMMANDS = (
+    (command(b"SET", b"a", EVERY), b"+OK\r\n"),
+    (command(b"GET", b"a"), b"$256\r\n" + EVERY + b"\r\n"),
+    (command(b"SET", EVERY[1:], b""), b"+OK\r\n"),
+    (command(b"GET", EVERY[1:]), b"$0\r\n\r\n"),
+    (command(b"SET", EVERY, b""), b"-ERR KeyLength\r\n"),
+    (command(b"SET", b"a", bytes(65_536)), b"-ERR ValueLength\r\n"),
+    (command(b"INCRBY", b"n", b"9223372036854775807"), b":9223372036854775807\r\n"),
+    (command(b"INCR", b"n"), b"-ERR OutOfRange\r\n"),
+    (command(b"MULTI") + command(b"DECRBY", b"n", b"7") + command(b"DEL", b"a", b"none") + command(b"EXEC"),
+     b"+OK\r\n+QUEUED\r\n+QUEUED\r\n*2\r\n:9223372036854775800\r\n:1\r\n"),
+    (b"MULTI\r\n" + b"".join(b"SET k%d v\r\n" % it for it in range(257)) + b"EXEC\r\n",
+     b"+OK\r\n" + b"+QUEUED\r\n" * 257 + b"*257\r\n" + b"+OK\r\n" * 256 + b"-ERR TooManyWrites\r\n"),
+    (b"EVAL x\r\n", b"-ERR unknown command 'EVAL'\r\n"),
+    (b"PING\r\nQUIT\r\n", b"+PONG\r\n+OK\r\n"),
+)
+
+
+def redis(program, room):
+    """Commands of Redis', over a port of 127.0.0.1."""
+    with relayed(program, room, ":0") as (connected, process):
+        client = connected()
+        for text, wanted in COMMANDS:
+            client.sock.sendall(text)
+            yield f"the relay, {text[:40]!r}", differing(client.answers.read(len(wanted)), wanted)
+        yield "the relay closes behind QUIT", [] if client.is_ended() else ["more is told"]
+        client.close()
+    yield "the relay ends with status 0", differing(process.returncode, 0)
+    with opened(program, room) as store:
+        yield "the store behind the relay", differing(all_of(store, [b"k255", b"k256", b"n", b"a"]), [b"v", None, text_of(2**63 - 8), None])
+
+
+def lines(program, room):
+    """The store's own lines, by two clients of a Unix socket."""
+    with relayed(program, room, "socket") as (connected, _):
+        one, two = connected(), connected()
+        got = one.ask(b"begin 1\nadd 1 n 1\nput 1 \\s7:k 1\n", 3), two.ask(b"begin 1\nget 1 n\nbegin 2\nget 1\nabort 1\nbegin 1\nput 1 m 1\n", 7)
+        yield "two clients of a relay", differing(got, (b"begun 1\nsum 1\nok\n", b"begun 2\ndied\nrefused NoSession\nbad line\naborted\nbegun 3\nok\n"))
+        one.sock.sendall(b"put 1 m 2\ncommit 1\nbegin 1\nget 1 m\ncommit 1\n")
+        got = two.ask(b"commit 1\n"), one.ask(b"", 5)
+        yield "what waits is asked again", differing(got, (b"committed 1\n", b"ok\ncommitted 2\nbegun 4\n= 2\ncommitted 3\n"))
+        yield "quit ends a connection alone", differing((one.ask(b"quit\n", 0), one.is_ended(), two.ask(b"stats\n")), (b"", True, b"entries=3 commits=3 points=0 open=0 bytes=91 pairs=3\n"))
+        one.close()
+        two.close()
+
+
+def crowd(program, room):
+    """As many clients as sessions, each of which counts, while some close in the middle."""
+    with relayed(program, room, "socket") as (connected, _):
+        clients = [connected() for _ in range(SESSIONS)]
+        got = {client.ask(command(b"PING")) for client in clients}
+        more = connected()
+        got = got, more.ask(b"stats\n"), more.is_ended()
+        yield f"{SESSIONS} clients of a relay and one more", differing(got, ({b"+PONG\r\n"}, b"refused NoSession\n", True))
+        more.close()
+        counted = clients[:SESSIONS // 2]
+        for client in clients[SESSIONS // 2:]:
+            client.sock.sendall(b"MULTI\r\nINCR m\r\nINCR n\r\nEXEC\r\n" * 30)
+            client.close()
+        raised = together(*(lambda client=client: client.ask(b"MULTI\r\nINCR n\r\nINCR m\r\nEXEC\r\n" * 30, 6 * 30) for client in counted))
+        for client in counted:
+            client.close()
+        yield "clients of a relay that want the same keys, and others that close", raised + counts(connected)
+        yield "a transaction goes with its connection", gone(connected)
+
+
+def counts(connected):
+    """Both counts are alike, and have at least those that were answered."""
+    client = connected()
+    got = client.ask(b"MULTI\r\nINCRBY n 0\r\nINCRBY m 0\r\nEXEC\r\n", 6).split()[-2:]
+    client.close()
+    return [] if got[0] == got[1] and int(got[0][1:]) >= SESSIONS // 2 * 30 else [f"counted are {got}"]
+
+
+def gone(connected):
+    """A client that closes with a transaction open that others wait for."""
+    one, two = connected(), connected()
+    got = one.ask(b"begin 1\nput 1 a 1\n", 2).split()[2:]
+    two.sock.sendall(b"SET a 2\r\nGET a\r\n")
+    one.close()
+    got.append(two.ask(b"", 3))
+    two.close()
+    return differing(got, [b"ok", b"+OK\r\n$1\r\n2\r\n"])
+
+
+def clients(program, folder):
+    """What each use of a client or the relay differs in, by its name."""
+    for cases in (operations, refused, threads, deaths, killed, redis, lines, crowd):
+        room = os.path.join(folder, cases.__name__)
+        os.makedirs(room)
+        yield from cases(program, room)

@@ -1,0 +1,179 @@
+#!/usr/bin/env python3
+"""Runs a workload into a folder, joins parts, recovers a folder, and runs each test of the crates `TESTERS` that is named for it, once for each growth
+of memory that they ask for, with that growth refused. `try_programs.py` does so in the gate; by hand this prints what it saw.
+
+The run, `pcalc run --dir`, is to end whichever growth is refused: with the status 1, nothing printed and at most one fault told, or with the status 0,
+and then with all of its transactions, or with one given up and all others. So are a collapse and a recovery, which print and write all. A test's name
+ends in `at_each_refused_growth`: it asks again where memory was wanting, and wants in the end what it would have got with ample memory, so it passes
+whichever growth is refused. How many growths a run asks for goes up and down with its threads.
+
+All are programs of the gate, in out/ (`rt run` in the folder of pcalc, and `rt test` in that of each crate of tests, make them). `preload.py` builds what refuses.
+"""
+
+import os
+import re
+import shutil
+import subprocess
+import sys
+import tempfile
+from concurrent.futures import ThreadPoolExecutor
+
+if __name__ == "__main__":
+    sys.path.insert(0, os.path.join(os.path.dirname(os.path.abspath(__file__)), "..", ".."))
+
+from tools import ROOT
+from tools.cases import preload
+from tools.cases.case import written
+from tools.oracle import plain_files
+from tools.oracle.plain_store import keyed
+
+CRATES = os.path.join(ROOT, "crates")
+PROGRAM = os.path.join(CRATES, "pcalc", "out", "pcalc")
+TESTERS = ("test_locks", "test_memory", "test_memory_files", "test_growths")
+NAMES = (b"a", rb"\s7:a", b"c")
+# of each client
+COUNT = 20
+WORKLOAD = b"points 2\n" + b"".join(b"client %d\nfill %s %d x\n" % (number + 1, name, COUNT) for number, name in enumerate(NAMES))
+ALL = len(NAMES) * COUNT
+CREW = ("--workers", "3", "--collapsers", "3")
+MARK = "at_each_refused_growth"
+REFUSED = b"a growth was refused\n"
+FAULT = re.compile(rb"(pcalc: [\w.-]+: (OutOfMemory|NoThread)\n)?")
+MOST_GROWTHS = 10_000
+LANES = os.cpu_count() or 1
+SECONDS = 60
+
+
+def printed_with(given_up):
+    """What a run prints of whose transactions so many were given up."""
+    left = ALL - given_up
+    return b"commits %d\ngave up %d\npoints 2\ncollapsed 1-2 entries %d\nstate pairs %d\ncheck ok\n" % (left, given_up, left, left)
+
+
+def refused(library, number, words, folder):
+    """The status of a call in which the growth of this number is refused, what it printed and told, and whether it asked for the growth."""
+    env = {**os.environ, "LD_PRELOAD": library, "REFUSED_GROWTH": str(number)}
+    try:
+        ran = subprocess.run(words, env=env, cwd=folder, stdin=subprocess.DEVNULL, capture_output=True, timeout=SECONDS)
+    except subprocess.TimeoutExpired:
+        return None, b"", b"no end in %d s" % SECONDS, True
+    return ran.returncode, ran.stdout, ran.stderr.replace(REFUSED, b""), REFUSED in ran.stderr
+
+
+def refused_each(call):
+    """What calls give, of the first growth, the second and so on, as far as there are growths and calls end; some run side by side."""
+    with ThreadPoolExecutor(LANES) as pool:
+        for first in range(1, MOST_GROWTHS, LANES):
+            some = [(number, told) for number, told in enumerate(pool.map(call, range(first, first + LANES)), first) if told[3]]
+            yield from some
+            if len(some) < LANES or any(told[0] is None for _, told in some):
+                return
+    yield MOST_GROWTHS, (None, b"", b"no end of growths", True, False)
+
+
+class Command:
+    """Words of the program, the files that they need, what may be printed where they are done, and which file then has which text."""
+
+    def __init__(self, name, words, files, printed, output=(os.devnull, b"")):
+        self.name, self.words, self.files, self.printed, self.output = name, words, files, printed, output
+
+    def call(self, library, program, room, number):
+        """What is told where the growth of this number is refused, in a folder of its own, with whether the output is right."""
+        folder = os.path.join(room, str(number))
+        os.makedirs(os.path.join(folder, "left"))
+        for name, text in self.files.items():
+            written(folder, name, text)
+        told = refused(library, number, (program, *self.words), folder)
+        path, text = os.path.join(folder, self.output[0]), None
+        if os.path.exists(path):
+            with open(path, "rb") as it:
+                text = it.read()
+        shutil.rmtree(folder)
+        return *told, text == self.output[1]
+
+    def is_right(self, status, printed, told, is_written):
+        """Whether it has ended as it is to."""
+        if status == 0:
+            return printed in self.printed and not told and is_written
+        return status == 1 and not printed and FAULT.fullmatch(told) is not None and not (is_written and self.output[1])
+
+
+PARTS = {f"{point}.pcp": plain_files.Part(1, [(point, point)], keyed({b"a key of many letters": (point, b"%d" % point), b"b": (point, None)})) for point in (1, 2, 3)}
+# The second one is of format 01, as the base is.
+TEXTS = {name: part.text(plain_files.FIRST if name == "2.pcp" else plain_files.SECOND) for name, part in PARTS.items()}
+LOG = plain_files.Log(1)
+LOG.entries = [plain_files.commit(1, {b"another key of many letters": b"x"}, 7)]
+FOLDER = {"base.pcb": plain_files.Base(1, 0, keyed({b"c": b"a value of many letters"})).text(plain_files.FIRST), "log.pcl": LOG.text(), **TEXTS}
+WORTH = plain_files.recover(FOLDER["base.pcb"], [*TEXTS.items()], FOLDER["log.pcl"]).text()
+COMMANDS = (
+    Command("a run into a folder", ("run", "growths.pcw", "--dir", "left", *CREW), {"growths.pcw": WORKLOAD}, [printed_with(0), printed_with(1)]),
+    Command("a collapse", ("collapse", "all.pcp", *TEXTS), TEXTS, [b"points 1-3 entries 2\n"], ("all.pcp", plain_files.all_joined([*PARTS.values()]).text())),
+    Command("a recovery", ("recover", "."), FOLDER, [WORTH]),
+)
+
+
+def ended(library, program, room, command):
+    """What is wrong with the calls of a command, a line each; what was seen is printed."""
+    ends, lines = {0: 0, 1: 0}, []
+    for number, (status, printed, told, _, is_written) in refused_each(lambda number: command.call(library, program, room, number)):
+        ends[status] = ends.get(status, 0) + 1
+        if not command.is_right(status, printed, told, is_written):
+            lines.append("growth %d: status %s, printed %r, told %r, written %s" % (number, status, printed, told, is_written))
+    print("%s: %d growths, refused in turn; status 1 at %d, status 0 at %d" % (command.name, sum(ends.values()), ends[1], ends[0]), flush=True)
+    return lines if ends[1] else [*lines, "none ended with the status 1"]
+
+
+def tests_of(program):
+    """The full names of the tests that are to be run so."""
+    listed = subprocess.run([program, "--list"], capture_output=True, text=True, check=True).stdout
+    names = [line.removesuffix(": test") for line in listed.splitlines() if line.endswith(": test")]
+    return [name for name in names if name.endswith(MARK)]
+
+
+def test(library, program, room, name):
+    """What is wrong with a test, a line for each growth at which it failed; what was seen is printed."""
+    seen = [(number, status) for number, (status, *_) in refused_each(lambda number: refused(library, number, (program, name), room))]
+    print("%s: %d growths, refused in turn" % (name, len(seen)), flush=True)
+    return ["growth %d: status %s" % (number, status) for number, status in seen if status != 0] if seen else ["it asked for no growth"]
+
+
+def tests_program(tester):
+    return os.path.join(CRATES, tester, "out", f"{tester}_tests")
+
+
+def tester_growths(library, tester, room):
+    """What is wrong with the tests of a crate, by their names."""
+    try:
+        names = tests_of(tests_program(tester))
+    except (OSError, subprocess.CalledProcessError) as error:
+        yield f"{tester} has tests of growths", [str(error)]
+        return
+    yield f"{tester} has tests of growths", [] if names else [f"none has a name that ends in {MARK}"]
+    for name in names:
+        yield f"{tester} {name}", test(library, tests_program(tester), room, name)
+
+
+def growths(program=PROGRAM, testers=TESTERS):
+    """What is wrong, by the name of a case; what was seen is printed."""
+    with tempfile.TemporaryDirectory() as room:
+        try:
+            library = preload.built(room, preload.REFUSE)
+            os.stat(program)
+        except OSError as error:
+            yield "growths that are refused", [str(error)]
+            return
+        for command in COMMANDS:
+            yield f"{command.name}, each growth refused", ended(library, program, room, command)
+        for tester in testers:
+            yield from tester_growths(library, tester, room)
+
+
+def main():
+    failed = [(name, lines) for name, lines in growths() if lines]
+    for name, lines in failed:
+        print(f"{name}:", *lines, sep="\n")
+    return 1 if failed else 0
+
+
+if __name__ == "__main__":
+    sys.exit(main())

@@ -1,0 +1,286 @@
+#!/usr/bin/env python3
+"""Tries the wrong bodies that the gate doesn't: crates/*/tried/*.edit, each of which the prover must refuse.
+
+    try_bodies.py                   tries all of them
+    try_bodies.py NAME..            those of these crates
+    try_bodies.py NAME/BODY..       these alone
+    try_bodies.py --since           those of which no note is of today's text
+    try_bodies.py --list            tells of each crate how many were refused on today's text, how many notes are void, and how many bodies were never
+                                    tried; then what is to be mended; the last line has the sums
+    try_bodies.py --known           tells which bodies were refused and not tried again since the function that they change was another one; the status
+                                    is 1 where there is one; the last line has the sums
+
+They are tried on a copy of the repository, as many crates side by side as --lanes N says (one where it isn't given), once the libraries below
+them are built: bodies that change different functions in one text, by one check of these functions (tools/house/rounds.py), and the others
+one by one, by `rt must-fail`. What was refused is noted in tools/house/tried, a line for each crate, reason and date, in which a body has
+three checksums: of its own text, of the items that it changes, and of what these reach (tools/house/reach.py). A note is void once one of them
+is another one. The reason is what `rt` says of the refusal:
+
+    clause    a clause isn't proved, or a law: this alone counts as refused
+    fits      a proof no longer fits its goal, or names what is gone: it refuses the shape of the code, and the body is to be mended
+    limit     the prover gave up at each clause that it didn't prove, so it is to be mended too
+    refused   noted before reasons were, and carried over where the text had not changed: it counts as refused
+    earlier   noted on an earlier text, without these checksums: it is void
+
+A body stands here, and not in must-fail/, where another one in the gate is refused by the same clause, where it is
+neither named by a promise nor the one of a public function, or where the check that it needs is dear (docs/BENCHMARKS.md, the gate's budget).
+"""
+
+import argparse
+import collections
+import datetime
+import functools
+import glob
+import hashlib
+import os
+import re
+import shutil
+import subprocess
+import sys
+import tempfile
+from concurrent.futures import ThreadPoolExecutor
+
+if __name__ == "__main__":
+    sys.path.insert(0, os.path.join(os.path.dirname(os.path.abspath(__file__)), "..", ".."))
+
+from tools import ROOT
+from tools.house import reach, rounds
+from tools.house.gate_times import crates_of
+
+RECORD = os.path.join(ROOT, "tools", "house", "tried")
+REFUSED, MENDED = ("clause", "refused"), ("fits", "limit")
+SAID = re.compile(r"must-fail (\w+)/([\w.-]+)\.edit: refused, as it must be(.*)")
+GAVE_UP = re.compile(r"; `(?:search|grind)` gave up")
+UNPROVED = re.compile(r"it is not proved that|no proof of the law|the law does not hold|`search` did not prove")
+FIRST = "# CRATE REASON DATE: BODY:TEXT:CHANGED:REACHED.. of crates/CRATE/tried, by the checksums then; tools/house/try_bodies.py writes it, and says more.\n"
+
+
+def path_of(name, body):
+    return os.path.join(ROOT, "crates", name, "tried", f"{body}.edit")
+
+
+def bodies_of(name):
+    return sorted(os.path.basename(it).removesuffix(".edit") for it in glob.glob(path_of(name, "*")))
+
+
+def crates():
+    """The crates that have such bodies, lowest first, each with itself and all those of the repository below it."""
+    return {name: [name, *below] for name, below in crates_of().items() if bodies_of(name)}
+
+
+def edit_of(name, body):
+    with open(path_of(name, body), encoding="utf-8") as it:
+        return it.read()
+
+
+def body_sum(name, body):
+    """The checksum of what it changes: the promises that it names are no part of it."""
+    text = "".join(line for line in edit_of(name, body).splitlines(True) if not line.startswith("promise:"))
+    return hashlib.sha256(text.encode()).hexdigest()[:6]
+
+
+class Today:
+    """The three checksums of each body, on the text as it stands."""
+
+    def __init__(self):
+        self.tree = reach.tree_here()
+        self.sums = functools.cache(self.sums)
+
+    def sums(self, name, body):
+        return body_sum(name, body), *(self.tree.sums(name, edit_of(name, body)) or ("", ""))
+
+
+def reason_of(said):
+    """Why a body was refused, by what `rt` says behind `refused, as it must be`."""
+    if said.startswith(" (only by a limit") or GAVE_UP.search(said):
+        return "limit"
+    place = re.match(r": (?:note: )?(?:\./)?(\w+)/", said)
+    return "clause" if place and place[1] != "proofs" and UNPROVED.search(said) else "fits"
+
+
+class Record:
+    """What tools/house/tried says: of each body the reason, the date and the checksums of its last note."""
+
+    LINE = re.compile(r"(?m)^(\w+) (\w+) (\d{4}-\d\d-\d\d): (.+)$")
+
+    def __init__(self):
+        text = ""
+        if os.path.exists(RECORD):
+            with open(RECORD, encoding="utf-8") as it:
+                text = it.read()
+        self.notes = {}
+        for m in self.LINE.finditer(text):
+            for word in m[4].split():
+                body, *sums = word.split(":")
+                self.notes[m[1], body] = m[2], m[3], tuple(sums)
+
+    def state(self, name, body, today):
+        """`never`, or `void`, or the reason of a refusal on today's text."""
+        reason, _, sums = self.notes.get((name, body), ("never", "", ()))
+        return reason if reason == "never" or reason != "earlier" and sums == today.sums(name, body) else "void"
+
+    def is_forgotten(self, name, body, today):
+        """Whether it was refused, and what it changes is another text since."""
+        reason, _, sums = self.notes.get((name, body), ("never", "", ()))
+        return reason in REFUSED and sums[1] != today.sums(name, body)[1]
+
+    def note(self, name, body, reason, sums):
+        self.notes[name, body] = reason, str(datetime.date.today()), sums
+
+    def write(self):
+        """Writes a line for each crate, reason and date; bodies that are no more are left out."""
+        lines = {}
+        for (name, body), (reason, date, sums) in sorted(self.notes.items()):
+            if os.path.exists(path_of(name, body)):
+                lines.setdefault((name, reason, date), []).append(":".join([body, *sums]))
+        with open(RECORD, "w", encoding="utf-8") as it:
+            it.write(FIRST)
+            it.writelines(f"{name} {reason} {date}: {' '.join(bodies)}\n" for (name, reason, date), bodies in sorted(lines.items()))
+
+
+def try_alone(copy, name, bodies):
+    """The reason of each of these bodies that was refused, by `rt must-fail`."""
+    for body in bodies:
+        shutil.copy(path_of(name, body), f"{copy}/crates/{name}/must-fail/")
+    ran = subprocess.run(["rt", "must-fail", name], cwd=copy, capture_output=True, text=True)
+    return {body: reason_of(said) for crate, body, said in SAID.findall(ran.stdout) if crate == name and body in bodies}
+
+
+def try_crate(copy, name, bodies, tree, check=rounds.check):
+    """The reason of each body that was refused; those that no clause refused are printed."""
+    texts = {it: edit_of(name, it) for it in bodies}
+    functions = {it: rounds.functions_of(tree, name, texts[it]) for it in bodies}
+    told = {}
+    for together in rounds.rounds_of({it: own for it, own in functions.items() if own}):
+        told.update(rounds.try_round(rounds.Copy(f"{copy}/crates/{name}"), together, functions, texts, check))
+    alone = [it for it in bodies if it not in told]
+    if alone:
+        told.update(try_alone(copy, name, alone))
+    refused = {it: reason for it, reason in told.items() if reason != "none"}
+    count = sum(it == "clause" for it in refused.values())
+    others = [f"{name}/{it}: {refused.get(it, 'NOT REFUSED')}" for it in bodies if refused.get(it) != "clause"]
+    print(f"{name}: {count} of {len(bodies)} refused by a clause", *others, sep="\n", flush=True)
+    return refused
+
+
+def needed_by(names):
+    """The libraries below these crates, lowest first. They are built before the first body is tried, since two lanes must not build one."""
+    below = {it for name in names for it in crates_of()[name]}
+    return [it for it in crates_of() if it in below]
+
+
+def linked(one, other):
+    """Copies a file; one of a built library gets a second name, since `rt` never writes into such a file."""
+    if ".rlib/" not in one:
+        return shutil.copy2(one, other)
+    try:
+        os.link(one, other)
+    except OSError:
+        shutil.copy2(one, other)
+    return other
+
+
+def copy_in(folder):
+    """A copy of the repository, in which these crates have no body of the gate."""
+    shutil.copytree(ROOT, folder, ignore=shutil.ignore_patterns(".git"), copy_function=linked)
+    for name in crates():
+        shutil.rmtree(f"{folder}/crates/{name}/must-fail", ignore_errors=True)
+        os.makedirs(f"{folder}/crates/{name}/must-fail")
+
+
+def try_all(chosen, lanes):
+    """Tries the chosen bodies, by crate, and notes what came of each. The status is 1 where no clause refused one."""
+    today = Today()
+    with tempfile.TemporaryDirectory(prefix="tried-") as room:
+        copy = os.path.join(room, "copy")
+        copy_in(copy)
+        for name in needed_by(chosen):
+            subprocess.run(["rt", "lib"], cwd=f"{copy}/crates/{name}", check=True, capture_output=True)
+        with ThreadPoolExecutor(lanes) as pool:
+            done = dict(zip(chosen, pool.map(lambda name: try_crate(copy, name, chosen[name], today.tree), chosen)))
+    return note_all(chosen, done, today)
+
+
+def note_all(chosen, done, today):
+    """Notes the reasons of these bodies; one that wasn't refused has no note any more."""
+    record = Record()
+    for name, bodies in chosen.items():
+        for body in bodies:
+            if body in done[name]:
+                record.note(name, body, done[name][body], today.sums(name, body))
+            else:
+                record.notes.pop((name, body), None)
+    record.write()
+    return 0 if all(done[name].get(it) == "clause" for name, bodies in chosen.items() for it in bodies) else 1
+
+
+def counted(states):
+    """So many bodies by their states, in words."""
+    count = collections.Counter(states)
+    refused = sum(count[it] for it in REFUSED)
+    mended = "".join(f", {count[it]} {words}" for it, words in zip(MENDED, ("refused by the shape of a proof", "by a limit")) if count[it])
+    return f"{refused} refused on today's text ({count['clause']} seen by a clause), {count['void']} void, {count['never']} never tried{mended}"
+
+
+def sum_line(states):
+    return f"{len(states)} wrong bodies on demand: {counted(states.values())}"
+
+
+def states_today(record, today):
+    return {(name, body): record.state(name, body, today) for name in crates() for body in bodies_of(name)}
+
+
+def tell():
+    states = states_today(Record(), Today())
+    for name in crates():
+        own = [state for (crate, _), state in states.items() if crate == name]
+        print(f"{name}: {len(own)} bodies, {counted(own)}")
+    for (name, body), state in states.items():
+        if state in MENDED:
+            print(f"to be mended ({state}): {name}/{body}")
+    print(sum_line(states))
+    return 0
+
+
+def tell_known():
+    record, today = Record(), Today()
+    states = states_today(record, today)
+    forgotten = [f"{name}/{body}" for name, body in states if record.is_forgotten(name, body, today)]
+    for it in forgotten:
+        print(f"{it}: what it changes is another text than when it was refused, and it was not tried again: tools/house/try_bodies.py {it}")
+    print(sum_line(states))
+    return 1 if forgotten else 0
+
+
+def chosen_of(words, is_since):
+    """The bodies that are to be tried, by crate."""
+    known = crates()
+    chosen = {}
+    for word in words or known:
+        name, _, body = word.partition("/")
+        if body not in ["", *bodies_of(name)]:
+            sys.exit(f"no such body in tried/: {word}")
+        chosen.setdefault(name, []).extend([body] if body else bodies_of(name))
+    if is_since:
+        record, today = Record(), Today()
+        chosen = {name: [it for it in bodies if record.state(name, it, today) in ("void", "never")] for name, bodies in chosen.items()}
+    return {name: bodies for name, bodies in chosen.items() if bodies}
+
+
+def main():
+    reader = argparse.ArgumentParser(description=__doc__, formatter_class=argparse.RawDescriptionHelpFormatter)
+    reader.add_argument("names", nargs="*")
+    reader.add_argument("--since", action="store_true")
+    reader.add_argument("--list", action="store_true")
+    reader.add_argument("--known", action="store_true")
+    reader.add_argument("--lanes", type=int, default=1)
+    given = reader.parse_args()
+    if given.list:
+        return tell()
+    if given.known:
+        return tell_known()
+    return try_all(chosen_of(given.names, given.since), given.lanes)
+
+
+if __name__ == "__main__":
+    sys.exit(main())
