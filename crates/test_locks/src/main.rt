@@ -7,7 +7,7 @@
 //! requests then (1, 2 and 4 if the transactions 1, 2 and 3 wait, 8 and 16 if the slots 0 and 1 have a request).
 //!
 //! Its tests, whose names end in `at_each_refused_growth`, ask again if an allocation failed, and pass whichever growth is
-//! refused: `tools/refused_growths.py` runs each of them once for each growth that it asks for, with that growth refused.
+//! refused: `tools/cases/refused_growths.py` runs each of them once for each growth that it asks for, with that growth refused.
 #![tactic(auto)]
 
 mod counts;
