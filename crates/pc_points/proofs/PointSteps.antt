@@ -1,13 +1,17 @@
 -- The steps to a point's state are the rules.
-use Rattle.std.proofs.Common.{◌≡◌, ℕ, true, false, cond, List, [], Option, Some, Result, Ok, Err, Bor, refl, sym, ap, ◌∙◌}
+use Rattle.std.proofs.Common.{◌≡◌, ◌≢◌, ◌⊎◌, inl, inr, ℕ, Bool, true, false, cond, List, [], Option, Some, Result, Ok, Err, Bor, refl, sym, ap, ◌∙◌}
 use Rattle.std.specs.Prelude.{◌==◌, map}
 use Rattle.pc_types.specs.declared.refusal.Refusal.{Refusal}
+use Rattle.pc_types.specs.declared.refusal.Refusal.TheVariants.{OutOfMemory}
 use Rattle.pc_io.specs.Fields.{◌>>=◌}
 use Rattle.pc_model.specs.Database.{Database}
 use Rattle.pc_model.specs.Files.{BaseFile}
 use Rattle.pc_bases.specs.Reading.{base_at}
-use Rattle.pc_recover.specs.Recovery.{Recovery, IsOfRun, recovery, recovery_on, decoded_files}
-use Rattle.pc_points.specs.Points.{log_state, parts_to, point_state, state_from}
+use Rattle.pc_log.specs.Reading.{LogRead}
+use Rattle.pc_recover.specs.Recovery.{Recovery, IsOfRun, entries_after, recovery, recovery_on, decoded_files}
+use Rattle.pc_restore.specs.Recoveries.{IsRulesRefusal}
+use Rattle.pc_restore.proofs.RuleRefusals.{IsOfRules, of_rules, rules_base, rules_log_of, rules_recovery, rules_then}
+use Rattle.pc_points.specs.Points.{log_state, parts_to, point_state, state_before, state_from}
 
 module _ (n : ℕ) (base : List ℕ) (parts : List (List ℕ)) (log : List ℕ) where
   by_steps : point_state n base parts log ≡ (base_at base >>= λ b. recovery base (parts_to n parts) [] >>= λ found. state_from b.run n found log)
@@ -61,8 +65,15 @@ rules_if false a b is or = or
 
 rules_state : (n : ℕ) (base : List ℕ) (parts : List (List ℕ)) (log : List ℕ) → IsOfRules (point_state n base parts log)
 unfolding point_state
-rules_state n base parts log = rules_then _ _ (rules_base base) (λ first. rules_then _ _ (rules_recovery base (parts_to n parts) []) (λ found. rules_if _ _ _ tt (rules_then _ _ (rules_log_of first.run log) (λ read. tt))))
+rules_state n base parts log = rules_then _ _ (rules_base base) (λ first. rules_then _ _ (rules_recovery base (parts_to n parts) []) (λ found.
+    rules_if {X = Option Database} (found.point == n) (Ok (Some found.pairs)) (log_state first.run found.point n found.pairs log) tt
+    (rules_then {Y = Option Database} _ (λ (read : LogRead). Ok (state_before n found.pairs (entries_after found.point read.entries))) (rules_log_of first.run log) (λ read. tt))))
 
 -- the rules of recovery refuse with nothing else
 pub state_refused : (n : ℕ) (base : List ℕ) (parts : List (List ℕ)) (log : List ℕ) (why : Refusal) → point_state n base parts log ≡ Err why → IsRulesRefusal why
 state_refused n base parts log why is = of_rules (point_state n base parts log) why (rules_state n base parts log) is
+
+-- a refusal is a failed allocation, or it isn't
+pub memory_or : (why : Refusal) → (why ≡ OutOfMemory) ⊎ (why ≢ OutOfMemory)
+memory_or OutOfMemory = inl refl
+memory_or other = inr (λ e. cc)
