@@ -38,7 +38,7 @@ import shutil
 import subprocess
 import sys
 import tempfile
-from concurrent.futures import ThreadPoolExecutor
+from concurrent.futures import ThreadPoolExecutor, as_completed
 
 if __name__ == "__main__":
     sys.path.insert(0, os.path.join(os.path.dirname(os.path.abspath(__file__)), "..", ".."))
@@ -189,7 +189,7 @@ def copy_in(folder):
 
 
 def try_all(chosen, lanes):
-    """Tries the chosen bodies, by crate, and notes what came of each. The status is 1 where no clause refused one."""
+    """Tries the chosen bodies, by crate, and notes what came of each crate's once they are tried. The status is 1 where no clause refused one."""
     today = Today()
     with tempfile.TemporaryDirectory(prefix="tried-") as room:
         copy = os.path.join(room, "copy")
@@ -197,21 +197,21 @@ def try_all(chosen, lanes):
         for name in needed_by(chosen):
             subprocess.run(["rt", "lib"], cwd=f"{copy}/crates/{name}", check=True, capture_output=True)
         with ThreadPoolExecutor(lanes) as pool:
-            done = dict(zip(chosen, pool.map(lambda name: try_crate(copy, name, chosen[name], today.tree), chosen)))
-    return note_all(chosen, done, today)
+            runs = {pool.submit(try_crate, copy, name, chosen[name], today.tree): name for name in chosen}
+            are_refused = [note_crate(runs[it], chosen[runs[it]], it.result(), today) for it in as_completed(runs)]
+    return 0 if all(are_refused) else 1
 
 
-def note_all(chosen, done, today):
-    """Notes the reasons of these bodies; one that wasn't refused has no note any more."""
+def note_crate(name, bodies, reasons, today):
+    """Notes why these bodies of a crate were refused, and returns whether a clause refused each; one that wasn't refused has no note any more."""
     record = Record()
-    for name, bodies in chosen.items():
-        for body in bodies:
-            if body in done[name]:
-                record.note(name, body, done[name][body], today.sums(name, body))
-            else:
-                record.notes.pop((name, body), None)
+    for body in bodies:
+        if body in reasons:
+            record.note(name, body, reasons[body], today.sums(name, body))
+        else:
+            record.notes.pop((name, body), None)
     record.write()
-    return 0 if all(done[name].get(it) == "clause" for name, bodies in chosen.items() for it in bodies) else 1
+    return all(reasons.get(it) == "clause" for it in bodies)
 
 
 def counted(states):
