@@ -1,5 +1,5 @@
 -- The faults that end a run that has begun.
-use Rattle.std.proofs.Common.{◌≡◌, ◌⊎◌, inl, inr, ℕ, ◌<◌, ◌≤◌, Bool, true, false, List, [], ◌∷◌, Option, Some, None, length, length-append, refl, sym, subst, ◌∙◌, arith}
+use Rattle.std.proofs.Common.{◌≡◌, ◌⊎◌, inl, inr, ℕ, ◌<◌, ◌≤◌, Bool, true, false, List, [], ◌∷◌, ◌++◌, All, Option, Some, None, length, length-append, refl, sym, subst, ◌∙◌, arith}
 use Rattle.std.specs.Prelude.{IsTrue, ◌||◌, is_some}
 use Rattle.std.specs.List.{flat_map}
 use Rattle.pc_types.specs.declared.limits.TheConstants.{MOST_KEYS}
@@ -16,17 +16,21 @@ use Rattle.pc_jobs.specs.declared.works.Workload.{Workload}
 use Rattle.pc_texts.specs.declared.file_names.FileName.{FileName}
 use Rattle.pc_texts.proofs.StatePairLaws.{pairs_of}
 use Rattle.pc_outcomes.specs.Leaving.{IsUntoldAfter, has_point}
-use Rattle.pc_threads.specs.Clients.{clients_in, jobs_of, transactions_in}
+use Rattle.pc_shared.specs.Sitters.{Sitter, HasAll, IsEndOf}
+use Rattle.pc_threads.specs.Clients.{HaveWorked, IsFresh, clients_in, jobs_of, transactions_in}
 use Rattle.pc_threads.specs.Faults.{IsThreadsEnd, lost_file_fault}
 use Rattle.pc_threads.specs.Files.{HasWritten}
 use Rattle.pc_threads.specs.declared.fault.ThreadsFault.{ThreadsFault}
 use Rattle.pc_threads.specs.declared.fault.ThreadsFault.TheVariants as fault
+use Rattle.pc_threads.specs.declared.stop.ThreadsStop.{ThreadsStop}
+use Rattle.pc_threads.specs.declared.stop.ThreadsStop.TheVariants as stop
 use Rattle.pc_threads.specs.declared.files.FileFault.{FileFault}
 use Rattle.pc_threads.specs.declared.files.FileFault.TheVariants as lost
 use Rattle.pc_workers.specs.Covering.{HaveJustTo}
-use Rattle.pc_runs.specs.Faults.{EndsRun, IsRunRefused}
+use Rattle.pc_runs.specs.Faults.{EndsRun, IsFaultOfStop, IsRunRefused, StoreHasStopped}
 use Rattle.pc_runs.specs.Folders.{HasBegunFiles, IsLogLost}
 use Rattle.pc_runs.proofs.DealingLaws.{same_total, total}
+use Rattle.pc_runs.proofs.FullLogLaws.{fills_log}
 
 -- the clients of all workers have as many transactions as all clients
 count_is : (clients : List Client) → transactions_in clients ≡ total (λ (c : Client). length (jobs_of c)) clients
@@ -67,15 +71,23 @@ one_there false false false false x y z is = cc (is)
 
 module _ (st : Setting) (workload : Workload) (there : Bool) where
   -- a fault of the threads
-  pub of_threads : (writes : Bool) (count : ℕ) (given : ThreadsFault) → (IsTrue writes → IsTrue there) → count ≡ transactions_in workload.clients → IsThreadsEnd writes count workload.points given → EndsRun st workload there given
+  of_threads : (writes : Bool) (count : ℕ) (given : ThreadsFault) → (IsTrue writes → IsTrue there) → count ≡ transactions_in workload.clients → IsThreadsEnd writes count workload.points given → EndsRun st workload there given
   of_threads writes count (fault.Refused why.OutOfMemory) on same end = tt
   of_threads writes count (fault.Refused why.Device) on same end = on end
   of_threads writes count (fault.Refused why.Full) on same many = inr (omega (arith, same, many))
   of_threads writes count (fault.Refused why.PointsFull) on same end = end
-  of_threads writes count (fault.Refused why.LogFull) on same end = end
   of_threads writes count (fault.Refused other) on same end = absurd end
   of_threads writes count (fault.Unmade file why) on same end = on end
   of_threads writes count fault.NoThread on same end = tt
+
+  -- a stop of the threads over its store; if the log has no place left, all sessions of the store were compared
+  pub of_stop : {N : Type 0} (writes : Bool) (idle : List Sitter) (clients : List Client) (given : ThreadsStop N) (why : ThreadsFault) → (IsTrue writes → IsTrue there) → transactions_in clients ≡ transactions_in workload.clients → All IsFresh idle
+      → ((given_up : ℕ) (ran : List Sitter) → HaveWorked st clients given_up ran → HasAll st.sessions (idle ++ ran)) → IsFaultOfStop st given why → StoreHasStopped st writes idle clients workload.points given → EndsRun st workload there why
+  of_stop writes idle clients (stop.LogFull full all) why on same fresh back (is, history, end) (has, ran, sessions, have) =
+      let whole : IsEndOf st (idle ++ ran) full.seat full.seen history = subst (λ (ss : List Sitter). IsEndOf st ss full.seat full.seen history) sessions end in
+      let fills = fills_log st workload.points full clients all.given_up idle ran history has whole have fresh (back all.given_up ran have) in
+      subst (EndsRun st workload there) (sym is) (omega (arith, fills, same))
+  of_stop writes idle clients (stop.Other given) why on same fresh back is end = subst (EndsRun st workload there) (sym is) (of_threads writes (transactions_in clients) given on same end)
 
   pub memory_ends : (given : ThreadsFault) → given ≡ fault.Refused why.OutOfMemory → EndsRun st workload there given
   memory_ends given is = subst (EndsRun st workload there) (sym is) tt

@@ -3,7 +3,9 @@ mod HistoryLaws
 pub mod NewPasses
 mod CommitLaws
 mod DealingLaws
+mod FullLogLaws
 mod FaultLaws
 mod SeatingLaws
 mod WorkLaws
 mod FolderLaws
+mod StopLaws

@@ -26,7 +26,7 @@ module _ (st : Setting) (h : History) where
   same_left (c ∷ clients) = ap (λ n. left_of c + n) (same_left clients)
 
   -- the commits of the session are those of its receipts
-  committed : (s : Sitter) → IsSitterSettled st h s → commits_of s.number (log_of h) ≡ written_in s.receipts
+  pub committed : (s : Sitter) → IsSitterSettled st h s → commits_of s.number (log_of h) ≡ written_in s.receipts
   committed s settled = receipts_are_commits s.number h ∙ ap written_in (sym settled.own)
 
   -- a client that has worked
@@ -78,7 +78,7 @@ module _ (st : Setting) (h : History) where
       by true is rest = refl
       by false is rest = rest is
 
-  back : (P : Sitter → Type 0) (xs ys : List Sitter) → All P (xs ++ ys) → All P ys
+  pub back : (P : Sitter → Type 0) (xs ys : List Sitter) → All P (xs ++ ys) → All P ys
   back P [] ys has = has
   back P (x ∷ xs) ys has = back P xs ys (All-tail P x (xs ++ ys) has)
 

@@ -8,15 +8,14 @@ ghost use Rattle.pc_board.specs.Passes.{IsOfBoard};
 ghost use Rattle.pc_outcomes.specs.Leaving.{AreLeftAfter, IsLegacy, IsUntoldAfter, commits_in};
 ghost use Rattle.pc_shared.specs.Sitters.{Sitter, new_sitters};
 ghost use Rattle.pc_shared.specs.Written.{CountsAsOut};
-ghost use Rattle.pc_threads.specs.Clients.{HaveSeats, HaveWorked, clients_in, transactions_in};
-ghost use Rattle.pc_threads.specs.Faults.{IsThreadsEnd};
+ghost use Rattle.pc_threads.specs.Clients.{HaveSeats, HaveWorked, clients_in};
 ghost use Rattle.pc_threads.specs.declared.fault.ThreadsFault.TheVariants as ThreadsFault;
 ghost use Rattle.pc_workers.specs.Checkpointing.{HasCycled};
 ghost use Rattle.pc_workers.specs.Covering.{HaveOnlyTo, HaveJustTo};
 ghost use Rattle.pc_workers.specs.Logging.{rest_text};
 ghost use Rattle.pc_threads.specs.Files.{HasWritten};
 ghost use Rattle.pc_threads.specs.Logs.{HasLogged};
-ghost use Rattle.pc_runs.specs.Faults.{EndsRun};
+ghost use Rattle.pc_runs.specs.Faults.{EndsRun, IsFaultOfStop, IsStopWithIdle, StoreHasStopped};
 ghost use Rattle.pc_runs.specs.Folders.{HasBegunFiles, HasFinished, IsLogLost, base_of};
 ghost use Rattle.pc_runs.specs.Runs.{IsWorkloadRun};
 
@@ -30,11 +29,11 @@ use pc_outcomes::{RunReport, StoreReport, commits_in, left_by};
 use pc_shared::{CheckpointerSeat, Closed, Opened, PartTicket, Session, Shared};
 use pc_texts::FileName;
 use pc_threads::{
-    FileFault, Logger, NewFiles, Ran, Rested, Room, Seating, ThreadsFault, Worked, Written,
-    finish_file, hands_of, run_threads, seat_workers,
+    FileFault, FullLog, Logger, NewFiles, Ran, Rested, Room, Seating, ThreadsFault, ThreadsStop,
+    Worked, Written, finish_file, hands_of, run_threads, seat_workers,
 };
 use pc_tie::StoreName;
-use pc_types::Gate;
+use pc_types::{Gate, Refusal};
 use pc_workers::{ClientGate, log_rest, with_missing_points};
 use std::alloc::{AllocError, Global};
 use std::hash::RandomState;
@@ -98,6 +97,41 @@ fn take_back<N: StoreName, D: Drop, R: Wait>(
     })
 }
 
+// Why the threads have stopped, with the idle sessions beside those of the clients, if the log has no place left.
+fn with_idle<N: StoreName>(stop: ThreadsStop<N>, idle: Vec<Session<N>>) -> ThreadsStop<N>
+    ensures { IsStopWithIdle stop idle.items result }
+{
+    match stop {
+        ThreadsStop::LogFull(full, ran) => {
+            let Ran {
+                sessions: mut busy,
+                given_up,
+            } = ran;
+            let mut sessions = idle;
+            match sessions.append(&mut busy) {
+                Ok(()) => ThreadsStop::LogFull(full, Ran { sessions, given_up }),
+                Err(_) => ThreadsStop::Other(ThreadsFault::Refused(Refusal::OutOfMemory)),
+            }
+        }
+        ThreadsStop::Other(why) => ThreadsStop::Other(why),
+    }
+}
+
+// The fault of the run: if the log has no place left, after a comparison of what all sessions and the checkpointer have seen with
+// the store's history.
+fn fault_of<N: StoreName>(shared: Shared<N>, stop: ThreadsStop<N>) -> ThreadsFault
+    ensures { IsFaultOfStop N.name.setting stop result }
+{
+    match stop {
+        ThreadsStop::LogFull(full, ran) => {
+            let FullLog { seat, seen } = full;
+            shared.settle(ran.sessions, seat, seen);
+            ThreadsFault::Refused(Refusal::LogFull)
+        }
+        ThreadsStop::Other(why) => why,
+    }
+}
+
 // Runs the threads over the store.
 fn use_store<
     N: StoreName + Send + Sync,
@@ -115,7 +149,7 @@ fn use_store<
     folder: Option<D>,
     every: u32,
     logger: Logger<N, F>,
-) -> Result<(EndedStore<N, D>, Written<N, F>), ThreadsFault>
+) -> Result<(EndedStore<N, D>, Written<N, F>), ThreadsStop<N>>
     requires fresh { seat ≡ [] }
     requires some { 0 < length passes.items }
     requires few { length passes.items ≤ MOST_PASSES }
@@ -125,11 +159,14 @@ fn use_store<
     ensures cover { IfOk result (λ r. HaveJustTo room.now.points r.0.joined.items) }
     ensures written { IfOk result (λ r. HasWritten D.holds room.now.points folder r.0.folder r.0.written.items) }
     ensures logged { IfOk result (λ r. HasLogged F.contents N.name.setting.run logger.out r.1.out r.1.pass) }
-    ensures ended { IfErr result (IsThreadsEnd (is_some room.now.lag || is_some folder || is_some logger.out) (transactions_in (clients_in seating.workers.items)) room.now.points) }
+    ensures ended { IfErr result (StoreHasStopped N.name.setting (is_some room.now.lag || is_some folder || is_some logger.out) seating.idle.items (clients_in seating.workers.items) room.now.points) }
 {
     let Seating { workers, idle } = seating;
     let hands = hands_of(room.alloc, board, passes, workers, seat, folder, every)?;
-    let (rested, written) = run_threads(rt, room, hands, logger)?;
+    let (rested, written) = match run_threads(rt, room, hands, logger) {
+        Ok(done) => done,
+        Err(stop) => return Err(with_idle(stop, idle)),
+    };
     let ended = take_back(rt, room.shared, room.points, idle, rested)?;
     Ok((ended, written))
 }
@@ -193,9 +230,12 @@ pub fn run_store<
         working: &working,
     };
     let logger = Logger { pass, out: log };
-    let (ended, logged) = use_store(
+    let (ended, logged) = match use_store(
         rt, &room, seating, seat, &board, passes, folder, every, logger,
-    )?;
+    ) {
+        Ok(used) => used,
+        Err(stop) => return Err(fault_of(shared, stop)),
+    };
     let EndedStore {
         sessions,
         given_up,

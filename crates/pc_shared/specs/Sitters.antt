@@ -7,7 +7,7 @@ use Rattle.pc_model.specs.History.{History, log_of, is_open}
 use Rattle.pc_model.specs.Files.{BaseFile, File}
 use Rattle.pc_model.specs.Standing.{IsOfItsPoints}
 use Rattle.pc_model.specs.Replies.{Setting, IsLegalHistory}
-use Rattle.pc_model.specs.Calls.{HasCallsOf}
+use Rattle.pc_model.specs.Calls.{HasCallsOf, IsBeginning}
 use Rattle.pc_model.specs.Receipts.{Read, own_of, AreExact}
 use Rattle.pc_txn.specs.Commits.{CommitNote, notes_of}
 use Rattle.pc_tie.specs.declared.sight.Sitting.{Sitting}
@@ -81,3 +81,11 @@ pub record IsLeftByStore (st : Setting) (start : BaseFile) (log : List Entry) (l
   pub worth : All (IsOfItsPoints st.run st.base log) parts
   pub list : given ≡ take logged log
   pub within : logged ≤ length log
+
+-- What a store was at its end, by one legal history: each of these sessions has seen a beginning of it with just its calls, and has
+-- exact receipts; the checkpointer too has seen one with just its calls; and a witness has seen a beginning of it.
+pub record IsEndOf (st : Setting) (sessions : List Sitter) (checkpointer witness : History) (history : History) : Type 0 where
+  pub legal : IsLegalHistory st history
+  pub settled : All (IsSitterSettled st history) sessions
+  pub cycles : HasCallsOf history 0 checkpointer
+  pub had_seen : IsBeginning witness history

@@ -8,7 +8,7 @@ ghost use Rattle.pc_kept_log.specs.Logs.{entries_of};
 ghost use Rattle.pc_engine.specs.Stands.{Stands};
 ghost use Rattle.pc_engine.specs.Store.{setting_of};
 ghost use Rattle.pc_tie.specs.Seats.{IsSession, IsFrontOf, NoTwoAlike};
-ghost use Rattle.pc_shared.specs.Sitters.{sitting_of, IsSeated, IsSitterSettled, AreSittersApart, has_sitter, HasAll, LacksOne};
+ghost use Rattle.pc_shared.specs.Sitters.{sitting_of, IsEndOf, IsSeated, IsSitterSettled, AreSittersApart, has_sitter, HasAll, LacksOne};
 ghost use Rattle.pc_shared.specs.Lent.{receipt_at, AreLentBy};
 
 use crate::session::{LentReceipt, Session};
@@ -16,7 +16,7 @@ use pc_bases::Base;
 use pc_engine::World;
 use pc_kept_log::Log;
 use pc_latch::{Latched, LogPass, PartTicket, renew_tickets};
-use pc_tie::{CheckpointerSeat, Keeper, StoreName, Tie};
+use pc_tie::{CheckpointerSeat, Keeper, StoreName, Tie, Witness};
 
 /// The remains of a store that was closed.
 #[derive(Drop)]
@@ -146,4 +146,23 @@ pub(crate) fn close<N: StoreName>(
         parts: tickets,
         all,
     }
+}
+
+// Compares the history with those that the sessions, the checkpointer and the witness have seen.
+pub(crate) fn settle<N: StoreName>(
+    tie: &Tie<N>,
+    latched: Latched<N>,
+    sessions: Vec<Session<N>>,
+    checkpointer: CheckpointerSeat<N>,
+    witness: Witness<N>,
+)
+    ensures { IsEndOf N.name.setting sessions.items checkpointer witness latched }
+{
+    let (_world, mut keeper) = latched.into_parts();
+    let mut checkpointer = checkpointer;
+    keeper.compare_own(tie, &mut checkpointer);
+    let mut witness = witness;
+    keeper.renew(tie, &mut witness);
+    let mut sessions = sessions;
+    compare_all(tie, &mut keeper, &mut sessions);
 }

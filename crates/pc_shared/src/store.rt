@@ -16,10 +16,10 @@ ghost use Rattle.pc_model.specs.Sets as set;
 ghost use Rattle.pc_latch.specs.Tickets.{HasNoFile, IsNoTicket};
 ghost use Rattle.pc_shared.specs.Advances.{EndsWithAdvance};
 ghost use Rattle.pc_shared.specs.Granted.{HasGranted};
-ghost use Rattle.pc_shared.specs.Sitters.{new_sitters, IsLeftByStore, AreSittersApart, HasAll, LacksOne};
+ghost use Rattle.pc_shared.specs.Sitters.{new_sitters, IsEndOf, IsLeftByStore, AreSittersApart, HasAll, LacksOne};
 ghost use Rattle.pc_waiting.specs.Waking.{none_wait, woken_by, waits_after_reply};
 
-use crate::closing::{Closed, close};
+use crate::closing::{Closed, close, settle};
 use crate::logged::{LastEntry, LogBatch, Logged};
 use crate::session::Session;
 use crate::written::Written;
@@ -403,6 +403,22 @@ impl<N: StoreName> Shared<N> {
         } = self;
         let UnderLatch { latched, waits: _ } = latch.into_inner();
         close(&tie, count, latched, sessions, checkpointer, tickets, pass)
+    }
+
+    /// Ends the store, of which nothing is left but this: by one legal history, each session handed in has seen a beginning of it
+    /// with all of its own calls, and its receipts are exact; the checkpointer too has seen a beginning with all of its calls; and
+    /// the witness has seen a beginning. It allocates nothing.
+    pub fn settle(
+        self,
+        sessions: Vec<Session<N>>,
+        checkpointer: CheckpointerSeat<N>,
+        witness: Witness<N>,
+    )
+        ensures { (h : History) × IsEndOf N.name.setting sessions.items checkpointer witness h }
+    {
+        let Shared { tie, latch, .. } = self;
+        let UnderLatch { latched, waits: _ } = latch.into_inner();
+        settle(&tie, latched, sessions, checkpointer, witness);
     }
 
     /// A ticket of the shelf's file of this number, which is the file of the point of this number, for the checkpointer, which

@@ -6,3 +6,4 @@ pub mod SeatLaws
 pub mod FileLaws
 mod Numbering
 mod PointLaws
+mod PointStopLaws

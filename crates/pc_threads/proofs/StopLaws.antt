@@ -22,7 +22,9 @@ use Rattle.pc_threads.specs.Clients.{HasDone, ClientHasStopped, HaveStopped, Hav
 use Rattle.pc_threads.specs.declared.files.FileFault.{FileFault}
 use Rattle.pc_threads.specs.declared.files.FileFault.TheVariants as lost
 use Rattle.pc_threads.specs.declared.threads.LogFault.{LogFault}
-use Rattle.pc_threads.specs.Faults.{IsThreadsEnd, IsStop, LogHasStopped, lost_file_fault}
+use Rattle.pc_threads.specs.Faults.{IsThreadsEnd, IsStop, LogHasStopped, ThreadsHaveStopped, lost_file_fault}
+use Rattle.pc_threads.specs.declared.stop.ThreadsStop.{ThreadsStop}
+use Rattle.pc_threads.specs.declared.stop.ThreadsStop.TheVariants as stop
 
 -- at most as many are given up as there are
 pub at_most : (way : ℕ → List Bool → History → History → Type 0) (jobs : List Job) (given_up : ℕ) (old new : Sitter) → HasDone way jobs given_up old new → given_up ≤ length jobs
@@ -109,7 +111,6 @@ wider_stop a b m n p q why.OutOfMemory on low few stop = tt
 wider_stop a b m n p q why.Device on low few stop = on stop
 wider_stop a b m n p q why.Full on low few stop = omega (arith, low, stop)
 wider_stop a b m n p q why.PointsFull on low few stop = omega (arith, few, stop)
-wider_stop a b m n p q why.LogFull on low few stop = omega (arith, few, stop)
 wider_stop a b m n p q other on low few stop = absurd stop
 
 pub more_end : (a b : Bool) (m n p q : ℕ) (given : ThreadsFault) → (IsTrue a → IsTrue b) → m ≤ n → p ≤ q → IsThreadsEnd a m p given → IsThreadsEnd b n q given
@@ -162,15 +163,12 @@ right_true false b is = is
 
 -- ---- why the other threads stop
 
--- why the checkpointer stops, which takes some of the points
-pub point_ends : (has_log there : Bool) (n some points : ℕ) (given : ThreadsFault) → some ≤ points → IsThreadsEnd there 0 some given → IsThreadsEnd (has_log || there) n points given
-point_ends has_log there n some points given low end = more_end there (has_log || there) 0 n some points given (right_true has_log there) (omega arith) low end
+-- a fault that stops some of the threads stops the run
+pub more_stop_of : {N : Type 0} (st : Setting) (a b : Bool) (clients : List Client) (points : ℕ) (given : ThreadsStop N) → (IsTrue a → IsTrue b) → ThreadsHaveStopped st a clients points given → ThreadsHaveStopped st b clients points given
+more_stop_of st a b clients points (stop.LogFull full ran) on stopped = stopped
+more_stop_of st a b clients points (stop.Other why) on end = more_end a b (transactions_in clients) (transactions_in clients) points points why on (omega arith) (omega arith) end
 
--- a cause that stops the hands of a run stops the whole run
-pub hands_end : (hands out : Bool) (n points : ℕ) (given : ThreadsFault) → IsThreadsEnd hands n points given → IsThreadsEnd (hands || out) n points given
-hands_end hands out n points given end = more_end hands (hands || out) n n points points given (left_true hands out) (omega arith) (omega arith) end
-
--- and so does a cause that stops the logger
+-- why the logger stops
 pub logger_ends : {T : Type 0} (hands : Bool) (log : Option (Tally T)) (n points : ℕ) (stop : LogFault T) → LogHasStopped log stop → IsStop (hands || is_some log) n points stop.why
 logger_ends hands None n points stop stopped = absurd stopped
 logger_ends hands (Some log) n points stop (inl memory) = memory_stops (hands || true) n points stop.why memory

@@ -1,19 +1,28 @@
 -- The faults that end a run before its end.
-use Rattle.std.specs.Prelude.{◌≡◌, ◌⊎◌, ◌≤◌, ◌<◌, ◌^◌, ⊤, ℕ, Bool, IsTrue, Option, Some, None}
+use Rattle.std.specs.Prelude.{◌≡◌, ◌≢◌, ◌⊎◌, ◌≤◌, ◌<◌, ◌^◌, ◌*◌, ⊤, ℕ, Bool, IsTrue, List, Option, Some, None, length}
 use Rattle.pc_io.specs.Counted.{HasRisen}
 use Rattle.pc_types.specs.declared.limits.TheConstants.{MOST_POINTS}
 use Rattle.pc_types.specs.declared.refusal.Refusal.{Refusal}
 use Rattle.pc_types.specs.declared.refusal.Refusal.TheVariants as refusal
 use Rattle.pc_io.specs.declared.tally.Tally.{Tally}
-use Rattle.pc_model.specs.Calls.{IsBeginning}
 use Rattle.pc_model.specs.History.{History}
 use Rattle.pc_model.specs.Replies.{Setting, IsLegalHistory, log_is_full}
+use Rattle.pc_jobs.specs.declared.works.Client.{Client}
+use Rattle.pc_latch.specs.Cycles.{phases_entered}
+use Rattle.pc_workers.specs.declared.checkpointing.CheckpointFault.{CheckpointFault}
 use Rattle.pc_texts.specs.declared.file_names.FileName.{FileName}
 use Rattle.pc_threads.specs.declared.fault.ThreadsFault.{ThreadsFault}
 use Rattle.pc_threads.specs.declared.fault.ThreadsFault.TheVariants as fault
 use Rattle.pc_threads.specs.declared.files.FileFault.{FileFault}
 use Rattle.pc_threads.specs.declared.files.FileFault.TheVariants as lost
+use Rattle.pc_threads.specs.Clients.{HaveWorked, transactions_in}
+use Rattle.pc_threads.specs.declared.clients.Ran.{Ran}
+use Rattle.pc_threads.specs.declared.points.FullLog.{FullLog}
 use Rattle.pc_threads.specs.declared.points.PointsFault.{PointsFault}
+use Rattle.pc_threads.specs.declared.points.PointsFault.TheVariants as points
+use Rattle.pc_threads.specs.declared.points.TheConstants.{TOKENS}
+use Rattle.pc_threads.specs.declared.stop.ThreadsStop.{ThreadsStop}
+use Rattle.pc_threads.specs.declared.stop.ThreadsStop.TheVariants as stop
 use Rattle.pc_threads.specs.declared.threads.LogFault.{LogFault}
 
 -- The file of this name can't be made; or the device failed in a call of the file, which is returned: more of its calls have failed
@@ -33,20 +42,14 @@ abbrev pub LogHasStopped : {T : Type 0} → Option (Tally T) → LogFault T → 
 LogHasStopped None stop = ⊥
 LogHasStopped (Some log) stop = (stop.why ≡ refusal.OutOfMemory) ⊎ ((stop.why ≡ refusal.Device) × HasRisen log.failures stop.out.failures)
 
--- a witness has seen a legal history that begins with this one, and whose log has no place left
-abbrev pub ShowsLogFull : Setting → History → Option History → Type 0
-ShowsLogFull st first None = ⊥
-ShowsLogFull st first (Some shown) = IsLegalHistory st shown × IsBeginning first shown × IsTrue (log_is_full shown)
-
 -- Why one of the threads of a run has stopped, if files are written or not, there are this many transactions, and this many points
--- are due: an allocation failed; a file that is written was lost; more transactions were given up than 64 bits can count; more
--- points are due than there can be; or, if points are due, the log has no place left.
+-- are due, but for a log without a place left: an allocation failed; a file that is written was lost; more transactions were given
+-- up than 64 bits can count; or more points are due than there can be.
 abbrev pub IsStop : Bool → ℕ → ℕ → Refusal → Type 0
 IsStop writes transactions points refusal.OutOfMemory = ⊤
 IsStop writes transactions points refusal.Device = IsTrue writes
 IsStop writes transactions points refusal.Full = 2 ^ 64 ≤ transactions
 IsStop writes transactions points refusal.PointsFull = MOST_POINTS < points
-IsStop writes transactions points refusal.LogFull = 0 < points
 IsStop writes transactions points other = ⊥
 
 -- the fault of the run: besides those, a file can't be made, if files are written, or a thread can't be started
@@ -55,8 +58,30 @@ IsThreadsEnd writes transactions points (fault.Refused why) = IsStop writes tran
 IsThreadsEnd writes transactions points (fault.Unmade file why) = IsTrue writes
 IsThreadsEnd writes transactions points fault.NoThread = ⊤
 
--- Why the points up to this one are not all taken, if files are written or not, by a checkpointer that had seen this history: one
--- of these; and if the log has no place left, with a witness that proves it.
-pub record PointsHaveStopped {N : Type 0} (st : Setting) (writes : Bool) (first : History) (points : ℕ) (stop : PointsFault N) : Type 0 where
-  pub ends : IsThreadsEnd writes 0 points stop.why
-  pub shown : stop.why ≡ fault.Refused refusal.LogFull → ShowsLogFull st first stop.seen
+-- The log has no place left while the points up to this one were taken: a witness has seen a legal history whose log has none, and
+-- the checkpointer has entered at most the phases of this many points' cycles.
+pub record HasFullLog {N : Type 0} (st : Setting) (points : ℕ) (full : FullLog N) : Type 0 where
+  pub legal : IsLegalHistory st full.seen
+  pub is_full : IsTrue (log_is_full full.seen)
+  pub phases : length (phases_entered full.seat) ≤ TOKENS * points
+
+-- the fault of the points, after this refusal to the checkpointer of a seat that has seen this history
+abbrev pub IsFaultOf : {N : Type 0} → CheckpointFault N → History → PointsFault N → Type 0
+IsFaultOf stop seat (points.LogFull full) = (stop.why ≡ refusal.LogFull) × (full.seat ≡ seat) × (full.seen ≡ stop.seen)
+IsFaultOf stop seat (points.Other why) = (stop.why ≢ refusal.LogFull) × (why ≡ fault.Refused stop.why)
+
+-- Why the points up to this one are not all taken, if files are written or not: the log has no place left, or one of the faults above.
+abbrev pub PointsHaveStopped : {N : Type 0} → Setting → Bool → ℕ → PointsFault N → Type 0
+PointsHaveStopped st writes last (points.LogFull full) = HasFullLog st last full
+PointsHaveStopped st writes last (points.Other why) = IsThreadsEnd writes 0 last why
+
+-- the stop of the threads that a fault of the points is, once these clients have run
+abbrev pub stop_of : {N : Type 0} → PointsFault N → Ran N → ThreadsStop N
+stop_of (points.LogFull full) ran = stop.LogFull full ran
+stop_of (points.Other why) ran = stop.Other why
+
+-- Why the threads of a run with these clients and this many points have stopped before its end: the log has no place left, and the
+-- clients have run, each as its session; or one of the faults above.
+abbrev pub ThreadsHaveStopped : {N : Type 0} → Setting → Bool → List Client → ℕ → ThreadsStop N → Type 0
+ThreadsHaveStopped st writes clients last (stop.LogFull full ran) = HasFullLog st last full × HaveWorked st clients ran.given_up ran.sessions.items
+ThreadsHaveStopped st writes clients last (stop.Other why) = IsThreadsEnd writes (transactions_in clients) last why

@@ -5,7 +5,7 @@ ghost use Rattle.pc_types.specs.declared.limits.TheConstants.{MOST_POINTS};
 ghost use Rattle.pc_model.specs.History.{History, phase_of};
 ghost use Rattle.pc_workers.specs.Checkpointing.{HasCycled};
 ghost use Rattle.pc_texts.specs.declared.file_names.FileName.TheVariants as file;
-ghost use Rattle.pc_threads.specs.Faults.{IsThreadsEnd, PointsHaveStopped};
+ghost use Rattle.pc_threads.specs.Faults.{IsFaultOf, IsThreadsEnd, PointsHaveStopped};
 ghost use Rattle.pc_threads.specs.Files.{HasParts, HasWritten};
 
 use crate::fault::ThreadsFault;
@@ -32,50 +32,44 @@ pub struct Checkpointer<'a, N: StoreName, D> {
     pub written: Vec<PartTicket<N>>,
 }
 
-/// Why the points of a run are not all taken; if the store has refused one, with the witness that came with the refusal.
+/// The checkpointer's seat at a store whose log has no place left, and a witness that has seen that.
 #[derive(Drop)]
-pub(crate) struct PointsFault<N: StoreName> {
-    pub(crate) why: ThreadsFault,
-    pub(crate) seen: Option<Witness<N>>,
+pub struct FullLog<N: StoreName> {
+    pub seat: CheckpointerSeat<N>,
+    pub seen: Witness<N>,
 }
 
-impl<N: StoreName> From<CheckpointFault<N>> for PointsFault<N> {
-    ghost use Rattle.std.specs.Prelude.{◌≡◌, Some};
-    ghost use Rattle.pc_threads.specs.declared.fault.ThreadsFault.TheVariants.{Refused};
-
-    ghost from_gives = { λ stop fault. (fault.why ≡ Refused stop.why) × (fault.seen ≡ Some stop.seen) };
-
-    fn from(stop: CheckpointFault<N>) -> PointsFault<N> {
-        let CheckpointFault { why, seen } = stop;
-        PointsFault {
-            why: ThreadsFault::Refused(why),
-            seen: Some(seen),
-        }
-    }
+/// Why the points of a run are not all taken: the log has no place left, or another fault.
+#[derive(Drop)]
+pub(crate) enum PointsFault<N: StoreName> {
+    LogFull(FullLog<N>),
+    Other(ThreadsFault),
 }
 
 impl<N: StoreName> From<ThreadsFault> for PointsFault<N> {
     ghost use Rattle.std.specs.Prelude.{◌≡◌};
+    ghost use Rattle.pc_threads.specs.declared.points.PointsFault.TheVariants.{Other};
 
-    ghost from_gives = { λ why fault. fault.why ≡ why };
+    ghost from_gives = { λ why fault. fault ≡ Other why };
 
     fn from(why: ThreadsFault) -> PointsFault<N> {
-        PointsFault { why, seen: None }
+        PointsFault::Other(why)
     }
 }
 
-impl<N: StoreName> From<PointsFault<N>> for ThreadsFault {
-    ghost use Rattle.std.specs.Prelude.{◌≡◌};
-
-    ghost from_gives = { λ stop fault. fault ≡ stop.why };
-
-    fn from(stop: PointsFault<N>) -> ThreadsFault {
-        stop.why
+// The fault of points that are not all taken, after a refusal to the checkpointer of this seat.
+fn fault_of<N: StoreName>(stop: CheckpointFault<N>, seat: CheckpointerSeat<N>) -> PointsFault<N>
+    ensures { IsFaultOf stop seat result }
+{
+    let CheckpointFault { why, seen } = stop;
+    match why {
+        Refusal::LogFull => PointsFault::LogFull(FullLog { seat, seen }),
+        other => PointsFault::Other(ThreadsFault::Refused(other)),
     }
 }
 
-// The number of log entries that a point's cycle makes: one for each change of the phase.
-const TOKENS: u32 = 5;
+/// The number of log entries that a point's cycle makes: one for each change of the phase.
+pub const TOKENS: u32 = 5;
 
 // Writes the file of the point, which is the next one, to the folder.
 fn write_point<N: StoreName, F: Write + Drop, D: NewFiles<F>, G: Gate, R: Wait>(
@@ -126,7 +120,7 @@ impl<'a, N: StoreName, D: Drop> Checkpointer<'a, N, D> {
         ensures cycle { IfOk result (λ later. HasCycled N.name.setting 1 self.entry.at_store later.at_store) }
         ensures written { (first : Option D) (before : ℕ) → before + 1 ≡ point → HasWritten D.holds before first self.entry.folder self.entry.written.items → IfOk result (λ later. HasWritten D.holds point first later.folder later.written.items) }
         ensures there { IfOk result (λ later. is_some later.folder ≡ is_some self.entry.folder) }
-        ensures ended { (before : ℕ) → before + 1 ≡ point → point ≤ MOST_POINTS → HasCycled N.name.setting before [] self.entry.at_store → IfErr result (PointsHaveStopped N.name.setting (is_some self.entry.folder) self.entry.at_store point) }
+        ensures ended { (before : ℕ) → before + 1 ≡ point → point ≤ MOST_POINTS → HasCycled N.name.setting before [] self.entry.at_store → IfErr result (PointsHaveStopped N.name.setting (is_some self.entry.folder) point) }
     {
         let Checkpointer {
             mut at_store,
@@ -137,7 +131,7 @@ impl<'a, N: StoreName, D: Drop> Checkpointer<'a, N, D> {
             mut written,
         } = self;
         let Seat { board, mut pass } = at_board;
-        checkpoint_loop(
+        if let Err(stop) = checkpoint_loop(
             rt,
             room.shared,
             &mut at_store,
@@ -145,7 +139,9 @@ impl<'a, N: StoreName, D: Drop> Checkpointer<'a, N, D> {
             &mut pass,
             1,
             room.gate,
-        )?;
+        ) {
+            return Err(fault_of(stop, at_store));
+        }
         let folder = match folder {
             Some(mut folder) => {
                 write_point(rt, room, &mut at_store, &mut folder, &mut written, point)?;
@@ -187,12 +183,12 @@ pub(crate) fn take_points<
     ensures cycles { (first : History) → HasCycled N.name.setting taken first checkpointer.entry.at_store → IfOk result (λ later. HasCycled N.name.setting last first later.at_store) }
     ensures written { (first : Option D) → HasWritten D.holds taken first checkpointer.entry.folder checkpointer.entry.written.items → IfOk result (λ later. HasWritten D.holds last first later.folder later.written.items) }
     ensures there { IfOk result (λ later. is_some later.folder ≡ is_some checkpointer.entry.folder) }
-    ensures ended { HasCycled N.name.setting taken [] checkpointer.entry.at_store → IfErr result (PointsHaveStopped N.name.setting (is_some checkpointer.entry.folder) checkpointer.entry.at_store last) }
+    ensures ended { HasCycled N.name.setting taken [] checkpointer.entry.at_store → IfErr result (PointsHaveStopped N.name.setting (is_some checkpointer.entry.folder) last) }
 {
     let mut checkpointer = checkpointer;
     for others in taken..last {
         let Ok(point) = u16::try_from(others + 1) else {
-            return Err(PointsFault::from(ThreadsFault::Refused(Refusal::PointsFull)));
+            return Err(PointsFault::Other(ThreadsFault::Refused(Refusal::PointsFull)));
         };
         checkpointer.await_commits(rt, room);
         checkpointer = checkpointer.take(rt, room, Point(point))?;

@@ -6,7 +6,7 @@ ghost use Rattle.pc_model.specs.History.{phase_of};
 ghost use Rattle.pc_shared.specs.Written.{CountsAsOut};
 ghost use Rattle.pc_workers.specs.Covering.{HaveOnlyTo};
 ghost use Rattle.pc_threads.specs.Clients.{HaveWorked, clients_in, transactions_in};
-ghost use Rattle.pc_threads.specs.Faults.{IsThreadsEnd, LogHasStopped};
+ghost use Rattle.pc_threads.specs.Faults.{IsThreadsEnd, LogHasStopped, ThreadsHaveStopped};
 ghost use Rattle.pc_threads.specs.Logs.{HasLogged};
 ghost use Rattle.pc_threads.specs.Rested.{IsLeftByHands, IsLeftByWorkers};
 
@@ -16,6 +16,7 @@ use crate::files::NewFiles;
 use crate::hands::{Collapser, Hands, Seat};
 use crate::points::{Checkpointer, take_points};
 use crate::room::Room;
+use crate::stop::ThreadsStop;
 use pc_board::{Board, BoardPass};
 use pc_io::Tally;
 use pc_shared::{CheckpointerSeat, LogPass, PartTicket, Shared, Witness};
@@ -67,14 +68,15 @@ pub(crate) struct LogFault<F: Write> {
     pub(crate) out: Tally<F>,
 }
 
-impl<F: Write + Drop> From<LogFault<F>> for ThreadsFault {
+impl<N: StoreName, F: Write + Drop> From<LogFault<F>> for ThreadsStop<N> {
     ghost use Rattle.std.specs.Prelude.{◌≡◌};
     ghost use Rattle.pc_threads.specs.declared.fault.ThreadsFault.TheVariants.{Refused};
+    ghost use Rattle.pc_threads.specs.declared.stop.ThreadsStop.TheVariants.{Other};
 
-    ghost from_gives = { λ stop fault. fault ≡ Refused stop.why };
+    ghost from_gives = { λ fault stop. stop ≡ Other (Refused fault.why) };
 
-    fn from(stop: LogFault<F>) -> ThreadsFault {
-        ThreadsFault::Refused(stop.why)
+    fn from(fault: LogFault<F>) -> ThreadsStop<N> {
+        ThreadsStop::Other(ThreadsFault::Refused(fault.why))
     }
 }
 
@@ -211,6 +213,29 @@ fn mark_end<N: StoreName, R: Wait>(rt: &R, shared: &Shared<N>) {
     let _marked = shared.mark_end(rt, &mut witness);
 }
 
+// The result of clients that have run, and of the checkpointer that has taken all points.
+fn with_points<N: StoreName, D: Drop>(checkpointer: Checkpointer<'_, N, D>, ran: Ran<N>) -> Worked<N, D>
+    ensures ran { result.ran ≡ ran }
+    ensures seat { result.seat ≡ checkpointer.entry.at_store }
+    ensures folder { result.folder ≡ checkpointer.entry.folder }
+    ensures written { result.written ≡ checkpointer.entry.written }
+{
+    let Checkpointer {
+        at_store: seat,
+        at_board: _,
+        every: _,
+        counted_from: _,
+        folder,
+        written,
+    } = checkpointer;
+    Worked {
+        ran,
+        seat,
+        folder,
+        written,
+    }
+}
+
 // Runs the workers, concurrently with all points but the last one, and the last one once they have ended.
 fn run_workers<
     'x,
@@ -224,49 +249,42 @@ fn run_workers<
     room: &'x Room<'x, N, G>,
     checkpointer: Checkpointer<'x, N, D>,
     workers: Vec<Worker<N>>,
-) -> Result<Worked<N, D>, ThreadsFault>
+) -> Result<Worked<N, D>, ThreadsStop<N>>
     requires rest { phase_of checkpointer.at_store ≡ Rest }
     ensures left { IfOk result (IsLeftByWorkers D.holds N.name.setting room.now.points workers.items checkpointer.entry) }
-    ensures ended { checkpointer.entry.at_store ≡ [] → IfErr result (IsThreadsEnd (is_some room.now.lag || is_some checkpointer.entry.folder) (transactions_in (clients_in workers.items)) room.now.points) }
+    ensures ended { checkpointer.entry.at_store ≡ [] → IfErr result (ThreadsHaveStopped N.name.setting (is_some room.now.lag || is_some checkpointer.entry.folder) (clients_in workers.items) room.now.points) }
 {
     let handles = Vec::with_capacity(room.alloc, workers.len())?;
     let (points, has_log) = (room.points, room.lag.is_some());
     thread::scope(
         thread::scope_env(),
         rt,
-        |scope| -> Result<Worked<N, D>, ThreadsFault>
+        |scope| -> Result<Worked<N, D>, ThreadsStop<N>>
             requires handles { handles.items ≡ [] }
             requires has_log { has_log ≡ is_some room.now.lag }
             requires rest { phase_of checkpointer.at_store ≡ Rest }
             ensures left { IfOk result (IsLeftByWorkers D.holds N.name.setting points workers.items checkpointer.entry) }
-            ensures ended { checkpointer.entry.at_store ≡ [] → IfErr result (IsThreadsEnd (has_log || is_some checkpointer.entry.folder) (transactions_in (clients_in workers.items)) points) }
+            ensures ended { checkpointer.entry.at_store ≡ [] → IfErr result (ThreadsHaveStopped N.name.setting (has_log || is_some checkpointer.entry.folder) (clients_in workers.items) points) }
         {
             let mut handles = handles;
             for worker in workers {
                 let given = Snapshot::of(&worker);
                 match scope.spawn_with(ClientsOf(given, has_log), move || worker.run(rt, room)) {
                     Ok(handle) => handles.push(handle)?,
-                    Err(_) => return Err(ThreadsFault::NoThread),
+                    Err(_) => return Err(ThreadsStop::Other(ThreadsFault::NoThread)),
                 }
             }
             let beside = points.saturating_sub(1);
-            let checkpointer = take_points(rt, room, checkpointer, 0, beside)?;
+            let most = take_points(rt, room, checkpointer, 0, beside);
             let ran = join_workers(rt, room.alloc, handles)?;
-            let checkpointer = take_points(rt, room, checkpointer, beside, points)?;
-            let Checkpointer {
-                at_store: seat,
-                at_board: _,
-                every: _,
-                counted_from: _,
-                folder,
-                written,
-            } = checkpointer;
-            Ok(Worked {
-                ran,
-                seat,
-                folder,
-                written,
-            })
+            let checkpointer = match most {
+                Ok(checkpointer) => checkpointer,
+                Err(fault) => return Err(ThreadsStop::of(fault, ran)),
+            };
+            match take_points(rt, room, checkpointer, beside, points) {
+                Ok(checkpointer) => Ok(with_points(checkpointer, ran)),
+                Err(fault) => Err(ThreadsStop::of(fault, ran)),
+            }
         },
     )
 }
@@ -279,10 +297,14 @@ fn run_hands<
     D: NewFiles<F> + Drop,
     G: ClientGate + Sync,
     R: Threads + Wait + Sync,
->(rt: &'x R, room: &'x Room<'x, N, G>, hands: Hands<'x, N, D>) -> Result<Rested<N, D>, ThreadsFault>
+>(
+    rt: &'x R,
+    room: &'x Room<'x, N, G>,
+    hands: Hands<'x, N, D>,
+) -> Result<Rested<N, D>, ThreadsStop<N>>
     requires rest { phase_of hands.checkpointer.at_store ≡ Rest }
     ensures left { IfOk result (IsLeftByHands D.holds N.name.setting room.now.points hands.entry.workers.items hands.entry.checkpointer) }
-    ensures ended { hands.entry.checkpointer.at_store ≡ [] → IfErr result (IsThreadsEnd (is_some room.now.lag || is_some hands.entry.checkpointer.folder) (transactions_in (clients_in hands.entry.workers.items)) room.now.points) }
+    ensures ended { hands.entry.checkpointer.at_store ≡ [] → IfErr result (ThreadsHaveStopped N.name.setting (is_some room.now.lag || is_some hands.entry.checkpointer.folder) (clients_in hands.entry.workers.items) room.now.points) }
 {
     let Hands {
         checkpointer,
@@ -294,12 +316,12 @@ fn run_hands<
     thread::scope(
         thread::scope_env(),
         rt,
-        |scope| -> Result<Rested<N, D>, ThreadsFault>
+        |scope| -> Result<Rested<N, D>, ThreadsStop<N>>
             requires handles { handles.items ≡ [] }
             requires points { points ≡ room.now.points }
             requires rest { phase_of checkpointer.at_store ≡ Rest }
             ensures left { IfOk result (IsLeftByHands D.holds N.name.setting room.entry.now.points workers.items checkpointer.entry) }
-            ensures ended { checkpointer.entry.at_store ≡ [] → IfErr result (IsThreadsEnd (is_some room.entry.now.lag || is_some checkpointer.entry.folder) (transactions_in (clients_in workers.items)) room.entry.now.points) }
+            ensures ended { checkpointer.entry.at_store ≡ [] → IfErr result (ThreadsHaveStopped N.name.setting (is_some room.entry.now.lag || is_some checkpointer.entry.folder) (clients_in workers.items) room.entry.now.points) }
         {
             let mut handles = handles;
             for collapser in collapsers {
@@ -314,12 +336,14 @@ fn run_hands<
                     Ok(handle) => {
                         let Ok(()) = handles.push(handle) else {
                             mark_end(rt, room.shared);
-                            return Err(ThreadsFault::Refused(Refusal::OutOfMemory));
+                            return Err(ThreadsStop::Other(ThreadsFault::Refused(
+                                Refusal::OutOfMemory,
+                            )));
                         };
                     }
                     Err(_) => {
                         mark_end(rt, room.shared);
-                        return Err(ThreadsFault::NoThread);
+                        return Err(ThreadsStop::Other(ThreadsFault::NoThread));
                     }
                 }
             }
@@ -347,12 +371,12 @@ pub fn run_threads<
     room: &'x Room<'x, N, G>,
     hands: Hands<'x, N, D>,
     logger: Logger<N, F>,
-) -> Result<(Rested<N, D>, Written<N, F>), ThreadsFault>
+) -> Result<(Rested<N, D>, Written<N, F>), ThreadsStop<N>>
     requires rest { phase_of hands.checkpointer.at_store ≡ Rest }
     requires counts { CountsAsOut F.contents N.out }
     ensures left { IfOk result (λ r. IsLeftByHands D.holds N.name.setting room.now.points hands.entry.workers.items hands.entry.checkpointer r.0) }
     ensures logged { IfOk result (λ r. HasLogged F.contents N.name.setting.run logger.out r.1.out r.1.pass) }
-    ensures ended { hands.entry.checkpointer.at_store ≡ [] → IfErr result (IsThreadsEnd (is_some room.now.lag || is_some hands.entry.checkpointer.folder || is_some logger.out) (transactions_in (clients_in hands.entry.workers.items)) room.now.points) }
+    ensures ended { hands.entry.checkpointer.at_store ≡ [] → IfErr result (ThreadsHaveStopped N.name.setting (is_some room.now.lag || is_some hands.entry.checkpointer.folder || is_some logger.out) (clients_in hands.entry.workers.items) room.now.points) }
 {
     if logger.out.is_none() {
         let rested = run_hands(rt, room, hands)?;
@@ -361,16 +385,16 @@ pub fn run_threads<
     thread::scope(
         thread::scope_env(),
         rt,
-        |scope| -> Result<(Rested<N, D>, Written<N, F>), ThreadsFault>
+        |scope| -> Result<(Rested<N, D>, Written<N, F>), ThreadsStop<N>>
             requires rest { phase_of hands.checkpointer.at_store ≡ Rest }
             requires counts { CountsAsOut F.contents N.out }
             ensures left { IfOk result (λ r. IsLeftByHands D.holds N.name.setting room.entry.now.points hands.entry.workers.items hands.entry.checkpointer r.0) }
             ensures logged { IfOk result (λ r. HasLogged F.contents N.name.setting.run logger.out r.1.out r.1.pass) }
-            ensures ended { hands.entry.checkpointer.at_store ≡ [] → IfErr result (IsThreadsEnd (is_some room.entry.now.lag || is_some hands.entry.checkpointer.folder || is_some logger.out) (transactions_in (clients_in hands.entry.workers.items)) room.entry.now.points) }
+            ensures ended { hands.entry.checkpointer.at_store ≡ [] → IfErr result (ThreadsHaveStopped N.name.setting (is_some room.entry.now.lag || is_some hands.entry.checkpointer.folder || is_some logger.out) (clients_in hands.entry.workers.items) room.entry.now.points) }
         {
             let given = Snapshot::of(&logger);
             let Ok(logging) = scope.spawn_with(LogOf(given), move || logger.run(rt, room)) else {
-                return Err(ThreadsFault::NoThread);
+                return Err(ThreadsStop::Other(ThreadsFault::NoThread));
             };
             let ended = run_hands(rt, room, hands);
             mark_end(rt, room.shared);

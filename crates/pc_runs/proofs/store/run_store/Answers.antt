@@ -14,7 +14,7 @@ use Rattle.pc_workers.specs.Covering.{HaveJustTo}
 use Rattle.pc_runs.specs.Folders.{LeavesFiles, base_of}
 use Rattle.pc_runs.proofs.HistoryLaws.{behind_first, first_ones, left_after}
 use Rattle.std.proofs.lemmas.Result.{err_from_is_err_and}
-use Rattle.pc_runs.proofs.FaultLaws.{folder_there, log_lost_there, log_there, lost_ends, no_memory, of_threads, one_there, same_transactions, untold_ends}
+use Rattle.pc_runs.proofs.FaultLaws.{folder_there, log_lost_there, log_there, lost_ends, no_memory, of_stop, one_there, same_transactions, untold_ends}
 use Rattle.pc_runs.proofs.NewPasses.{as_many, some_passes}
 use Rattle.pc_runs.proofs.SeatingLaws.{all_back, dealt_seats}
 use Rattle.pc_runs.proofs.WorkLaws.{all_fresh, have_run}
@@ -40,7 +40,7 @@ seat_workers-requires-clause-seats g c =
 
 pub leave-requires-clause-singles : goal.leave-requires-clause-singles
 leave-requires-clause-singles g c κs bounds =
-    let ended = c.in_ok-ended.ended in
+    let ended = c.in-Ok.ended in
     let parts = ap length (c.close-closed.ensures.parts ∙ c.in_ok-tickets.ensures.0) in
     let both = length-append ended.written.items ended.joined.items in
     let singles = c.in_ok-tickets.ensures.1 in
@@ -49,7 +49,7 @@ leave-requires-clause-singles g c κs bounds =
 pub leave-requires-clause-after : goal.leave-requires-clause-after
 leave-requires-clause-after g c κs bounds =
     let closed = c.close-closed.result in
-    left_after g.N.StoreName.name.setting closed.world.base closed.world.log closed.logged c.in_ok-ended.ended.sessions.items c.in_ok-ended.ended.seat c.in_ok-tickets.tickets.items closed.parts.items c.in_ok-ended.logged.pass
+    left_after g.N.StoreName.name.setting closed.world.base closed.world.log closed.logged c.in-Ok.ended.sessions.items c.in-Ok.ended.seat c.in_ok-tickets.tickets.items closed.parts.items c.in-Ok.logged.pass
     c.close-closed.ensures.parts c.close-closed.ensures.left
 
 pub returns-clause-run : goal.returns-clause-run
@@ -57,9 +57,9 @@ returns-clause-run g c =
     let st = g.N.StoreName.name.setting in
     let closed = c.close-closed.result in
     let left = c.close-closed.ensures.left in
-    let ended = c.in_ok-ended.ended in
+    let ended = c.in-Ok.ended in
     let seating = c.in_ok-seating.seating in
-    let worked = c.in_ok-ended.ensures.clients in
+    let worked = c.in-Ok.ensures.clients in
     let have = subst (λ (all : List (List Client)). HaveWorked st (clients_in all) ended.given_up worked.0) c.in_ok-seating.ensures.clients worked.2 in
     let seated = subst (λ (sessions : List Sitter). AreSeated (clients_in c.in_ok-dealt.dealt.items) sessions seating.idle.items) c.in_ok-shared.ensures.sessions c.in_ok-seating.ensures.seated in
     let parts : closed.parts.items ≡ ended.written.items ++ ended.joined.items = c.close-closed.ensures.parts ∙ c.in_ok-tickets.ensures.0 in
@@ -75,15 +75,15 @@ returns-clause-run g c =
       commits_are = c.in_ok-left.ensures.commits ∙ ap commits_in left.1.log_is;
       points_are = refl;
       files = drop c.in_ok-tickets.singles closed.parts.items;
-      cover = subst (HaveJustTo c.args.workload.points) (sym joined) c.in_ok-ended.ensures.cover;
+      cover = subst (HaveJustTo c.args.workload.points) (sym joined) c.in-Ok.ensures.cover;
       legacy =
           subst (λ (base : BaseFile). IsLegacy base (log_of left.0) (drop c.in_ok-tickets.singles closed.parts.items) c.in_ok-left.left.files) left.1.base
           (subst (λ (log : List Entry). IsLegacy closed.world.base log (drop c.in_ok-tickets.singles closed.parts.items) c.in_ok-left.left.files) left.1.log_is c.in_ok-left.ensures.files);
       folder_has =
           subst (λ (log : List Entry). LeavesFiles g.D.NewFiles.holds (base_of st) log c.args.workload.points (is_some c.args.folder) c.in_ok-folder.folder) left.1.log_is
-          (files_left (base_of st) closed.world.log g.D.NewFiles.holds g.F.Write.contents g.D.NewFiles.blank c.args.workload.points closed.logged c.in_ok-ended.logged.pass ended.written.items left.1.list
+          (files_left (base_of st) closed.world.log g.D.NewFiles.holds g.F.Write.contents g.D.NewFiles.blank c.args.workload.points closed.logged c.in-Ok.logged.pass ended.written.items left.1.list
           (first_ones (IsOfItsPoints st.run st.base closed.world.log) ended.written.items ended.joined.items (subst (All (IsOfItsPoints st.run st.base closed.world.log)) c.in_ok-tickets.ensures.0 left.1.worth))
-          c.args.folder ended.folder c.in_ok-folder.folder c.args.log c.in_ok-ended.logged.out c.requires.begun c.in_ok-ended.ensures.written c.in_ok-ended.ensures.logged c.in_ok-folder.ensures.finished);
+          c.args.folder ended.folder c.in_ok-folder.folder c.args.log c.in-Ok.logged.out c.requires.begun c.in-Ok.ensures.written c.in-Ok.ensures.logged c.in_ok-folder.ensures.finished);
     }
 
 pub returns-in_err-shared-clause-ended : goal.returns-in_err-shared-clause-ended
@@ -106,14 +106,20 @@ returns-in_err-seating-clause-ended g c =
     let p = err_from_is_err_and c.from_residual-in_err-seating.result c.from_residual-in_err-seating.ensures.1 in
     rw (p.1, p.2) (no_memory g.N.StoreName.name.setting c.args.workload (is_some c.args.folder) c.in_err-seating.field-0.0 c.in_err-seating.ensures.refused)
 
-pub returns-in_err-ended-clause-ended : goal.returns-in_err-ended-clause-ended
-returns-in_err-ended-clause-ended g c =
-    let p = err_from_is_err_and c.from_residual-in_err-ended.result c.from_residual-in_err-ended.ensures.1 in
+pub returns-in-Err-clause-ended : goal.returns-in-Err-clause-ended
+returns-in-Err-clause-ended g c =
     let st = g.N.StoreName.name.setting in
     let log = log_there g.D.NewFiles.holds g.F.Write.contents g.D.NewFiles.blank (base_of st) c.args.folder c.args.log c.requires.begun in
-    let count = ap (λ (all : List (List Client)). transactions_in (clients_in all)) c.in_ok-seating.ensures.clients ∙ same_transactions c.args.crew.now.workers c.args.workload.clients c.in_ok-dealt.dealt.items c.args.crew.now.in_range.0 c.in_ok-dealt.ensures in
-    rw (p.1, p.2)
-    (of_threads st c.args.workload (is_some c.args.folder) _ _ _ (one_there _ _ _ (is_some c.args.folder) (c.map.ensures.variant ∙ (c.as_ref.ensures.variant ∙ log)) refl log) count c.in_err-ended.ensures.ended)
+    let seating = c.in_ok-seating.seating in
+    let dealt = c.in_ok-dealt.dealt.items in
+    let clients : List Client = clients_in seating.workers.items in
+    let is : clients ≡ clients_in dealt = ap clients_in c.in_ok-seating.ensures.clients in
+    let count = ap transactions_in is ∙ same_transactions c.args.crew.now.workers c.args.workload.clients dealt c.args.crew.now.in_range.0 c.in_ok-dealt.ensures in
+    let seated = subst (λ (sessions : List Sitter). AreSeated (clients_in dealt) sessions seating.idle.items) c.in_ok-shared.ensures.sessions c.in_ok-seating.ensures.seated in
+    of_stop st c.args.workload (is_some c.args.folder) _ seating.idle.items clients c.in-Err.stop c.fault_of.result
+    (one_there _ _ _ (is_some c.args.folder) (c.map.ensures.variant ∙ (c.as_ref.ensures.variant ∙ log)) refl log) count c.in_ok-seating.ensures.idle
+    (λ given_up ran have. all_back st st.sessions (clients_in dealt) given_up seating.idle.items ran seated (subst (λ (cs : List Client). HaveWorked st cs given_up ran) is have))
+    c.fault_of.ensures c.in-Err.ensures.ended
 
 pub returns-in_err-tickets-clause-ended : goal.returns-in_err-tickets-clause-ended
 returns-in_err-tickets-clause-ended g c =
@@ -123,17 +129,17 @@ returns-in_err-tickets-clause-ended g c =
 pub returns-in_err-folder-clause-ended : goal.returns-in_err-folder-clause-ended
 returns-in_err-folder-clause-ended g c =
     let p = err_from_is_err_and c.from_residual-in_err-folder.result c.from_residual-in_err-folder.ensures.1 in
-    let ended = c.in_ok-ended.ended in
-    let there = folder_there g.D.NewFiles.holds c.args.workload.points c.args.folder ended.folder ended.written.items c.in_ok-ended.ensures.written in
+    let ended = c.in-Ok.ended in
+    let there = folder_there g.D.NewFiles.holds c.args.workload.points c.args.folder ended.folder ended.written.items c.in-Ok.ensures.written in
     rw (p.1, p.2)
-    (lost_ends g.N.StoreName.name.setting c.args.workload (is_some c.args.folder) c.in_err-folder.field-0.0 (subst IsTrue there (log_lost_there ended.folder c.in_ok-ended.logged.out c.in_err-folder.field-0.0 c.in_err-folder.ensures.lost)))
+    (lost_ends g.N.StoreName.name.setting c.args.workload (is_some c.args.folder) c.in_err-folder.field-0.0 (subst IsTrue there (log_lost_there ended.folder c.in-Ok.logged.out c.in_err-folder.field-0.0 c.in_err-folder.ensures.lost)))
 
 pub returns-in_err-left-clause-ended : goal.returns-in_err-left-clause-ended
 returns-in_err-left-clause-ended g c =
     let p = err_from_is_err_and c.from_residual-in_err-left.result c.from_residual-in_err-left.ensures.1 in
     let st = g.N.StoreName.name.setting in
     let closed = c.close-closed.result in
-    let ended = c.in_ok-ended.ended in
+    let ended = c.in-Ok.ended in
     let left = c.close-closed.ensures.left in
     let untold = c.in_err-left.ensures.untold in
     let parts : closed.parts.items ≡ ended.written.items ++ ended.joined.items = c.close-closed.ensures.parts ∙ c.in_ok-tickets.ensures.0 in
@@ -141,7 +147,7 @@ returns-in_err-left-clause-ended g c =
     (λ k. drop (c.in_ok-tickets.ensures.1 k) (parts k)) ∙ behind_first ended.written.items ended.joined.items in
     rw (p.1, p.2, untold.1)
     (untold_ends st c.args.workload (is_some c.args.folder) (drop c.in_ok-tickets.singles closed.parts.items) untold.0 c.requires.room
-    (subst (HaveJustTo c.args.workload.points) (sym joined) c.in_ok-ended.ensures.cover) untold.2)
+    (subst (HaveJustTo c.args.workload.points) (sym joined) c.in-Ok.ensures.cover) untold.2)
 
 pub returns-in_err-folder-clause-run : goal.returns-in_err-folder-clause-run
 returns-in_err-folder-clause-run g c =

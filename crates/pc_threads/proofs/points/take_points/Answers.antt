@@ -2,16 +2,14 @@ use Rattle.std.proofs.Common.{◌≡◌, ◌+◌, ◌≤◌, [], rules, refl, sy
 use Rattle.std.specs.Prelude.{IsTrue, is_some}
 use Rattle.std.proofs.lemmas.Result.{err_from_is_err_and}
 use Rattle.pc_types.specs.declared.limits.TheConstants.{MOST_POINTS}
-use Rattle.pc_model.specs.Calls.{IsBeginning}
 use Rattle.pc_model.specs.History.{History}
-use Rattle.pc_model.proofs.BeginningLaws.{beginning_self, beginning_trans}
 use Rattle.pc_workers.specs.Checkpointing.{HasCycled}
 use Rattle.pc_workers.proofs.WholeCycles.{cycled_on}
 use Rattle.pc_threads.proofs.PointLaws.{more_points}
 use Rattle.pc_threads.proofs.points.take_points.Goals as goal
 
 pub loop-others-init : goal.loop-others-init
-loop-others-init g c = record { there = refl; begins = beginning_self c.args.checkpointer.at_store; rest = c.requires.rest; cycles = λ first had. had; written = λ first had. had }
+loop-others-init g c = record { there = refl; rest = c.requires.rest; cycles = λ first had. had; written = λ first had. had }
 
 pub loop-others-preserved : goal.loop-others-preserved
 loop-others-preserved g c =
@@ -19,10 +17,8 @@ loop-others-preserved g c =
     let old = c.loop-others in
     let seat : History = c.in_ok-checkpointer.checkpointer.at_store in
     let one : HasCycled st 1 old.checkpointer.at_store seat = subst (λ (h : History). HasCycled st 1 h seat) c.await_commits.ensures.seat c.in_ok-checkpointer.ensures.cycle in
-    let now : IsBeginning c.await_commits.new.self.at_store seat = c.in_ok-checkpointer.ensures.cycle.begins in
     record {
       there = c.in_ok-checkpointer.ensures.there ∙ ap is_some c.await_commits.ensures.folder ∙ old.invariant.there;
-      begins = beginning_trans c.args.checkpointer.at_store old.checkpointer.at_store seat old.invariant.begins (subst (λ (h : History). IsBeginning h seat) c.await_commits.ensures.seat now);
       rest = one.in_phase;
       cycles = λ first had. cycled_on st old.others first old.checkpointer.at_store seat (old.invariant.cycles first had) one;
       written = search rules;
@@ -38,6 +34,5 @@ returns-in_err-checkpointer-clause-ended g c cycled =
     let there : is_some c.await_commits.new.self.folder ≡ is_some c.args.checkpointer.folder = ap is_some c.await_commits.ensures.folder ∙ old.invariant.there in
     let next : old.others + 1 ≡ c.in-Ok.point = search rules in
     let few : c.in-Ok.point ≤ MOST_POINTS = search rules in
-    let begins : IsBeginning c.args.checkpointer.at_store seat = subst (IsBeginning c.args.checkpointer.at_store) (sym c.await_commits.ensures.seat) old.invariant.begins in
     rw (p.1, p.2)
-    (more_points st _ _ c.args.checkpointer.at_store seat c.in-Ok.point c.args.last c.in_err-checkpointer.field-0.0 (subst IsTrue there) begins (omega (arith, next, c.loop-others-test.true)) (c.in_err-checkpointer.ensures.ended old.others next few before))
+    (more_points st _ _ c.in-Ok.point c.args.last c.in_err-checkpointer.field-0.0 (subst IsTrue there) (omega (arith, next, c.loop-others-test.true)) (c.in_err-checkpointer.ensures.ended old.others next few before))
