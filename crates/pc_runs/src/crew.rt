@@ -3,6 +3,8 @@ ghost use Rattle.std.specs.Prelude.{◌≤◌};
 ghost use Rattle.pc_types.specs.declared.limits.TheConstants.{MOST_COLLAPSERS, MOST_WORKERS};
 
 use pc_types::Gate;
+use std::alloc::Global;
+use std::hash::RandomState;
 
 /// The number of threads that run a workload, and the gate that their loops pass.
 #[derive(Drop)]
@@ -19,4 +21,14 @@ pub struct Crew<'a, G: Gate> {
     /// The gate that the loops of clients, checkpointer, collapsers and logger pass.
     pub gate: &'a G,
     ghost in_range: { (1 ≤ workers) × (workers ≤ MOST_WORKERS) × (1 ≤ collapsers) × (collapsers ≤ MOST_COLLAPSERS) },
+}
+
+/// What a run works with: the runtime of its threads, the allocator, the seed of the hashes of its store's keys, and its crew.
+#[derive(Drop)]
+pub struct RunContext<'a, G: Gate, H> {
+    pub rt: &'a H,
+    pub alloc: Global,
+    /// A random 128-bit number (`RandomState::new`), so that no workload can pick keys that all share a chain.
+    pub seed: RandomState,
+    pub crew: Crew<'a, G>,
 }

@@ -10,7 +10,7 @@ mod run;
 mod starting;
 mod store;
 
-pub use crew::Crew;
+pub use crew::{Crew, RunContext};
 pub use failure::RunFailure;
 pub use files::{RunFolder, Unusable};
 pub use origin::{NamedFolder, Origin, Start};

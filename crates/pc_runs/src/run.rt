@@ -7,7 +7,7 @@ ghost use Rattle.pc_runs.specs.Faults.{EndsRun};
 ghost use Rattle.pc_runs.specs.Folders.{HasBegunFiles, IsBeginLost};
 ghost use Rattle.pc_runs.specs.Runs.{RunBegins, IsOutputWritten, IsAnswer, IsCauseOfUnprinted, IsFailed, IsWorkloadRun, IsRunUnanswered, run_setting};
 
-use crate::crew::Crew;
+use crate::crew::RunContext;
 use crate::failure::{RunFailure, print, usable};
 use crate::files::{RunFolder, begin_files};
 use crate::origin::Origin;
@@ -22,8 +22,6 @@ use pc_texts::{NamedFile, Unread, read_opened};
 use pc_threads::{FileFault, NewFiles, ThreadsFault};
 use pc_types::{MOST_SESSIONS, Refusal};
 use pc_workers::ClientGate;
-use std::alloc::Global;
-use std::hash::RandomState;
 use std::io::{Read, Write};
 use std::marker::Brand;
 use std::sync::Wait;
@@ -55,9 +53,6 @@ pub struct Finished<R, S, D> {
 /// The damage and the gaps of the files that the store starts from are reported on the error writer before the run begins. If there
 /// is a folder for files, the base, the log and the file of each point are written to it, the log as it grows, and the folder is
 /// returned if all of that was done.
-///
-/// The seed of the hashes of the store's keys is a random 128-bit number (`RandomState::new`), so that no workload can pick keys
-/// that all share a chain.
 pub fn run_workload<
     R: Read + Drop,
     S: Read + Drop,
@@ -68,12 +63,9 @@ pub fn run_workload<
     G: ClientGate + Sync,
     H: Threads + Wait + Sync,
 >(
-    rt: &H,
-    alloc: Global,
-    seed: RandomState,
+    context: &RunContext<'_, G, H>,
     workload: NamedFile<R>,
     origin: Origin<S>,
-    crew: &Crew<'_, G>,
     folder: Option<RunFolder<D>>,
     out: &mut Tally<W>,
     errors: &mut Tally<E>,
@@ -85,7 +77,7 @@ pub fn run_workload<
         (λ between. IsCauseOfUnprinted R.remaining D.holds W.contents workload.opened folder (RunBegins S.remaining E.contents origin errors.old between) out.old out.new) }
 {
     let NamedFile { name, opened } = workload;
-    match run_opened(rt, alloc, seed, opened, origin, crew, folder, out, errors) {
+    match run_opened(context, opened, origin, folder, out, errors) {
         Ok(finished) => finished,
         Err(failure) => {
             failure.report(&name, errors);
@@ -109,12 +101,9 @@ fn run_opened<
     G: ClientGate + Sync,
     H: Threads + Wait + Sync,
 >(
-    rt: &H,
-    alloc: Global,
-    seed: RandomState,
+    context: &RunContext<'_, G, H>,
     opened: Result<R, Refusal>,
     origin: Origin<S>,
-    crew: &Crew<'_, G>,
     folder: Option<RunFolder<D>>,
     out: &mut Tally<W>,
     errors: &mut Tally<E>,
@@ -123,7 +112,7 @@ fn run_opened<
     ensures printed { IfOk result (λ finished. IsOutputWritten R.remaining D.holds W.contents opened folder (RunBegins S.remaining E.contents origin errors.old errors.new) out.old out.new finished.folder finished.status) }
     ensures cause { IfErr result (IsCauseOfUnprinted R.remaining D.holds W.contents opened folder (RunBegins S.remaining E.contents origin errors.old errors.new) out.old out.new) }
 {
-    let (printed, folder) = answer(rt, alloc, seed, opened, origin, crew, folder, errors)?;
+    let (printed, folder) = answer(context, opened, origin, folder, errors)?;
     print::<R, S, W>(&printed, out)?;
     let status = printed.status();
     Ok(Finished {
@@ -143,12 +132,9 @@ fn answer<
     G: ClientGate + Sync,
     H: Threads + Wait + Sync,
 >(
-    rt: &H,
-    alloc: Global,
-    seed: RandomState,
+    context: &RunContext<'_, G, H>,
     opened: Result<R, Refusal>,
     origin: Origin<S>,
-    crew: &Crew<'_, G>,
     folder: Option<RunFolder<D>>,
     errors: &mut Tally<E>,
 ) -> Result<(Printed, Option<D>), RunFailure<R, S>>
@@ -156,6 +142,7 @@ fn answer<
     ensures answer { IfOk result (λ r. IsAnswer R.remaining D.holds opened folder (RunBegins S.remaining E.contents origin errors.old errors.new) r.1 r.0) }
     ensures cause { IfErr result (IsRunUnanswered R.remaining opened folder (RunBegins S.remaining E.contents origin errors.old errors.new)) }
 {
+    let alloc = context.alloc;
     let text = read_opened(alloc, opened)?;
     let reading = match read_workload(alloc, &text) {
         Ok(reading) => reading,
@@ -167,9 +154,7 @@ fn answer<
             let folder = usable::<R, S, D>(folder)?;
             let Origin { start, capacity } = origin;
             let base = base_of::<R, S, E>(alloc, start, errors)?;
-            let (outcome, folder) = run_read(
-                rt, alloc, seed, workload, base, capacity, crew, folder,
-            )?;
+            let (outcome, folder) = run_read(context, workload, base, capacity, folder)?;
             Ok((Printed::Whole(outcome), folder))
         }
     }
@@ -183,13 +168,10 @@ fn run_read<
     G: ClientGate + Sync,
     H: Threads + Wait + Sync,
 >(
-    rt: &H,
-    alloc: Global,
-    seed: RandomState,
+    context: &RunContext<'_, G, H>,
     workload: Workload,
     base: Base,
     capacity: u32,
-    crew: &Crew<'_, G>,
     folder: Option<D>,
 ) -> Result<(RunReport, Option<D>), ThreadsFault>
     requires start { base.point ≡ 0 }
@@ -202,8 +184,8 @@ fn run_read<
         return Err(ThreadsFault::Refused(Refusal::Full));
     }
     let (folder, log) = begin(folder, &base)?;
-    let opened = Opened::new(alloc, base, MOST_SESSIONS, capacity, seed)?;
-    run_store::<Brand, F, D, G, H>(rt, alloc, seed, opened, workload, crew, folder, log)
+    let opened = Opened::new(context.alloc, base, MOST_SESSIONS, capacity, context.seed)?;
+    run_store::<Brand, F, D, G, H>(context, opened, workload, folder, log)
 }
 
 // Begins the files of the folder, if there is one. A file of which a call failed is returned.

@@ -19,7 +19,7 @@ ghost use Rattle.pc_runs.specs.Faults.{EndsRun, IsFaultOfStop, IsStopWithIdle, S
 ghost use Rattle.pc_runs.specs.Folders.{HasBegunFiles, HasFinished, IsLogLost, base_of};
 ghost use Rattle.pc_runs.specs.Runs.{IsWorkloadRun};
 
-use crate::crew::Crew;
+use crate::crew::RunContext;
 use crate::pace::every_of;
 use pc_board::{Board, BoardPass};
 use pc_capture::SharedPart;
@@ -36,7 +36,6 @@ use pc_tie::StoreName;
 use pc_types::{Gate, Refusal};
 use pc_workers::{ClientGate, log_rest, with_missing_points};
 use std::alloc::{AllocError, Global};
-use std::hash::RandomState;
 use std::io::Write;
 use std::mem;
 use std::sync::Wait;
@@ -188,8 +187,7 @@ fn all_tickets<N: StoreName>(
 /// Runs the workload over the store, which has a session for each of its clients, to its close, and returns the result. If there is
 /// a folder, which has the base's file and that of the log, which is blank, the log is written to it concurrently with the threads,
 /// and its rest once the store is closed; the file of each point too, once the point was taken. Text that goes out to such a file
-/// must count as gone out by the store's name. The seed is that of the hashes of keys in the comparison of the result with the log.
-/// Its faults are those that `specs/Faults` names.
+/// must count as gone out by the store's name. Its faults are those that `specs/Faults` names.
 pub fn run_store<
     N: StoreName + Send + Sync,
     F: Write + Drop + Send,
@@ -197,12 +195,9 @@ pub fn run_store<
     G: ClientGate + Sync,
     R: Threads + Wait + Sync,
 >(
-    rt: &R,
-    alloc: Global,
-    seed: RandomState,
+    context: &RunContext<'_, G, R>,
     opened: Opened,
     workload: Workload,
-    crew: &Crew<'_, G>,
     folder: Option<D>,
     log: Option<Tally<F>>,
 ) -> Result<(RunReport, Option<D>), ThreadsFault>
@@ -214,6 +209,7 @@ pub fn run_store<
     ensures run { IfOk result (λ r. IsWorkloadRun D.holds N.name.setting workload (is_some folder) r.1 r.0) }
     ensures ended { IfErr result (EndsRun N.name.setting workload (is_some folder)) }
 {
+    let (rt, alloc, crew) = (context.rt, context.alloc, &context.crew);
     let Workload { points, clients } = workload;
     let (shared, sessions, seat, pass) = opened.named::<N>()?;
     let (board, passes) = Board::new(alloc, crew.collapsers + 1)?;
@@ -248,7 +244,7 @@ pub fn run_store<
     let Written { pass, out } = logged;
     let closed = shared.close(sessions, seat, tickets, pass);
     let folder = finish_log(&closed, folder, out)?;
-    let left = leave(rt, alloc, seed, closed, singles, crew)?;
+    let left = leave(context, closed, singles)?;
     let outcome = RunReport {
         commits: left.commits,
         given_up,
@@ -267,12 +263,9 @@ struct Legacy {
 
 // The result of the closed store. The first `singles` tickets are each of a point whose file was written.
 fn leave<N: StoreName, G: Gate + Sync, R: Threads + Wait + Sync>(
-    rt: &R,
-    alloc: Global,
-    seed: RandomState,
+    context: &RunContext<'_, G, R>,
     closed: Closed<N>,
     singles: usize,
-    crew: &Crew<'_, G>,
 ) -> Result<Legacy, ThreadsFault>
     requires singles { singles ≤ length closed.parts.items }
     requires after { (history : History) × AreLeftAfter N.name.setting history closed.world.base closed.world.log closed.parts.items }
@@ -280,12 +273,13 @@ fn leave<N: StoreName, G: Gate + Sync, R: Threads + Wait + Sync>(
     ensures files { IfOk result (λ legacy. IsLegacy closed.world.base closed.world.log (drop singles closed.parts.items) legacy.files) }
     ensures untold { IfErr result (λ fault. (why : Refusal) × (fault ≡ ThreadsFault.Refused why) × IsUntoldAfter N.name.setting (drop singles closed.parts.items) why) }
 {
+    let (alloc, crew) = (context.alloc, &context.crew);
     let mut closed = closed;
     let files = files_of(alloc, &mut closed)?;
     let files = left_by(
-        rt,
+        context.rt,
         alloc,
-        seed,
+        context.seed,
         closed.base(),
         closed.log(),
         files,

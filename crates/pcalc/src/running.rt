@@ -13,7 +13,7 @@ use pc_jobs::{WorkloadReading, read_workload};
 use pc_options::RunOptions;
 use pc_progress::{Asked, Behind, Progress};
 use pc_reasons::{put_workload_fault, workload_fault};
-use pc_runs::{Crew, NamedFolder, Origin, Start, run_workload};
+use pc_runs::{Crew, NamedFolder, Origin, RunContext, Start, run_workload};
 use pc_serve::RecoveredFolder;
 use pc_texts::{NamedFile, read_opened, report, report_words};
 use pc_types::Refusal;
@@ -338,9 +338,13 @@ fn run_in<R: Read + Drop, H: Threads + Wait + Sync, E: Write>(
         every: options.every,
         gate: &gate,
     };
-    let finished = run_workload(
-        threads, alloc, seed, file, origin, &crew, folder, &mut out, errors,
-    );
+    let context = RunContext {
+        rt: threads,
+        alloc,
+        seed,
+        crew,
+    };
+    let finished = run_workload(&context, file, origin, folder, &mut out, errors);
     let status = finished.status;
     progress.end(threads);
     if status == 0 && options.is_reported {

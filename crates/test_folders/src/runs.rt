@@ -6,7 +6,7 @@ use crate::memory::MemoryFolder;
 use pc_io::Tally;
 use pc_recover::{Recovered, recover};
 use pc_restore::Folder;
-use pc_runs::{Crew, Finished, NamedFolder, Origin, RunFolder, Start, run_workload};
+use pc_runs::{Crew, Finished, NamedFolder, Origin, RunContext, RunFolder, Start, run_workload};
 use pc_texts::{FileName, NamedFile};
 use pc_types::{OpenGate, Point, Refusal};
 use std::alloc::Global;
@@ -55,17 +55,13 @@ fn run_into<'a, H: Threads + Wait + Sync>(
         name: Vec::new(alloc),
         files,
     };
-    run_workload(
+    let context = RunContext {
         rt,
         alloc,
         seed,
-        workload,
-        origin,
-        &crew,
-        Some(folder),
-        out,
-        errors,
-    )
+        crew,
+    };
+    run_workload(&context, workload, origin, Some(folder), out, errors)
 }
 
 // What is recovered of the base, the two parts and the log, if all of them are there.
@@ -166,17 +162,13 @@ fn run_from<'a, H: Threads + Wait + Sync>(
         name: Vec::new(alloc),
         files: Ok(MemoryFolder::new(alloc)),
     };
-    run_workload(
+    let context = RunContext {
         rt,
         alloc,
         seed,
-        workload,
-        origin,
-        &crew,
-        Some(folder),
-        out,
-        errors,
-    )
+        crew,
+    };
+    run_workload(&context, workload, origin, Some(folder), out, errors)
 }
 
 // How a run has ended: its status, whether it hands back a folder, and its output and its messages.

@@ -23,12 +23,12 @@ use Rattle.pc_runs.proofs.store.run_store.Goals as goal
 
 pub use_store-requires-clause-some : goal.use_store-requires-clause-some
 use_store-requires-clause-some g c κs bounds =
-    subst (λ (passes : List Pass). 0 < length passes) (sym c.in_ok-board.ensures.passes) (some_passes c.in_ok-board.board (c.args.crew.now.collapsers + 1) (omega arith))
+    subst (λ (passes : List Pass). 0 < length passes) (sym c.in_ok-board.ensures.passes) (some_passes c.in_ok-board.board (c.args.context.now.crew.collapsers + 1) (omega arith))
 
 pub use_store-requires-clause-few : goal.use_store-requires-clause-few
 use_store-requires-clause-few g c κs bounds =
     subst (λ (passes : List Pass). length passes ≤ MOST_PASSES) (sym c.in_ok-board.ensures.passes)
-    (let all = as_many c.in_ok-board.board (c.args.crew.now.collapsers + 1) in omega (arith, all, c.args.crew.now.in_range.3))
+    (let all = as_many c.in_ok-board.board (c.args.context.now.crew.collapsers + 1) in omega (arith, all, c.args.context.now.crew.in_range.3))
 
 pub seat_workers-requires-clause-fresh : goal.seat_workers-requires-clause-fresh
 seat_workers-requires-clause-fresh g c = subst (All IsFresh) (sym c.in_ok-shared.ensures.sessions) (all_fresh g.N.StoreName.name.setting.sessions)
@@ -36,7 +36,7 @@ seat_workers-requires-clause-fresh g c = subst (All IsFresh) (sym c.in_ok-shared
 pub seat_workers-requires-clause-seats : goal.seat_workers-requires-clause-seats
 seat_workers-requires-clause-seats g c =
     subst (λ (sessions : List Sitter). HaveSeats sessions (clients_in c.in_ok-dealt.dealt.items)) (sym c.in_ok-shared.ensures.sessions)
-    (dealt_seats (new_sitters g.N.StoreName.name.setting.sessions) c.args.crew.now.workers c.args.workload.clients c.in_ok-dealt.dealt.items c.args.crew.now.in_range.0 c.in_ok-dealt.ensures c.requires.seats)
+    (dealt_seats (new_sitters g.N.StoreName.name.setting.sessions) c.args.context.now.crew.workers c.args.workload.clients c.in_ok-dealt.dealt.items c.args.context.now.crew.in_range.0 c.in_ok-dealt.ensures c.requires.seats)
 
 pub leave-requires-clause-singles : goal.leave-requires-clause-singles
 leave-requires-clause-singles g c κs bounds =
@@ -69,7 +69,7 @@ returns-clause-run g c =
       history = left.0;
       legal = left.1.legal;
       clients_ran =
-          have_run st left.0 c.args.crew.now.workers c.args.workload.clients c.in_ok-dealt.dealt.items ended.given_up seating.idle.items worked.0 c.args.crew.now.in_range.0 c.in_ok-dealt.ensures
+          have_run st left.0 c.args.context.now.crew.workers c.args.workload.clients c.in_ok-dealt.dealt.items ended.given_up seating.idle.items worked.0 c.args.context.now.crew.in_range.0 c.in_ok-dealt.ensures
           have c.in_ok-seating.ensures.idle
           (subst (All (IsSitterSettled st left.0)) worked.1 left.1.settled) (all_back st st.sessions (clients_in c.in_ok-dealt.dealt.items) ended.given_up seating.idle.items worked.0 seated have);
       commits_are = c.in_ok-left.ensures.commits ∙ ap commits_in left.1.log_is;
@@ -114,7 +114,7 @@ returns-in-Err-clause-ended g c =
     let dealt = c.in_ok-dealt.dealt.items in
     let clients : List Client = clients_in seating.workers.items in
     let is : clients ≡ clients_in dealt = ap clients_in c.in_ok-seating.ensures.clients in
-    let count = ap transactions_in is ∙ same_transactions c.args.crew.now.workers c.args.workload.clients dealt c.args.crew.now.in_range.0 c.in_ok-dealt.ensures in
+    let count = ap transactions_in is ∙ same_transactions c.args.context.now.crew.workers c.args.workload.clients dealt c.args.context.now.crew.in_range.0 c.in_ok-dealt.ensures in
     let seated = subst (λ (sessions : List Sitter). AreSeated (clients_in dealt) sessions seating.idle.items) c.in_ok-shared.ensures.sessions c.in_ok-seating.ensures.seated in
     of_stop st c.args.workload (is_some c.args.folder) _ seating.idle.items clients c.in-Err.stop c.fault_of.result
     (one_there _ _ _ (is_some c.args.folder) (c.map.ensures.variant ∙ (c.as_ref.ensures.variant ∙ log)) refl log) count c.in_ok-seating.ensures.idle
