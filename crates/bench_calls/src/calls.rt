@@ -220,30 +220,6 @@ fn time_logging<N: StoreName, R: Wait>(
     unreachable!()
 }
 
-// The transactions of the crowd over its keys, and a point each time that all keys have had one.
-fn time_calls<N: StoreName, R: Wait>(
-    rt: &R,
-    host: &HostRuntime,
-    shared: &Shared<N>,
-    session: &mut Session<N>,
-    seat: &mut CheckpointerSeat<N>,
-    pass: &mut LogPass<N>,
-    crowd: &Crowd,
-) -> Result<Calls, BenchFailure> {
-    let mut calls = Calls::new();
-    let mut points = 0u32;
-    for count in 0..crowd.commits {
-        let number = count % crowd.keys;
-        time_transaction(rt, host, shared, session, number, &mut calls)?;
-        if number == crowd.keys - 1 {
-            points = points.saturating_add(1);
-            time_point(rt, host, shared, seat, points, &mut calls)?;
-            time_logging(rt, host, shared, pass, &mut calls.log_next)?;
-        }
-    }
-    Ok(calls)
-}
-
 /// The calls of the store from its opening on, by one thread: the given number of transactions over the given number of keys,
 /// and a point each time that all keys have had one.
 pub fn call_by_one<N: StoreName, R: Wait>(
@@ -258,5 +234,16 @@ pub fn call_by_one<N: StoreName, R: Wait>(
     let Some(session) = sessions.first_mut() else {
         return Err(BenchFailure::Refused(Refusal::NoSession));
     };
-    time_calls(rt, host, &shared, session, &mut seat, &mut pass, crowd)
+    let mut calls = Calls::new();
+    let mut points = 0u32;
+    for count in 0..crowd.commits {
+        let number = count % crowd.keys;
+        time_transaction(rt, host, &shared, session, number, &mut calls)?;
+        if number == crowd.keys - 1 {
+            points = points.saturating_add(1);
+            time_point(rt, host, &shared, &mut seat, points, &mut calls)?;
+            time_logging(rt, host, &shared, &mut pass, &mut calls.log_next)?;
+        }
+    }
+    Ok(calls)
 }
