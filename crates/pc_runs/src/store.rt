@@ -29,8 +29,8 @@ use pc_outcomes::{RunReport, StoreReport, commits_in, left_by};
 use pc_shared::{CheckpointerSeat, Closed, Opened, PartTicket, Session, Shared};
 use pc_texts::FileName;
 use pc_threads::{
-    FileFault, FullLog, Logger, NewFiles, Ran, Rested, Room, Seating, ThreadsFault, ThreadsStop,
-    Worked, Written, finish_file, hands_of, run_threads, seat_workers,
+    FileFault, FullLog, Logger, NewCheckpointer, NewFiles, Ran, Rested, Room, Seating,
+    ThreadsFault, ThreadsStop, Worked, Written, finish_file, hands_of, run_threads, seat_workers,
 };
 use pc_tie::StoreName;
 use pc_types::{Gate, Refusal};
@@ -131,6 +131,13 @@ fn fault_of<N: StoreName>(shared: Shared<N>, stop: ThreadsStop<N>) -> ThreadsFau
     }
 }
 
+// A board, with all of its passes.
+#[derive(Drop)]
+struct OpenBoard<'a> {
+    board: &'a Board,
+    passes: Vec<BoardPass>,
+}
+
 // Runs the threads over the store.
 fn use_store<
     N: StoreName + Send + Sync,
@@ -142,26 +149,24 @@ fn use_store<
     rt: &R,
     room: &Room<'_, N, G>,
     seating: Seating<N>,
-    seat: CheckpointerSeat<N>,
-    board: &Board,
-    passes: Vec<BoardPass>,
-    folder: Option<D>,
-    every: u32,
+    checkpointer: NewCheckpointer<N, D>,
+    open: OpenBoard<'_>,
     logger: Logger<N, F>,
 ) -> Result<(EndedStore<N, D>, Written<N, F>), ThreadsStop<N>>
-    requires fresh { seat ≡ [] }
-    requires some { 0 < length passes.items }
-    requires few { length passes.items ≤ MOST_PASSES }
-    requires ours { All (λ pass. IsOfBoard pass board.now) passes.items }
+    requires fresh { checkpointer.at_store ≡ [] }
+    requires some { 0 < length open.passes.items }
+    requires few { length open.passes.items ≤ MOST_PASSES }
+    requires ours { All (λ pass. IsOfBoard pass open.board.now) open.passes.items }
     requires counts { CountsAsOut F.contents N.out }
     ensures clients { IfOk result (λ r. (more : List Sitter) × (r.0.sessions.items ≡ seating.idle.items ++ more) × HaveWorked N.name.setting (clients_in seating.workers.items) r.0.given_up more) }
     ensures cover { IfOk result (λ r. HaveJustTo room.now.points r.0.joined.items) }
-    ensures written { IfOk result (λ r. HasWritten D.holds room.now.points folder r.0.folder r.0.written.items) }
+    ensures written { IfOk result (λ r. HasWritten D.holds room.now.points checkpointer.folder r.0.folder r.0.written.items) }
     ensures logged { IfOk result (λ r. HasLogged F.contents N.name.setting.run logger.out r.1.out r.1.pass) }
-    ensures ended { IfErr result (StoreHasStopped N.name.setting (is_some room.now.lag || is_some folder || is_some logger.out) seating.idle.items (clients_in seating.workers.items) room.now.points) }
+    ensures ended { IfErr result (StoreHasStopped N.name.setting (is_some room.now.lag || is_some checkpointer.folder || is_some logger.out) seating.idle.items (clients_in seating.workers.items) room.now.points) }
 {
     let Seating { workers, idle } = seating;
-    let hands = hands_of(room.alloc, board, passes, workers, seat, folder, every)?;
+    let OpenBoard { board, passes } = open;
+    let hands = hands_of(room.alloc, board, passes, workers, checkpointer)?;
     let (rested, written) = match run_threads(rt, room, hands, logger) {
         Ok(done) => done,
         Err(stop) => return Err(with_idle(stop, idle)),
@@ -226,9 +231,16 @@ pub fn run_store<
         working: &working,
     };
     let logger = Logger { pass, out: log };
-    let (ended, logged) = match use_store(
-        rt, &room, seating, seat, &board, passes, folder, every, logger,
-    ) {
+    let checkpointer = NewCheckpointer {
+        at_store: seat,
+        every,
+        folder,
+    };
+    let open = OpenBoard {
+        board: &board,
+        passes,
+    };
+    let (ended, logged) = match use_store(rt, &room, seating, checkpointer, open, logger) {
         Ok(used) => used,
         Err(stop) => return Err(fault_of(shared, stop)),
     };

@@ -27,6 +27,15 @@ pub struct Collapser<'a> {
     pub seat: Seat<'a>,
 }
 
+/// A checkpointer that has no seat at a board yet: its seat at the store; the number of transactions that commit from the begin of
+/// one point to that of the next; and the folder for the files of points, if there is one.
+#[derive(Drop)]
+pub struct NewCheckpointer<N: StoreName, D> {
+    pub at_store: CheckpointerSeat<N>,
+    pub every: u32,
+    pub folder: Option<D>,
+}
+
 /// The threads that run a workload: the checkpointer, workers with their clients, and collapsers.
 #[derive(Drop)]
 pub struct Hands<'a, N: StoreName, D> {
@@ -56,24 +65,21 @@ fn seat_collapsers<'a>(
     Ok(collapsers)
 }
 
-/// The workers; a collapser for each pass but the last one, numbered from 0; and that pass for the checkpointer, which takes a
-/// point once the given number of transactions have committed since the last one, and writes the points' files to the folder, if
-/// there is one; it has taken none yet. Its only error is a failed allocation.
+/// The workers; a collapser for each pass but the last one, numbered from 0; and that pass for the checkpointer, which has taken no
+/// point yet. Its only error is a failed allocation.
 pub fn hands_of<'a, N: StoreName, D: Drop>(
     alloc: Global,
     board: &'a Board,
     passes: Vec<BoardPass>,
     workers: Vec<Worker<N>>,
-    seat: CheckpointerSeat<N>,
-    folder: Option<D>,
-    every: u32,
+    checkpointer: NewCheckpointer<N, D>,
 ) -> Result<Hands<'a, N, D>, AllocError>
     requires some { 0 < length passes.items }
     requires few { length passes.items ≤ MOST_PASSES }
     requires ours { All (λ pass. IsOfBoard pass board.now) passes.items }
     ensures workers { IfOk result (λ hands. hands.workers.items ≡ workers.items) }
-    ensures folder { IfOk result (λ hands. (hands.checkpointer.folder ≡ folder) × (hands.checkpointer.written.items ≡ [])) }
-    ensures seat { IfOk result (λ hands. hands.checkpointer.at_store ≡ seat) }
+    ensures folder { IfOk result (λ hands. (hands.checkpointer.folder ≡ checkpointer.folder) × (hands.checkpointer.written.items ≡ [])) }
+    ensures seat { IfOk result (λ hands. hands.checkpointer.at_store ≡ checkpointer.at_store) }
     ensures collapsers { IfOk result (λ hands. length hands.collapsers.items + 1 ≡ length passes.items) }
     ensures numbers { IfOk result (λ hands. map (λ collapser. collapser.number) hands.collapsers.items ≡ first_numbers (length hands.collapsers.items)) }
 {
@@ -81,8 +87,13 @@ pub fn hands_of<'a, N: StoreName, D: Drop>(
     let Some(pass) = passes.pop() else {
         unreachable!();
     };
+    let NewCheckpointer {
+        at_store,
+        every,
+        folder,
+    } = checkpointer;
     let checkpointer = Checkpointer {
-        at_store: seat,
+        at_store,
         at_board: Seat { board, pass },
         every,
         counted_from: Lsn(0),

@@ -13,7 +13,7 @@ mod threads;
 pub use clients::{Ran, Seated, Seating, Worker, seat_workers};
 pub use fault::ThreadsFault;
 pub use files::{FileFault, NewFiles, finish_file, make_file, write_part};
-pub use hands::{Collapser, Hands, Seat, hands_of};
+pub use hands::{Collapser, Hands, NewCheckpointer, Seat, hands_of};
 pub use points::{Checkpointer, FullLog, TOKENS};
 pub use room::Room;
 pub use stop::ThreadsStop;

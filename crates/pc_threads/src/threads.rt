@@ -214,7 +214,10 @@ fn mark_end<N: StoreName, R: Wait>(rt: &R, shared: &Shared<N>) {
 }
 
 // The result of clients that have run, and of the checkpointer that has taken all points.
-fn with_points<N: StoreName, D: Drop>(checkpointer: Checkpointer<'_, N, D>, ran: Ran<N>) -> Worked<N, D>
+fn with_points<N: StoreName, D: Drop>(
+    checkpointer: Checkpointer<'_, N, D>,
+    ran: Ran<N>,
+) -> Worked<N, D>
     ensures ran { result.ran ≡ ran }
     ensures seat { result.seat ≡ checkpointer.entry.at_store }
     ensures folder { result.folder ≡ checkpointer.entry.folder }

@@ -21,7 +21,7 @@ returns-in-Err-clause-ended g c =
     let out = is_some c.args.logger.out in
     let points = c.args.room.now.points in
     let ended = c.in-Err.ensures.ended (made.seat ∙ c.requires.fresh) in
-    idle_stopped st (lag || is_some c.args.folder || out) (clients_in c.args.seating.workers.items) c.args.seating.idle.items points stop c.with_idle.result c.with_idle.ensures
+    idle_stopped st (lag || is_some c.args.checkpointer.folder || out) (clients_in c.args.seating.workers.items) c.args.seating.idle.items points stop c.with_idle.result c.with_idle.ensures
     (subst (λ (there : Bool). ThreadsHaveStopped st (lag || there || out) (clients_in c.args.seating.workers.items) points stop) (ap is_some made.folder.0)
     (subst (λ (workers : List (List Client)). ThreadsHaveStopped st (lag || is_some c.in_ok-hands.hands.checkpointer.folder || out) (clients_in workers) points stop) made.workers ended))
 
