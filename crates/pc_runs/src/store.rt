@@ -34,7 +34,7 @@ use pc_threads::{
 };
 use pc_tie::StoreName;
 use pc_types::{Gate, Refusal};
-use pc_workers::{ClientGate, log_rest, with_missing_points};
+use pc_workers::{ClientGate, Desk, log_rest, with_missing_points};
 use std::alloc::{AllocError, Global};
 use std::io::Write;
 use std::mem;
@@ -131,14 +131,7 @@ fn fault_of<N: StoreName>(shared: Shared<N>, stop: ThreadsStop<N>) -> ThreadsFau
     }
 }
 
-// A board, with all of its passes.
-#[derive(Drop)]
-struct OpenBoard<'a> {
-    board: &'a Board,
-    passes: Vec<BoardPass>,
-}
-
-// Runs the threads over the store.
+// Runs the threads over the store, for this many points. The log is written if the logger has a file.
 fn use_store<
     N: StoreName + Send + Sync,
     F: Write + Drop + Send,
@@ -146,32 +139,41 @@ fn use_store<
     G: ClientGate + Sync,
     R: Threads + Wait + Sync,
 >(
-    rt: &R,
-    room: &Room<'_, N, G>,
+    context: &RunContext<'_, G, R>,
+    shared: &Shared<N>,
+    points: u32,
     seating: Seating<N>,
     checkpointer: NewCheckpointer<N, D>,
-    open: OpenBoard<'_>,
     logger: Logger<N, F>,
 ) -> Result<(EndedStore<N, D>, Written<N, F>), ThreadsStop<N>>
     requires fresh { checkpointer.at_store ≡ [] }
-    requires some { 0 < length open.passes.items }
-    requires few { length open.passes.items ≤ MOST_PASSES }
-    requires ours { All (λ pass. IsOfBoard pass open.board.now) open.passes.items }
     requires counts { CountsAsOut F.contents N.out }
     ensures clients { IfOk result (λ r. (more : List Sitter) × (r.0.sessions.items ≡ seating.idle.items ++ more) × HaveWorked N.name.setting (clients_in seating.workers.items) r.0.given_up more) }
-    ensures cover { IfOk result (λ r. HaveJustTo room.now.points r.0.joined.items) }
-    ensures written { IfOk result (λ r. HasWritten D.holds room.now.points checkpointer.folder r.0.folder r.0.written.items) }
+    ensures cover { IfOk result (λ r. HaveJustTo points r.0.joined.items) }
+    ensures written { IfOk result (λ r. HasWritten D.holds points checkpointer.folder r.0.folder r.0.written.items) }
     ensures logged { IfOk result (λ r. HasLogged F.contents N.name.setting.run logger.out r.1.out r.1.pass) }
-    ensures ended { IfErr result (StoreHasStopped N.name.setting (is_some room.now.lag || is_some checkpointer.folder || is_some logger.out) seating.idle.items (clients_in seating.workers.items) room.now.points) }
+    ensures ended { IfErr result (StoreHasStopped N.name.setting (is_some checkpointer.folder || is_some logger.out) seating.idle.items (clients_in seating.workers.items) points) }
 {
+    let (rt, alloc, crew) = (context.rt, context.alloc, &context.crew);
     let Seating { workers, idle } = seating;
-    let OpenBoard { board, passes } = open;
-    let hands = hands_of(room.alloc, board, passes, workers, checkpointer)?;
-    let (rested, written) = match run_threads(rt, room, hands, logger) {
+    let (board, passes) = Board::new(alloc, crew.collapsers + 1)?;
+    let hands = hands_of(alloc, &board, passes, workers, checkpointer)?;
+    let working = AtomicU64::new(u64::from(crew.workers));
+    let room = Room {
+        desk: Desk {
+            alloc,
+            shared,
+            gate: crew.gate,
+        },
+        points,
+        lag: logger.out.as_ref().map(|_| crew.lag),
+        working: &working,
+    };
+    let (rested, written) = match run_threads(rt, &room, hands, logger) {
         Ok(done) => done,
         Err(stop) => return Err(with_idle(stop, idle)),
     };
-    let ended = take_back(rt, room.shared, room.points, idle, rested)?;
+    let ended = take_back(rt, shared, points, idle, rested)?;
     Ok((ended, written))
 }
 
@@ -214,33 +216,20 @@ pub fn run_store<
     ensures run { IfOk result (λ r. IsWorkloadRun D.holds N.name.setting workload (is_some folder) r.1 r.0) }
     ensures ended { IfErr result (EndsRun N.name.setting workload (is_some folder)) }
 {
-    let (rt, alloc, crew) = (context.rt, context.alloc, &context.crew);
+    let (alloc, crew) = (context.alloc, &context.crew);
     let Workload { points, clients } = workload;
     let (shared, sessions, seat, pass) = opened.named::<N>()?;
-    let (board, passes) = Board::new(alloc, crew.collapsers + 1)?;
     let every = every_of(crew.every, points, &clients);
     let dealt = deal(alloc, crew.workers, clients)?;
     let seating = seat_workers(alloc, dealt, sessions)?;
-    let working = AtomicU64::new(u64::from(crew.workers));
-    let room = Room {
-        alloc,
-        shared: &shared,
-        gate: crew.gate,
-        points,
-        lag: log.as_ref().map(|_| crew.lag),
-        working: &working,
-    };
-    let logger = Logger { pass, out: log };
     let checkpointer = NewCheckpointer {
         at_store: seat,
         every,
         folder,
     };
-    let open = OpenBoard {
-        board: &board,
-        passes,
-    };
-    let (ended, logged) = match use_store(rt, &room, seating, checkpointer, open, logger) {
+    let logger = Logger { pass, out: log };
+    let used = use_store(context, &shared, points, seating, checkpointer, logger);
+    let (ended, logged) = match used {
         Ok(used) => used,
         Err(stop) => return Err(fault_of(shared, stop)),
     };

@@ -1,6 +1,6 @@
 mod DoneLaws
 mod FullLaws
-mod StopLaws
+pub mod StopLaws
 pub mod ClientLaws
 pub mod SeatLaws
 pub mod FileLaws

@@ -6,6 +6,7 @@ use crate::clients::Ran;
 use crate::fault::ThreadsFault;
 use crate::points::{FullLog, PointsFault};
 use pc_tie::StoreName;
+use pc_types::Refusal;
 use std::alloc::{AllocError, AllocFailed};
 
 /// Why the threads of a run have stopped before its end: the log has no place left for the tokens of a point, after the clients have
@@ -36,6 +37,18 @@ impl<N: StoreName> From<ThreadsFault> for ThreadsStop<N> {
 
     fn from(why: ThreadsFault) -> ThreadsStop<N> {
         ThreadsStop::Other(why)
+    }
+}
+
+impl<N: StoreName> From<Refusal> for ThreadsStop<N> {
+    ghost use Rattle.std.specs.Prelude.{◌≡◌};
+    ghost use Rattle.pc_threads.specs.declared.fault.ThreadsFault.TheVariants.{Refused};
+    ghost use Rattle.pc_threads.specs.declared.stop.ThreadsStop.TheVariants.{Other};
+
+    ghost from_gives = { λ why stop. stop ≡ Other (Refused why) };
+
+    fn from(why: Refusal) -> ThreadsStop<N> {
+        ThreadsStop::Other(ThreadsFault::Refused(why))
     }
 }
 
