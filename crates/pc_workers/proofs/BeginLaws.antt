@@ -1,5 +1,5 @@
 -- The history that a session had seen is a beginning of the one that it has seen since, whatever a client asked for it.
-use Rattle.std.proofs.Common.{◌≡◌, ◌⊎◌, ℕ, Bool, true, false, List, [], ◌∷◌, refl, sym, subst, inl, inr}
+use Rattle.std.proofs.Common.{◌≡◌, ℕ, Bool, true, false, List, [], ◌∷◌, refl, sym, subst, inl, inr}
 use Rattle.pc_types.specs.declared.Event.TheVariants as asked
 use Rattle.pc_types.specs.declared.Reply.TheVariants as told
 use Rattle.pc_model.specs.Calls.{step_of, Extends, IsBeginning}
@@ -8,7 +8,7 @@ use Rattle.pc_model.specs.Replies.{Setting}
 use Rattle.pc_types.specs.declared.Step.{Step}
 use Rattle.pc_model.proofs.BeginningLaws.{beginning_self, beginning_trans}
 use Rattle.pc_jobs.specs.declared.works.Op.{Op}
-use Rattle.pc_workers.specs.Attempts.{AreMade, IsNotBegun, IsStuck, OneDies, WasAborted, WasBegun, WasCommitted, op_event}
+use Rattle.pc_workers.specs.Attempts.{AreMade, WasAborted, WasBegun, op_event}
 use Rattle.pc_workers.specs.Courses.{IsCourse}
 use Rattle.pc_workers.specs.declared.clients.EndedTransaction.{EndedTransaction}
 use Rattle.pc_workers.specs.declared.clients.EndedTransaction.TheVariants.{Committed, Died, Refused}
