@@ -136,18 +136,10 @@ fn run_job<N: StoreName, R: Wait, G: ClientGate>(
     ensures done { IfOk result (λ given_up. HasDone (IsTaskDone N.name.setting (ClientTask.Once job.now)) (job.now ∷ []) given_up session.old session.new) }
     ensures stopped { IfErr result (ClientHasStopped (is_some room.now.lag) (job.now ∷ [])) }
 {
-    if room.lag.is_some() && room.shared.log_end_mark().is_some() {
+    if room.lag.is_some() && room.desk.shared.log_end_mark().is_some() {
         return Err(Refusal::Device);
     }
-    let ended = client_loop(
-        rt,
-        room.alloc,
-        room.shared,
-        session,
-        slice::from_ref(job),
-        room.lag,
-        room.gate,
-    );
+    let ended = client_loop(rt, &room.desk, session, slice::from_ref(job), room.lag);
     Ok(ended.count.given_up)
 }
 
@@ -164,12 +156,12 @@ fn run_made<N: StoreName, R: Wait, G: ClientGate>(
     ensures done { IfOk result (λ given_up. HasDone (AreFillsTried N.name.setting (job_of fill.now number ∷ [])) (job_of fill.now number ∷ []) given_up session.old session.new) }
     ensures stopped { IfErr result (ClientHasStopped (is_some room.now.lag) (job_of fill.now number ∷ [])) }
 {
-    match made.set(room.alloc, fill, number) {
+    match made.set(room.desk.alloc, fill, number) {
         Ok(()) => run_job(rt, room, session, made.as_job()),
         Err(_) => {
             let own = session.number();
-            room.gate.refused(own, Refusal::OutOfMemory);
-            room.gate.pass(GatePlace::GaveUp(own));
+            room.desk.gate.refused(own, Refusal::OutOfMemory);
+            room.desk.gate.pass(GatePlace::GaveUp(own));
             Ok(1)
         }
     }
@@ -260,8 +252,8 @@ fn run_clients<N: StoreName, R: Wait, G: ClientGate>(
     ensures worked { IfOk result (λ ran. HaveWorked N.name.setting (map (λ seated. seated.client) seats.items) ran.given_up ran.sessions.items) }
     ensures stopped { IfErr result (HaveStopped (is_some room.now.lag) (map (λ seated. seated.client) seats.items)) }
 {
-    let mut made = FillJob::new(room.alloc)?;
-    let mut sessions = Vec::with_capacity(room.alloc, seats.len())?;
+    let mut made = FillJob::new(room.desk.alloc)?;
+    let mut sessions = Vec::with_capacity(room.desk.alloc, seats.len())?;
     let mut given_up = 0u64;
     for seated in seats {
         let (session, more) = seated.run(rt, room, &mut made)?;

@@ -88,7 +88,7 @@ fn write_point<N: StoreName, F: Write + Drop, D: NewFiles<F>, G: Gate, R: Wait>(
 {
     written.reserve(1)?;
     let number = FileNo(u32::from(point.0));
-    let ticket = room.shared.take_part(rt, seat, number)?;
+    let ticket = room.desk.shared.take_part(rt, seat, number)?;
     write_part(folder, point, ticket.part())?;
     written.push_reserved(ticket);
     Ok(())
@@ -102,8 +102,8 @@ impl<'a, N: StoreName, D: Drop> Checkpointer<'a, N, D> {
         ensures seat { self.new.at_store ≡ self.old.at_store }
     {
         let due = Lsn(self.counted_from.0.saturating_add(self.every));
-        let _ = room.shared.until_committed(rt, due);
-        let begun = room.shared.last_entry(rt).number;
+        let _ = room.desk.shared.until_committed(rt, due);
+        let begun = room.desk.shared.last_entry(rt).number;
         self.counted_from = Lsn(begun.0.saturating_add(TOKENS));
     }
 
@@ -131,15 +131,7 @@ impl<'a, N: StoreName, D: Drop> Checkpointer<'a, N, D> {
             mut written,
         } = self;
         let Seat { board, mut pass } = at_board;
-        if let Err(stop) = checkpoint_loop(
-            rt,
-            room.shared,
-            &mut at_store,
-            board,
-            &mut pass,
-            1,
-            room.gate,
-        ) {
+        if let Err(stop) = checkpoint_loop(rt, &room.desk, &mut at_store, board, &mut pass, 1) {
             return Err(fault_of(stop, at_store));
         }
         let folder = match folder {

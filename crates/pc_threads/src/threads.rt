@@ -22,7 +22,7 @@ use pc_io::Tally;
 use pc_shared::{CheckpointerSeat, LogPass, PartTicket, Shared, Witness};
 use pc_tie::StoreName;
 use pc_types::{Gate, Refusal};
-use pc_workers::{ClientGate, collapse_loop, log_loop};
+use pc_workers::{ClientGate, CollapserShare, Desk, collapse_loop, log_loop};
 use std::alloc::Global;
 use std::io::Write;
 use std::snapshot::Snapshot;
@@ -95,8 +95,8 @@ impl<N: StoreName, F: Write + Drop> Logger<N, F> {
         let Some(mut out) = out else {
             return Ok(Written { pass, out: None });
         };
-        let ended = log_loop(rt, room.shared, &mut pass, &mut out, room.gate);
-        room.shared.mark_log_end(rt);
+        let ended = log_loop(rt, room.desk.shared, &mut pass, &mut out, room.desk.gate);
+        room.desk.shared.mark_log_end(rt);
         match ended {
             Ok(_) => Ok(Written {
                 pass,
@@ -138,9 +138,13 @@ fn collapse<N: StoreName, R: Wait, G: Gate>(
     ensures memory { IfErr result (λ why. why ≡ Refusal.OutOfMemory) }
 {
     let mut seen = shared.witness(rt);
-    match collapse_loop(
-        rt, alloc, shared, &mut seen, board, &mut pass, number, points, gate,
-    ) {
+    let desk = Desk {
+        alloc,
+        shared,
+        gate,
+    };
+    let share = CollapserShare { number, points };
+    match collapse_loop(rt, &desk, &mut seen, board, &mut pass, share) {
         Ok(held) => Ok(held),
         Err(Refusal::NoFile) => Ok(Vec::new(alloc)),
         Err(_) => Err(Refusal::OutOfMemory),
@@ -257,7 +261,7 @@ fn run_workers<
     ensures left { IfOk result (IsLeftByWorkers D.holds N.name.setting room.now.points workers.items checkpointer.entry) }
     ensures ended { checkpointer.entry.at_store ≡ [] → IfErr result (ThreadsHaveStopped N.name.setting (is_some room.now.lag || is_some checkpointer.entry.folder) (clients_in workers.items) room.now.points) }
 {
-    let handles = Vec::with_capacity(room.alloc, workers.len())?;
+    let handles = Vec::with_capacity(room.desk.alloc, workers.len())?;
     let (points, has_log) = (room.points, room.lag.is_some());
     thread::scope(
         thread::scope_env(),
@@ -279,7 +283,7 @@ fn run_workers<
             }
             let beside = points.saturating_sub(1);
             let most = take_points(rt, room, checkpointer, 0, beside);
-            let ran = join_workers(rt, room.alloc, handles)?;
+            let ran = join_workers(rt, room.desk.alloc, handles)?;
             let checkpointer = match most {
                 Ok(checkpointer) => checkpointer,
                 Err(fault) => return Err(ThreadsStop::of(fault, ran)),
@@ -314,8 +318,9 @@ fn run_hands<
         workers,
         collapsers,
     } = hands;
-    let handles = Vec::with_capacity(room.alloc, collapsers.len())?;
-    let (alloc, shared, gate, points) = (room.alloc, room.shared, room.gate, room.points);
+    let handles = Vec::with_capacity(room.desk.alloc, collapsers.len())?;
+    let desk = &room.desk;
+    let (alloc, shared, gate, points) = (desk.alloc, desk.shared, desk.gate, room.points);
     thread::scope(
         thread::scope_env(),
         rt,
@@ -338,22 +343,22 @@ fn run_hands<
                 ) {
                     Ok(handle) => {
                         let Ok(()) = handles.push(handle) else {
-                            mark_end(rt, room.shared);
+                            mark_end(rt, room.desk.shared);
                             return Err(ThreadsStop::Other(ThreadsFault::Refused(
                                 Refusal::OutOfMemory,
                             )));
                         };
                     }
                     Err(_) => {
-                        mark_end(rt, room.shared);
+                        mark_end(rt, room.desk.shared);
                         return Err(ThreadsStop::Other(ThreadsFault::NoThread));
                     }
                 }
             }
             let ended = run_workers(rt, room, checkpointer, workers);
-            mark_end(rt, room.shared);
+            mark_end(rt, room.desk.shared);
             let worked = ended?;
-            let held = join_collapsers(rt, room.alloc, handles)?;
+            let held = join_collapsers(rt, room.desk.alloc, handles)?;
             Ok(Rested { worked, held })
         },
     )
@@ -400,7 +405,7 @@ pub fn run_threads<
                 return Err(ThreadsStop::Other(ThreadsFault::NoThread));
             };
             let ended = run_hands(rt, room, hands);
-            mark_end(rt, room.shared);
+            mark_end(rt, room.desk.shared);
             let written = logging.join(rt)?;
             match ended {
                 Ok(rested) => Ok((rested, written)),

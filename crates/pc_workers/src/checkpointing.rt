@@ -7,6 +7,7 @@ ghost use Rattle.pc_board.specs.declared.calls.CallKind.TheVariants.{Publish};
 ghost use Rattle.pc_board.specs.Passes.{IsOfBoard, MakesCall};
 ghost use Rattle.pc_workers.specs.Checkpointing.{whole_cycle, whole_cycles, point_named, HasReached, HasStood, HasTurned, HasCycled, IsHeldUp, HasPublished, HasBrokenOff, IsFull, Shows};
 
+use crate::desk::Desk;
 use crate::pace::Pace;
 use pc_board::{Board, BoardPass};
 use pc_shared::{Advanced, CheckpointerSeat, Shared, Takes, TakesEnd, Witness, pause};
@@ -94,22 +95,21 @@ fn change_phase<N: StoreName, R: Wait>(
 // Enters the phase, which is the next one.
 fn enter<N: StoreName, R: Wait, G: Gate>(
     rt: &R,
-    shared: &Shared<N>,
+    desk: &Desk<'_, N, G>,
     seat: &mut CheckpointerSeat<N>,
     phase: Phase,
-    gate: &G,
 ) -> Result<Point, CheckpointFault<N>>
     ensures turned { IfOk result (λ _. HasTurned N.name.setting seat.old seat.new) }
     ensures point { IfOk result (λ point. point ≡ point_of seat.new) }
     ensures held_up { IfErr result (λ stop. IsHeldUp N.name.setting seat.old seat.new stop.why) }
     ensures shown { IfErr result (λ stop. Shows N.name.setting seat.new stop.why stop.seen) }
 {
-    gate.pass(GatePlace::Due(phase));
-    let point = match change_phase(rt, shared, seat) {
+    desk.gate.pass(GatePlace::Due(phase));
+    let point = match change_phase(rt, desk.shared, seat) {
         Ok(point) => point,
         Err(stop) => return Err(stop),
     };
-    gate.pass(GatePlace::Entered(phase));
+    desk.gate.pass(GatePlace::Entered(phase));
     Ok(point)
 }
 
@@ -147,22 +147,21 @@ fn pass_each<G: Gate>(gate: &G, keys: u32) {
 // Takes keys of the point in one turn of the latch, and then passes the gate once for each; whether more may be left.
 fn take_batch<N: StoreName, R: Wait, G: Gate>(
     rt: &R,
-    shared: &Shared<N>,
+    desk: &Desk<'_, N, G>,
     seat: &mut CheckpointerSeat<N>,
-    gate: &G,
 ) -> Result<bool, CheckpointFault<N>>
     requires { phase_of seat.old ≡ Capture }
     ensures stood { IfOk result (λ _. HasStood N.name.setting seat.old seat.new) }
     ensures held_up { IfErr result (λ stop. IsHeldUp N.name.setting seat.old seat.new stop.why) }
     ensures shown { IfErr result (λ stop. Shows N.name.setting seat.new stop.why stop.seen) }
 {
-    let Takes { keys, end } = shared.take_keys(rt, seat, BATCH);
-    pass_each(gate, keys);
+    let Takes { keys, end } = desk.shared.take_keys(rt, seat, BATCH);
+    pass_each(desk.gate, keys);
     match end {
         TakesEnd::Enough => Ok(true),
         TakesEnd::NoneLeft => Ok(false),
         TakesEnd::Refused(why) => {
-            let seen = shared.last_entry_since(rt, seat).seen;
+            let seen = desk.shared.last_entry_since(rt, seat).seen;
             Err(CheckpointFault { why, seen })
         }
     }
@@ -171,24 +170,23 @@ fn take_batch<N: StoreName, R: Wait, G: Gate>(
 // Takes the keys of the point, until none is left, and rests between turns of them.
 fn take_keys<N: StoreName, R: Wait, G: Gate>(
     rt: &R,
-    shared: &Shared<N>,
+    desk: &Desk<'_, N, G>,
     seat: &mut CheckpointerSeat<N>,
-    gate: &G,
 ) -> Result<(), CheckpointFault<N>>
     requires { phase_of seat.old ≡ Capture }
     ensures stood { IfOk result (λ _. HasStood N.name.setting seat.old seat.new) }
     ensures held_up { IfErr result (λ stop. IsHeldUp N.name.setting seat.old seat.new stop.why) }
     ensures shown { IfErr result (λ stop. Shows N.name.setting seat.new stop.why stop.seen) }
 {
-    let mut pace = Pace::new(shared.last_entry(rt).number);
+    let mut pace = Pace::new(desk.shared.last_entry(rt).number);
     for _ in rt.forever() {
-        match take_batch(rt, shared, seat, gate) {
+        match take_batch(rt, desk, seat) {
             Ok(true) => {}
             Ok(false) => return Ok(()),
             Err(stop) => return Err(stop),
         }
         if pace.take(BATCH) {
-            rest(rt, shared, &mut pace);
+            rest(rt, desk.shared, &mut pace);
         }
     }
     unreachable!()
@@ -197,11 +195,10 @@ fn take_keys<N: StoreName, R: Wait, G: Gate>(
 // Ends the capture, and publishes the point once its part is on the shelf.
 fn complete<N: StoreName, R: Wait, G: Gate>(
     rt: &R,
-    shared: &Shared<N>,
+    desk: &Desk<'_, N, G>,
     seat: &mut CheckpointerSeat<N>,
     board: &Board,
     pass: &mut BoardPass,
-    gate: &G,
 ) -> Result<(), CheckpointFault<N>>
     requires { IsOfBoard pass.old board.now }
     ensures turned { IfOk result (λ _. HasTurned N.name.setting seat.old seat.new) }
@@ -210,7 +207,7 @@ fn complete<N: StoreName, R: Wait, G: Gate>(
     ensures shown { IfErr result (λ stop. Shows N.name.setting seat.new stop.why stop.seen) }
     ensures same { OnErr result (pass.new ≡ pass.old) }
 {
-    let point = match enter(rt, shared, seat, Phase::Complete, gate) {
+    let point = match enter(rt, desk, seat, Phase::Complete) {
         Ok(point) => point,
         Err(stop) => return Err(stop),
     };
@@ -221,11 +218,10 @@ fn complete<N: StoreName, R: Wait, G: Gate>(
 // Takes one point: a whole cycle, from rest to rest, in which the point is published.
 fn take_point<N: StoreName, R: Wait, G: Gate>(
     rt: &R,
-    shared: &Shared<N>,
+    desk: &Desk<'_, N, G>,
     seat: &mut CheckpointerSeat<N>,
     board: &Board,
     pass: &mut BoardPass,
-    gate: &G,
 ) -> Result<(), CheckpointFault<N>>
     requires board { IsOfBoard pass.old board.now }
     requires rest { phase_of seat.old ≡ Rest }
@@ -235,12 +231,12 @@ fn take_point<N: StoreName, R: Wait, G: Gate>(
     ensures shown { IfErr result (λ stop. Shows N.name.setting seat.new stop.why stop.seen) }
     ensures full { IfErr result (λ stop. IsFull N.name.setting seat.new stop.seen (point_of seat.old + 1) stop.why) }
 {
-    enter(rt, shared, seat, Phase::Prepare, gate)?;
-    enter(rt, shared, seat, Phase::Resolve, gate)?;
-    enter(rt, shared, seat, Phase::Capture, gate)?;
-    take_keys(rt, shared, seat, gate)?;
-    complete(rt, shared, seat, board, pass, gate)?;
-    enter(rt, shared, seat, Phase::Rest, gate)?;
+    enter(rt, desk, seat, Phase::Prepare)?;
+    enter(rt, desk, seat, Phase::Resolve)?;
+    enter(rt, desk, seat, Phase::Capture)?;
+    take_keys(rt, desk, seat)?;
+    complete(rt, desk, seat, board, pass)?;
+    enter(rt, desk, seat, Phase::Rest)?;
     Ok(())
 }
 
@@ -255,12 +251,11 @@ fn take_point<N: StoreName, R: Wait, G: Gate>(
 /// put on the shelf until then was published. Each point that it takes puts one file on the shelf.
 pub fn checkpoint_loop<N: StoreName, R: Wait, G: Gate>(
     rt: &R,
-    shared: &Shared<N>,
+    desk: &Desk<'_, N, G>,
     seat: &mut CheckpointerSeat<N>,
     board: &Board,
     pass: &mut BoardPass,
     points: u32,
-    gate: &G,
 ) -> Result<u32, CheckpointFault<N>>
     requires board { IsOfBoard pass.old board.now }
     requires rest { phase_of seat.old ≡ Rest }
@@ -272,7 +267,7 @@ pub fn checkpoint_loop<N: StoreName, R: Wait, G: Gate>(
     ensures full { IfErr result (λ stop. IsFull N.name.setting seat.new stop.seen (point_of seat.old + points) stop.why) }
 {
     for _ in 0..points {
-        take_point(rt, shared, seat, board, pass, gate)?;
+        take_point(rt, desk, seat, board, pass)?;
     }
     Ok(points)
 }

@@ -8,11 +8,11 @@ ghost use Rattle.pc_workers.specs.Waits.{AreHeld, HasWaited, IsSeatedOut, KeepsM
 ghost use Rattle.pc_workers.specs.Courses.{IsInRange, IsOpAnswered, IsCourse, IsRepeated, mark_of};
 
 use crate::client_gate::ClientGate;
+use crate::desk::Desk;
 use pc_jobs::{Job, Op};
 use pc_shared::{CallAnswer, LogEndMark, Session, Shared, pause};
 use pc_tie::StoreName;
 use pc_types::{GatePlace, Lsn, Refusal, number_fits};
-use std::alloc::Global;
 use std::sync::Wait;
 
 /// The numbers of jobs that were committed, and that were given up.
@@ -70,10 +70,9 @@ pub enum EndedTransaction {
 }
 
 // Performs the operation.
-fn make<N: StoreName, R: Wait>(
+fn make<N: StoreName, R: Wait, G: ClientGate>(
     rt: &R,
-    alloc: Global,
-    shared: &Shared<N>,
+    desk: &Desk<'_, N, G>,
     session: &mut Session<N>,
     op: &Op,
 ) -> Result<CallAnswer, Refusal>
@@ -86,21 +85,21 @@ fn make<N: StoreName, R: Wait>(
     in_range(op);
     match op {
         Op::Get(key) => {
-            let key = key.copy(alloc)?;
-            shared.get(rt, session, key)
+            let key = key.copy(desk.alloc)?;
+            desk.shared.get(rt, session, key)
         }
         Op::Put(key, value) => {
-            let key = key.copy(alloc)?;
-            let value = value.copy(alloc)?;
-            shared.put(rt, session, key, value)
+            let key = key.copy(desk.alloc)?;
+            let value = value.copy(desk.alloc)?;
+            desk.shared.put(rt, session, key, value)
         }
         Op::Del(key) => {
-            let key = key.copy(alloc)?;
-            shared.del(rt, session, key)
+            let key = key.copy(desk.alloc)?;
+            desk.shared.del(rt, session, key)
         }
         Op::Add(key, delta) => {
-            let key = key.copy(alloc)?;
-            shared.add(rt, session, key, *delta)
+            let key = key.copy(desk.alloc)?;
+            desk.shared.add(rt, session, key, *delta)
         }
     }
 }
@@ -118,11 +117,9 @@ fn in_range(op: &Op)
 // Performs the operations, until one dies: then false.
 fn make_all<N: StoreName, R: Wait, G: ClientGate>(
     rt: &R,
-    alloc: Global,
-    shared: &Shared<N>,
+    desk: &Desk<'_, N, G>,
     session: &mut Session<N>,
     ops: &[Op],
-    gate: &G,
 ) -> Result<bool, Refusal>
     ensures receipts { HasCommitted [] session.old session.new }
     ensures wrote { IfOk result (λ all. all ≡ true → session_writes session.new ≡ wrote_all (session_writes session.old) ops.now) }
@@ -132,9 +129,9 @@ fn make_all<N: StoreName, R: Wait, G: ClientGate>(
     let number = session.number();
     let mut step = 0u32;
     for op in ops {
-        let answer = make(rt, alloc, shared, session, op)?;
+        let answer = make(rt, desk, session, op)?;
         step = step.saturating_add(1);
-        gate.pass(GatePlace::Step(number, step));
+        desk.gate.pass(GatePlace::Step(number, step));
         if let CallAnswer::Died = answer {
             return Ok(false);
         }
@@ -146,25 +143,24 @@ fn make_all<N: StoreName, R: Wait, G: ClientGate>(
 // written.
 fn hold<'a, N: StoreName, R: Wait, G: ClientGate>(
     rt: &R,
-    shared: &'a Shared<N>,
+    desk: &Desk<'a, N, G>,
     session: &mut Session<N>,
     entry: Lsn,
     patience: &mut Patience<'a>,
-    gate: &G,
 )
     ensures same { session.new ≡ session.old }
     ensures lag { patience.new.lag ≡ patience.old.lag }
-    ensures mark { KeepsMark (λ mark. mark.token.of ≡ shared.now.logged.ended.id) patience.old.log_end patience.new.log_end }
+    ensures mark { KeepsMark (λ mark. mark.token.of ≡ desk.now.shared.now.logged.ended.id) patience.old.log_end patience.new.log_end }
     ensures out { IfSome patience.old.lag (λ most. is_some patience.new.log_end ≡ false → IsSeatedOut N.out N.name.setting.run session.old (entry - most)) }
 {
     let Some(most) = patience.lag else {
         return;
     };
     let due = Lsn(entry.0.saturating_sub(most));
-    if !shared.is_logged(due) {
-        gate.pass(GatePlace::Behind(session.number()));
+    if !desk.shared.is_logged(due) {
+        desk.gate.pass(GatePlace::Behind(session.number()));
     }
-    if let Err(mark) = shared.until_logged(rt, session, due) {
+    if let Err(mark) = desk.shared.until_logged(rt, session, due) {
         patience.log_end = Some(mark);
     }
 }
@@ -172,42 +168,40 @@ fn hold<'a, N: StoreName, R: Wait, G: ClientGate>(
 // Begins, performs the operations and commits; if it doesn't commit, the transaction stays open, if it was begun.
 fn transact<'a, N: StoreName, R: Wait, G: ClientGate>(
     rt: &R,
-    alloc: Global,
-    shared: &'a Shared<N>,
+    desk: &Desk<'a, N, G>,
     session: &mut Session<N>,
     ops: &[Op],
     patience: &mut Patience<'a>,
-    gate: &G,
 ) -> EndedTransaction
     ensures receipts { HasCommitted (done_by result (wrote_all [] ops.now)) session.old session.new }
     ensures course { IsCourse N.name.setting session.old.number ops.now result session.old.seen session.new.seen }
     ensures lag { patience.new.lag ≡ patience.old.lag }
-    ensures mark { KeepsMark (λ mark. mark.token.of ≡ shared.now.logged.ended.id) patience.old.log_end patience.new.log_end }
+    ensures mark { KeepsMark (λ mark. mark.token.of ≡ desk.now.shared.now.logged.ended.id) patience.old.log_end patience.new.log_end }
     ensures held { result ≡ EndedTransaction.Committed → HasWaited N.out N.name.setting patience.old.lag (is_some patience.new.log_end) session.new }
 {
     let number = session.number();
-    gate.pass(GatePlace::Start(number));
-    if let Err(why) = shared.begin(rt, session) {
-        gate.refused(number, why);
+    desk.gate.pass(GatePlace::Start(number));
+    if let Err(why) = desk.shared.begin(rt, session) {
+        desk.gate.refused(number, why);
         return EndedTransaction::Refused;
     }
-    match make_all(rt, alloc, shared, session, ops, gate) {
+    match make_all(rt, desk, session, ops) {
         Ok(true) => {}
         Ok(false) => return EndedTransaction::Died,
         Err(why) => {
-            gate.refused(number, why);
+            desk.gate.refused(number, why);
             return EndedTransaction::Refused;
         }
     }
-    let entry = match shared.commit(rt, session) {
+    let entry = match desk.shared.commit(rt, session) {
         Ok(entry) => entry,
         Err(why) => {
-            gate.refused(number, why);
+            desk.gate.refused(number, why);
             return EndedTransaction::Refused;
         }
     };
-    hold(rt, shared, session, entry, patience, gate);
-    gate.pass(GatePlace::Committed(number));
+    hold(rt, desk, session, entry, patience);
+    desk.gate.pass(GatePlace::Committed(number));
     EndedTransaction::Committed
 }
 
@@ -223,28 +217,26 @@ fn abort_open<N: StoreName, R: Wait>(rt: &R, shared: &Shared<N>, session: &mut S
 // Runs a transaction to its end: it commits, or is aborted.
 fn attempt<'a, N: StoreName, R: Wait, G: ClientGate>(
     rt: &R,
-    alloc: Global,
-    shared: &'a Shared<N>,
+    desk: &Desk<'a, N, G>,
     session: &mut Session<N>,
     ops: &[Op],
     patience: &mut Patience<'a>,
-    gate: &G,
 ) -> EndedTransaction
     ensures receipts { HasCommitted (done_by result (wrote_all [] ops.now)) session.old session.new }
     ensures begins { IsBeginning session.old.seen session.new.seen }
     ensures attempt { is_open session.old.number session.old.seen ≡ false → IsAttempt N.name.setting session.old.number ops.now result session.old.seen session.new.seen }
     ensures lag { patience.new.lag ≡ patience.old.lag }
-    ensures mark { KeepsMark (λ mark. mark.token.of ≡ shared.now.logged.ended.id) patience.old.log_end patience.new.log_end }
+    ensures mark { KeepsMark (λ mark. mark.token.of ≡ desk.now.shared.now.logged.ended.id) patience.old.log_end patience.new.log_end }
     ensures held { result ≡ EndedTransaction.Committed → HasWaited N.out N.name.setting patience.old.lag (is_some patience.new.log_end) session.new }
 {
-    let ended = transact(rt, alloc, shared, session, ops, patience, gate);
+    let ended = transact(rt, desk, session, ops, patience);
     match ended {
         EndedTransaction::Committed => {}
         EndedTransaction::Died => {
-            abort_open(rt, shared, session);
-            gate.pass(GatePlace::Died(session.number()));
+            abort_open(rt, desk.shared, session);
+            desk.gate.pass(GatePlace::Died(session.number()));
         }
-        EndedTransaction::Refused => abort_open(rt, shared, session),
+        EndedTransaction::Refused => abort_open(rt, desk.shared, session),
     }
     ended
 }
@@ -253,24 +245,22 @@ fn attempt<'a, N: StoreName, R: Wait, G: ClientGate>(
 // the one that it lost to may end.
 fn repeat<'a, N: StoreName, R: Wait, G: ClientGate>(
     rt: &R,
-    alloc: Global,
-    shared: &'a Shared<N>,
+    desk: &Desk<'a, N, G>,
     session: &mut Session<N>,
     ops: &[Op],
     patience: &mut Patience<'a>,
-    gate: &G,
 ) -> EndedTransaction
     ensures receipts { HasCommitted (done_by result (wrote_all [] ops.now)) session.old session.new }
     ensures begins { IsBeginning session.old.seen session.new.seen }
     ensures repeated { is_open session.old.number session.old.seen ≡ false → IsRepeated N.name.setting session.old.number ops.now result session.old.seen session.new.seen }
     ensures lag { patience.new.lag ≡ patience.old.lag }
-    ensures mark { KeepsMark (λ mark. mark.token.of ≡ shared.now.logged.ended.id) patience.old.log_end patience.new.log_end }
+    ensures mark { KeepsMark (λ mark. mark.token.of ≡ desk.now.shared.now.logged.ended.id) patience.old.log_end patience.new.log_end }
     ensures held { result ≡ EndedTransaction.Committed → HasWaited N.out N.name.setting patience.old.lag (is_some patience.new.log_end) session.new }
 {
     let mut times = 1u32;
     for _ in 0..MOST_REPEATS {
         pause(times);
-        match attempt(rt, alloc, shared, session, ops, patience, gate) {
+        match attempt(rt, desk, session, ops, patience) {
             EndedTransaction::Died => {}
             ended => return ended,
         }
@@ -283,25 +273,23 @@ fn repeat<'a, N: StoreName, R: Wait, G: ClientGate>(
 // begins again, and the others sleep, so that they don't die of one another over and over.
 fn try_job<'a, N: StoreName, R: Wait, G: ClientGate>(
     rt: &R,
-    alloc: Global,
-    shared: &'a Shared<N>,
+    desk: &Desk<'a, N, G>,
     session: &mut Session<N>,
     job: &Job,
     patience: &mut Patience<'a>,
-    gate: &G,
 ) -> EndedTransaction
     ensures receipts { HasCommitted (done_by result (job_writes job.now)) session.old session.new }
     ensures begins { IsBeginning session.old.seen session.new.seen }
     ensures tried { is_open session.old.number session.old.seen ≡ false → IsTried N.name.setting session.old.number job.now (mark_of result) session.old.seen session.new.seen }
     ensures lag { patience.new.lag ≡ patience.old.lag }
-    ensures mark { KeepsMark (λ mark. mark.token.of ≡ shared.now.logged.ended.id) patience.old.log_end patience.new.log_end }
+    ensures mark { KeepsMark (λ mark. mark.token.of ≡ desk.now.shared.now.logged.ended.id) patience.old.log_end patience.new.log_end }
     ensures held { result ≡ EndedTransaction.Committed → HasWaited N.out N.name.setting patience.old.lag (is_some patience.new.log_end) session.new }
 {
     let ops = job.ops.as_slice();
-    match attempt(rt, alloc, shared, session, ops, patience, gate) {
+    match attempt(rt, desk, session, ops, patience) {
         EndedTransaction::Died => {
-            let _turn = shared.turn_to_repeat(rt);
-            repeat(rt, alloc, shared, session, ops, patience, gate)
+            let _turn = desk.shared.turn_to_repeat(rt);
+            repeat(rt, desk, session, ops, patience)
         }
         ended => ended,
     }
@@ -310,23 +298,21 @@ fn try_job<'a, N: StoreName, R: Wait, G: ClientGate>(
 // Runs the job, and reports to the gate if it is given up.
 fn run<'a, N: StoreName, R: Wait, G: ClientGate>(
     rt: &R,
-    alloc: Global,
-    shared: &'a Shared<N>,
+    desk: &Desk<'a, N, G>,
     session: &mut Session<N>,
     job: &Job,
     patience: &mut Patience<'a>,
-    gate: &G,
 ) -> EndedTransaction
     ensures receipts { HasCommitted (done_by result (job_writes job.now)) session.old session.new }
     ensures begins { IsBeginning session.old.seen session.new.seen }
     ensures tried { is_open session.old.number session.old.seen ≡ false → IsTried N.name.setting session.old.number job.now (mark_of result) session.old.seen session.new.seen }
     ensures lag { patience.new.lag ≡ patience.old.lag }
-    ensures mark { KeepsMark (λ mark. mark.token.of ≡ shared.now.logged.ended.id) patience.old.log_end patience.new.log_end }
+    ensures mark { KeepsMark (λ mark. mark.token.of ≡ desk.now.shared.now.logged.ended.id) patience.old.log_end patience.new.log_end }
     ensures held { result ≡ EndedTransaction.Committed → HasWaited N.out N.name.setting patience.old.lag (is_some patience.new.log_end) session.new }
 {
-    let ended = try_job(rt, alloc, shared, session, job, patience, gate);
+    let ended = try_job(rt, desk, session, job, patience);
     if !matches!(ended, EndedTransaction::Committed) {
-        gate.pass(GatePlace::GaveUp(session.number()));
+        desk.gate.pass(GatePlace::GaveUp(session.number()));
     }
     ended
 }
@@ -345,19 +331,17 @@ fn run<'a, N: StoreName, R: Wait, G: ClientGate>(
 /// text has gone out, with 0 each of its commits; or it has the mark of the log's end, for which it went on.
 pub fn client_loop<'a, N: StoreName, R: Wait, G: ClientGate>(
     rt: &R,
-    alloc: Global,
-    shared: &'a Shared<N>,
+    desk: &Desk<'a, N, G>,
     session: &mut Session<N>,
     jobs: &[Job],
     lag: Option<u32>,
-    gate: &G,
 ) -> ClientEnd<'a>
     ensures run { HasRun jobs.now result.count.commits session.old session.new }
     ensures tried { HasTried N.name.setting jobs.now result.count.commits session.old session.new }
     ensures receipts { length session.new.receipts ≡ length session.old.receipts + result.count.commits }
     ensures all { result.count.commits + result.count.given_up ≡ length jobs.now }
     ensures held { IfSome lag (λ most. 0 < result.count.commits → is_some result.log_end ≡ false → AreHeld N.out N.name.setting most session.new) }
-    ensures ended { IfSome result.log_end (λ mark. mark.token.of ≡ shared.now.logged.ended.id) }
+    ensures ended { IfSome result.log_end (λ mark. mark.token.of ≡ desk.now.shared.now.logged.ended.id) }
 {
     let mut patience = Patience { lag, log_end: None };
     let mut count = Count {
@@ -365,7 +349,7 @@ pub fn client_loop<'a, N: StoreName, R: Wait, G: ClientGate>(
         given_up: 0,
     };
     for job in jobs {
-        let ended = run(rt, alloc, shared, session, job, &mut patience, gate);
+        let ended = run(rt, desk, session, job, &mut patience);
         count.note(ended);
     }
     let Patience { lag: _, log_end } = patience;

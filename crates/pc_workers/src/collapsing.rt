@@ -9,12 +9,20 @@ ghost use Rattle.pc_latch.specs.Tickets.{IsNoTicket};
 ghost use Rattle.pc_workers.specs.Boards.{HasClaimed};
 ghost use Rattle.pc_workers.specs.Collapsing.{has_point, HasCollapsed, HasEnded, HasShown, CollapserHasStopped};
 
+use crate::desk::Desk;
 use pc_board::{Board, BoardPass};
 use pc_shared::{PartTicket, Shared, Witness};
 use pc_tie::StoreName;
 use pc_types::{FileNo, Gate, GatePlace, Point, Refusal};
-use std::alloc::Global;
 use std::sync::Wait;
+
+/// One of the collapsers that share the points of a run: its number, from 0, which it passes to the gate; and the number of points
+/// whose files they take between them, which are those from 1 on.
+#[derive(Clone, Copy)]
+pub struct CollapserShare {
+    pub number: u8,
+    pub points: u32,
+}
 
 // The file of the point after the number, once a look shows the point; none if the end had been marked before a look that doesn't
 // show it. Between two looks it waits until the phase has changed: a point is published before the rest that ends its cycle.
@@ -99,33 +107,30 @@ fn take_in<N: StoreName, G: Gate>(
 }
 
 /// Claims numbers with the pass, takes the file of the point after each once that is published, and joins it immediately to the
-/// last ticket that it holds; before each join it passes the gate. It ends if a number isn't below `points`, if the end was marked
+/// last ticket that it holds; before each join it passes the gate. It ends if a number isn't below the share's `points`, if the end was marked
 /// before it looked and the number's point wasn't published, or if the pass can claim no more. It returns the tickets that it
 /// holds: none, one, or more if a join was refused; together they have just the points after the claimed numbers but the last. Its
 /// errors are `NoFile`, if the store that the witness has then seen has no file of the last number's point, and `OutOfMemory`; the
 /// tickets that it held are then dropped.
 pub fn collapse_loop<N: StoreName, R: Wait, G: Gate>(
     rt: &R,
-    alloc: Global,
-    shared: &Shared<N>,
+    desk: &Desk<'_, N, G>,
     witness: &mut Witness<N>,
     board: &Board,
     pass: &mut BoardPass,
-    collapser: u8,
-    points: u32,
-    gate: &G,
+    share: CollapserShare,
 ) -> Result<Vec<PartTicket<N>>, Refusal>
     requires { IsOfBoard pass.old board.now }
-    ensures held { IfOk result (λ tickets. HasCollapsed points pass.old pass.new tickets.items) }
-    ensures refused { IfErr result (CollapserHasStopped N.name.setting points witness.new pass.old pass.new) }
+    ensures held { IfOk result (λ tickets. HasCollapsed share.points pass.old pass.new tickets.items) }
+    ensures refused { IfErr result (CollapserHasStopped N.name.setting share.points witness.new pass.old pass.new) }
     ensures named { IfErr result (λ why. (why ≡ Refusal.NoFile) ⊎ (why ≡ Refusal.OutOfMemory)) }
     ensures had_seen { IsBeginning witness.old witness.new }
 {
-    let mut held = Vec::new(alloc);
+    let mut held = Vec::new(desk.alloc);
     for _ in rt.forever() {
         held.reserve(1)?;
-        match next_ticket(rt, shared, witness, board, pass, points) {
-            Ok(Some(ticket)) => take_in(&mut held, ticket, collapser, gate),
+        match next_ticket(rt, desk.shared, witness, board, pass, share.points) {
+            Ok(Some(ticket)) => take_in(&mut held, ticket, share.number, desk.gate),
             Ok(None) => return Ok(held),
             Err(why) => return Err(why),
         }

@@ -155,7 +155,10 @@ impl<'a, N: StoreName + Send + Sync, R: Threads + Wait + Sync> Desk<'a, N, R> {
             },
             || -> Result<u32, Refusal>
                 requires { IsOfBoard pass.now board.now × (phase_of seat.now ≡ Rest) }
-            { Ok(checkpoint_loop(self.rt, self.shared, seat, board, pass, POINTS, &OpenGate)?) },
+            {
+                let desk = self.with_gate(&OpenGate);
+                Ok(checkpoint_loop(self.rt, &desk, seat, board, pass, POINTS)?)
+            },
         );
         points?;
         committed

@@ -6,7 +6,7 @@ use pc_jobs::{Job, Op};
 use pc_shared::{CallAnswer, PartTicket, Session, Shared};
 use pc_tie::StoreName;
 use pc_types::{Gate, Items, Key, OpenGate, Refusal, Value};
-use pc_workers::{client_loop, collapse_loop};
+use pc_workers::{CollapserShare, client_loop, collapse_loop};
 use std::alloc::Global;
 use std::sync::Wait;
 
@@ -22,6 +22,15 @@ pub struct Desk<'a, N: StoreName, R: Wait> {
 }
 
 impl<'a, N: StoreName, R: Wait> Desk<'a, N, R> {
+    /// What a loop of this store works with that passes the gate.
+    pub fn with_gate<G: Gate>(&self, gate: &'a G) -> pc_workers::Desk<'a, N, G> {
+        pc_workers::Desk {
+            alloc: self.alloc,
+            shared: self.shared,
+            gate,
+        }
+    }
+
     /// Commits transactions over one key call by call, each of which reads it and sets it anew; the number of those that were.
     pub fn commit_often(&self, session: &mut Session<N>) -> Result<u64, Refusal> {
         for _ in 0..COMMITS {
@@ -45,12 +54,12 @@ impl<'a, N: StoreName, R: Wait> Desk<'a, N, R> {
 
     /// Runs jobs over another key by the client's loop; how many were committed.
     pub fn run_jobs(&self, session: &mut Session<N>) -> Result<u64, Refusal> {
-        let Desk { rt, alloc, shared } = *self;
-        let mut jobs = Vec::new(alloc);
+        let mut jobs = Vec::new(self.alloc);
         for _ in 0..COMMITS {
-            jobs.push(job_of(alloc)?)?;
+            jobs.push(job_of(self.alloc)?)?;
         }
-        let ended = client_loop(rt, alloc, shared, session, &jobs, None, &OpenGate);
+        let desk = self.with_gate(&OpenGate);
+        let ended = client_loop(self.rt, &desk, session, &jobs, None);
         Ok(ended.count.commits)
     }
 
@@ -66,23 +75,14 @@ impl<'a, N: StoreName, R: Wait> Desk<'a, N, R> {
         board: &Board,
         pass: &mut BoardPass,
         points: u32,
-        gate: &G,
+        gate: &'a G,
     ) -> Result<Vec<PartTicket<N>>, Refusal>
         requires { IsOfBoard pass.old board.now }
     {
-        let Desk { rt, alloc, shared } = *self;
-        let mut witness = shared.witness(rt);
-        collapse_loop(
-            rt,
-            alloc,
-            shared,
-            &mut witness,
-            board,
-            pass,
-            0,
-            points,
-            gate,
-        )
+        let mut witness = self.shared.witness(self.rt);
+        let desk = self.with_gate(gate);
+        let share = CollapserShare { number: 0, points };
+        collapse_loop(self.rt, &desk, &mut witness, board, pass, share)
     }
 }
 

@@ -96,8 +96,8 @@ impl<'a, N: StoreName + Send + Sync, R: Threads + Wait + Sync> Room<'a, N, R> {
         let Some(jobs) = self.jobs.get(place) else {
             return;
         };
-        let Desk { rt, alloc, shared } = self.desk;
-        let ended = client_loop(rt, alloc, shared, session, jobs, self.plan.lag, self.gate);
+        let desk = self.desk.with_gate(self.gate);
+        let ended = client_loop(self.desk.rt, &desk, session, jobs, self.plan.lag);
         self.done.note(ended.count);
     }
 
@@ -160,58 +160,34 @@ impl<'a, N: StoreName + Send + Sync, R: Threads + Wait + Sync> Room<'a, N, R> {
         held
     }
 
-    // The clients and the checkpointer, and concurrently the logger and the collapser, whose tickets these are. Once the first
-    // are through, the end is marked.
-    fn run_on(
+    // The clients, and concurrently the checkpointer, which takes the points. Once all are through, the end is marked.
+    fn run_to_end(
         &self,
         board: &Board,
-        ours: &mut BoardPass,
-        theirs: &mut BoardPass,
-        text: &mut TextOfLog<N>,
-        pass: &mut LogPass<N>,
+        pass: &mut BoardPass,
         seat: &mut CheckpointerSeat<N>,
         sessions: &mut [Session<N>],
-    ) -> Result<Vec<PartTicket<N>>, Refusal>
-        requires ours { IsOfBoard ours.old board.now }
-        requires theirs { IsOfBoard theirs.old board.now }
-        requires pass { pass.old ≡ [] }
+    ) -> Result<u32, Refusal>
+        requires board { IsOfBoard pass.old board.now }
         requires rest { phase_of seat.old ≡ Rest }
     {
-        let Desk { rt, shared, .. } = self.desk;
-        let (points, held) = join(
+        let rt = self.desk.rt;
+        let (points, ()) = join(
             rt,
             || -> Result<u32, Refusal>
-                requires { IsOfBoard ours.now board.now × (phase_of seat.now ≡ Rest) }
+                requires { IsOfBoard pass.now board.now × (phase_of seat.now ≡ Rest) }
             {
-                let (points, ()) = join(
-                    rt,
-                    || -> Result<u32, Refusal>
-                        requires { IsOfBoard ours.now board.now × (phase_of seat.now ≡ Rest) }
-                    {
-                        Ok(checkpoint_loop(
-                            rt,
-                            shared,
-                            seat,
-                            board,
-                            ours,
-                            self.plan.points,
-                            self.gate,
-                        )?)
-                    },
-                    || self.run_clients(sessions),
-                );
-                self.end(seat);
-                points
+                let desk = self.desk.with_gate(self.gate);
+                Ok(checkpoint_loop(rt, &desk, seat, board, pass, self.plan.points)?)
             },
-            || -> Result<Vec<PartTicket<N>>, Refusal>
-                requires { IsOfBoard theirs.now board.now × (pass.now ≡ []) }
-            { self.log_beside_collapser(board, theirs, text, pass) },
+            || self.run_clients(sessions),
         );
-        points?;
-        held
+        self.end(seat);
+        points
     }
 
-    // All of them. Then the other tickets are taken.
+    // All of them: the clients and the checkpointer, and concurrently the logger and the collapser. Then the tickets that the
+    // collapser isn't left with are taken.
     fn run_all(
         &self,
         text: &mut TextOfLog<N>,
@@ -226,7 +202,17 @@ impl<'a, N: StoreName + Send + Sync, R: Threads + Wait + Sync> Room<'a, N, R> {
         let (Some(mut theirs), Some(mut ours)) = (passes.pop(), passes.pop()) else {
             return Err(Refusal::NoSession);
         };
-        let mut held = self.run_on(&board, &mut ours, &mut theirs, text, pass, seat, sessions)?;
+        let (points, held) = join(
+            self.desk.rt,
+            || -> Result<u32, Refusal>
+                requires { IsOfBoard ours board × (phase_of seat.now ≡ Rest) }
+            { self.run_to_end(&board, &mut ours, seat, sessions) },
+            || -> Result<Vec<PartTicket<N>>, Refusal>
+                requires { IsOfBoard theirs board × (pass.now ≡ []) }
+            { self.log_beside_collapser(&board, &mut theirs, text, pass) },
+        );
+        points?;
+        let mut held = held?;
         let mut tickets = take_parts(&self.desk, seat, self.plan.points)?;
         tickets.append(&mut held)?;
         Ok(tickets)

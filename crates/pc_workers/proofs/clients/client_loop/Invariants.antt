@@ -11,5 +11,5 @@ invariant-loop-job g l = record {
   all : l.count.commits + l.count.given_up ≡ l.job-index;
   lag : l.patience.lag ≡ l.fn.lag;
   held : IfSome l.fn.lag (λ most. 0 < l.count.commits → is_some l.patience.log_end ≡ false → AreHeld g.N.StoreName.out g.N.StoreName.name.setting most l.session);
-  ours : IfSome l.patience.log_end (λ mark. mark.token.of ≡ l.shared.logged.ended.id);
+  ours : IfSome l.patience.log_end (λ mark. mark.token.of ≡ l.desk.shared.now.logged.ended.id);
 }

@@ -12,6 +12,6 @@ invariant-loop g l = record {
   committed : HasCommitted [] l.fn.session l.session;
   begins : IsBeginning l.fn.session.seen l.session.seen;
   lag : l.patience.lag ≡ l.fn.patience.lag;
-  mark : KeepsMark (λ mark. mark.token.of ≡ l.shared.logged.ended.id) l.fn.patience.log_end l.patience.log_end;
+  mark : KeepsMark (λ mark. mark.token.of ≡ l.desk.shared.now.logged.ended.id) l.fn.patience.log_end l.patience.log_end;
   died : is_open l.fn.session.number l.fn.session.seen ≡ false → AreDeaths g.N.StoreName.name.setting l.fn.session.number l.ops l.counter l.fn.session.seen l.session.seen;
 }
