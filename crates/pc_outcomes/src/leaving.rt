@@ -141,24 +141,31 @@ fn behind(files: &[SharedPart], singles: usize) -> &[SharedPart]
     &files[singles..]
 }
 
+/// What the report of a store is made with: the runtime of threads, the allocator, the seed of the hashes of keys, the number of
+/// collapsers that join the files, each on a thread of its own, and the gate that they pass.
+#[derive(Drop)]
+pub struct Reporter<'a, G: Gate, R> {
+    pub rt: &'a R,
+    pub alloc: Global,
+    pub seed: RandomState,
+    pub collapsers: u8,
+    pub gate: &'a G,
+}
+
 /// The outcome of a closed store's files. Those after the first `singles` are folded to one, by 1 to 64 collapsers; that one is
 /// audited too. After a legal history everything is correct. Refuses for what keeps them from being folded, or the base from having
 /// their fold applied to it, and otherwise with `OutOfMemory` alone: after a legal history that is `Gap`, if one of the points up to
 /// theirs is missing, or `Full`, and that only of a store that began with more pairs than it has room for, or has room for more than
 /// a file may have. Keys are hashed under the seed, a random 128-bit number.
 pub fn left_by<G: Gate + Sync, R: Threads + Wait + Sync>(
-    rt: &R,
-    alloc: Global,
-    seed: RandomState,
+    reporter: &Reporter<'_, G, R>,
     base: &Base,
     log: &Log,
     files: Vec<SharedPart>,
     singles: usize,
-    collapsers: u8,
-    gate: &G,
 ) -> Result<StoreReport, Refusal>
     requires singles { singles ≤ length files.items }
-    requires collapsers { (1 ≤ collapsers) × (collapsers ≤ MOST_COLLAPSERS) }
+    requires collapsers { (1 ≤ reporter.now.collapsers) × (reporter.now.collapsers ≤ MOST_COLLAPSERS) }
     ensures left { IfOk result (IsStoreReport base.now (entries_of log.now) files.items (drop singles files.items)) }
     ensures legacy { (st : Setting) (history : History) → AreLeftAfter st history base.now (entries_of log.now) files.items → IfOk result (IsLegacy base.now (entries_of log.now) (drop singles files.items)) }
     ensures refused { IfErr result (IsReportUntold base.now (drop singles files.items)) }
@@ -166,10 +173,18 @@ pub fn left_by<G: Gate + Sync, R: Threads + Wait + Sync>(
 {
     files_fold_well();
     files_of_their_points_are_right();
-    let part = collapsed(rt, alloc, behind(&files, singles), collapsers, gate)?;
+    let alloc = reporter.alloc;
+    let several = behind(&files, singles);
+    let part = collapsed(
+        reporter.rt,
+        alloc,
+        several,
+        reporter.collapsers,
+        reporter.gate,
+    )?;
     let collapsed = summary_if_any(alloc, base, &part)?;
     let files = with_file(alloc, files, part)?;
-    let is_right = are_files_right(alloc, seed, base, log, &files)?;
+    let is_right = are_files_right(alloc, reporter.seed, base, log, &files)?;
     Ok(StoreReport {
         collapsed,
         is_right,

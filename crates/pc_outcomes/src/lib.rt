@@ -4,5 +4,5 @@
 mod leaving;
 mod run_report;
 
-pub use leaving::{commits_in, left_by};
+pub use leaving::{Reporter, commits_in, left_by};
 pub use run_report::{Collapsed, Printed, RunReport, StoreReport};

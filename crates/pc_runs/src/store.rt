@@ -25,7 +25,7 @@ use pc_board::{Board, BoardPass};
 use pc_capture::SharedPart;
 use pc_io::Tally;
 use pc_jobs::{Workload, deal};
-use pc_outcomes::{RunReport, StoreReport, commits_in, left_by};
+use pc_outcomes::{Reporter, RunReport, StoreReport, commits_in, left_by};
 use pc_shared::{CheckpointerSeat, Closed, Opened, PartTicket, Session, Shared};
 use pc_texts::FileName;
 use pc_threads::{
@@ -106,9 +106,12 @@ fn with_idle<N: StoreName>(stop: ThreadsStop<N>, idle: Vec<Session<N>>) -> Threa
                 sessions: mut busy,
                 given_up,
             } = ran;
-            let mut sessions = idle;
-            match sessions.append(&mut busy) {
-                Ok(()) => ThreadsStop::LogFull(full, Ran { sessions, given_up }),
+            let mut all = idle;
+            match all.append(&mut busy) {
+                Ok(()) => {
+                    let sessions = all;
+                    ThreadsStop::LogFull(full, Ran { sessions, given_up })
+                }
                 Err(_) => ThreadsStop::Other(ThreadsFault::Refused(Refusal::OutOfMemory)),
             }
         }
@@ -277,17 +280,14 @@ fn leave<N: StoreName, G: Gate + Sync, R: Threads + Wait + Sync>(
     let (alloc, crew) = (context.alloc, &context.crew);
     let mut closed = closed;
     let files = files_of(alloc, &mut closed)?;
-    let files = left_by(
-        context.rt,
+    let reporter = Reporter {
+        rt: context.rt,
         alloc,
-        context.seed,
-        closed.base(),
-        closed.log(),
-        files,
-        singles,
-        crew.collapsers,
-        crew.gate,
-    )?;
+        seed: context.seed,
+        collapsers: crew.collapsers,
+        gate: crew.gate,
+    };
+    let files = left_by(&reporter, closed.base(), closed.log(), files, singles)?;
     Ok(Legacy {
         commits: commits_in(closed.log()) as u64,
         files,

@@ -110,32 +110,41 @@ pub(crate) fn has_all<N: StoreName>(sessions: &[Session<N>], count: u8) -> bool
     true
 }
 
+// What is handed in as a store is closed.
+#[derive(Drop)]
+pub(crate) struct HandedIn<N: StoreName> {
+    pub(crate) sessions: Vec<Session<N>>,
+    pub(crate) checkpointer: CheckpointerSeat<N>,
+    pub(crate) tickets: Vec<PartTicket<N>>,
+    pub(crate) pass: LogPass<N>,
+}
+
 // Compares the history with those that the sessions, the checkpointer, the tickets and the pass have seen.
 pub(crate) fn close<N: StoreName>(
     tie: &Tie<N>,
     count: u8,
     latched: Latched<N>,
-    sessions: Vec<Session<N>>,
-    checkpointer: CheckpointerSeat<N>,
-    tickets: Vec<PartTicket<N>>,
-    pass: LogPass<N>,
+    handed: HandedIn<N>,
 ) -> Closed<N>
     ensures stands { Stands result.world latched × (setting_of result.world ≡ N.name.setting) }
-    ensures receipts { result.receipts.items ≡ sessions.items }
-    ensures settled { All (IsSitterSettled N.name.setting latched) sessions.items }
-    ensures apart { AreSittersApart sessions.items }
-    ensures calls { HasCallsOf latched 0 checkpointer }
-    ensures parts { result.parts.items ≡ tickets.items }
-    ensures worth { All (IsOfItsPoints N.name.setting.run N.name.setting.base (log_of latched)) tickets.items }
-    ensures list { (pass ≡ take result.logged (log_of latched)) × (result.logged ≤ length (log_of latched)) }
-    ensures all { MatchBool result.all (HasAll count sessions.items) (LacksOne count sessions.items) }
+    ensures receipts { result.receipts.items ≡ handed.sessions.items }
+    ensures settled { All (IsSitterSettled N.name.setting latched) handed.sessions.items }
+    ensures apart { AreSittersApart handed.sessions.items }
+    ensures calls { HasCallsOf latched 0 handed.checkpointer }
+    ensures parts { result.parts.items ≡ handed.tickets.items }
+    ensures worth { All (IsOfItsPoints N.name.setting.run N.name.setting.base (log_of latched)) handed.tickets.items }
+    ensures list { (handed.pass ≡ take result.logged (log_of latched)) × (result.logged ≤ length (log_of latched)) }
+    ensures all { MatchBool result.all (HasAll count handed.sessions.items) (LacksOne count handed.sessions.items) }
 {
     let (world, mut keeper) = latched.into_parts();
-    let mut checkpointer = checkpointer;
+    let HandedIn {
+        mut sessions,
+        mut checkpointer,
+        mut tickets,
+        pass,
+    } = handed;
     keeper.compare_own(tie, &mut checkpointer);
-    let mut sessions = sessions;
     compare_all(tie, &mut keeper, &mut sessions);
-    let mut tickets = tickets;
     renew_tickets(tie, &mut keeper, &mut tickets);
     let logged = pass.close(tie, &mut keeper);
     let all = has_all(sessions.as_slice(), count);

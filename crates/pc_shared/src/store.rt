@@ -19,7 +19,7 @@ ghost use Rattle.pc_shared.specs.Granted.{HasGranted};
 ghost use Rattle.pc_shared.specs.Sitters.{new_sitters, IsEndOf, IsLeftByStore, AreSittersApart, HasAll, LacksOne};
 ghost use Rattle.pc_waiting.specs.Waking.{none_wait, woken_by, waits_after_reply};
 
-use crate::closing::{Closed, close, settle};
+use crate::closing::{Closed, HandedIn, close, settle};
 use crate::logged::{LastEntry, LogBatch, Logged};
 use crate::session::Session;
 use crate::written::Written;
@@ -402,7 +402,13 @@ impl<N: StoreName> Shared<N> {
             count,
         } = self;
         let UnderLatch { latched, waits: _ } = latch.into_inner();
-        close(&tie, count, latched, sessions, checkpointer, tickets, pass)
+        let handed = HandedIn {
+            sessions,
+            checkpointer,
+            tickets,
+            pass,
+        };
+        close(&tie, count, latched, handed)
     }
 
     /// Ends the store, of which nothing is left but this: by one legal history, each session handed in has seen a beginning of it

@@ -7,7 +7,7 @@ use Rattle.pc_model.specs.History.{History}
 use Rattle.pc_model.specs.Replies.{Setting, IsLegalHistory, log_is_full}
 use Rattle.pc_workers.specs.Checkpointing.{Shows}
 use Rattle.pc_workers.specs.declared.checkpointing.CheckpointFault.{CheckpointFault}
-use Rattle.pc_threads.specs.Faults.{HasFullLog, IsFaultOf, IsStop, IsThreadsEnd, PointsHaveStopped}
+use Rattle.pc_threads.specs.Faults.{HasFullLog, IsPointsFaultOf, IsStop, IsThreadsEnd, PointsHaveStopped}
 use Rattle.pc_threads.specs.declared.fault.ThreadsFault.{ThreadsFault}
 use Rattle.pc_threads.specs.declared.fault.ThreadsFault.TheVariants as fault
 use Rattle.pc_threads.specs.declared.points.FullLog.{FullLog}
@@ -17,7 +17,7 @@ use Rattle.pc_threads.specs.declared.points.TheConstants.{TOKENS}
 use Rattle.pc_threads.proofs.StopLaws.{more_end}
 
 -- after a refusal of the store
-pub refused_stop : {N : Type 0} (st : Setting) (writes : Bool) (last : ℕ) (given : CheckpointFault N) (seat : History) (stop : PointsFault N) → IsFaultOf given seat stop → Shows st seat given.why given.seen → length (phases_entered seat) ≤ TOKENS * last
+pub refused_stop : {N : Type 0} (st : Setting) (writes : Bool) (last : ℕ) (given : CheckpointFault N) (seat : History) (stop : PointsFault N) → IsPointsFaultOf given seat stop → Shows st seat given.why given.seen → length (phases_entered seat) ≤ TOKENS * last
     → (given.why ≢ why.LogFull → IsStop writes 0 last given.why) → PointsHaveStopped st writes last stop
 refused_stop st writes last given seat (points.LogFull full) (is, at, shown) shows few other = record {
   legal = subst (IsLegalHistory st) (sym shown) shows.legal;

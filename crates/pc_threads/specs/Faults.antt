@@ -66,9 +66,9 @@ pub record HasFullLog {N : Type 0} (st : Setting) (points : ℕ) (full : FullLog
   pub phases : length (phases_entered full.seat) ≤ TOKENS * points
 
 -- the fault of the points, after this refusal to the checkpointer of a seat that has seen this history
-abbrev pub IsFaultOf : {N : Type 0} → CheckpointFault N → History → PointsFault N → Type 0
-IsFaultOf stop seat (points.LogFull full) = (stop.why ≡ refusal.LogFull) × (full.seat ≡ seat) × (full.seen ≡ stop.seen)
-IsFaultOf stop seat (points.Other why) = (stop.why ≢ refusal.LogFull) × (why ≡ fault.Refused stop.why)
+abbrev pub IsPointsFaultOf : {N : Type 0} → CheckpointFault N → History → PointsFault N → Type 0
+IsPointsFaultOf stop seat (points.LogFull full) = (stop.why ≡ refusal.LogFull) × (full.seat ≡ seat) × (full.seen ≡ stop.seen)
+IsPointsFaultOf stop seat (points.Other why) = (stop.why ≢ refusal.LogFull) × (why ≡ fault.Refused stop.why)
 
 -- Why the points up to this one are not all taken, if files are written or not: the log has no place left, or one of the faults above.
 abbrev pub PointsHaveStopped : {N : Type 0} → Setting → Bool → ℕ → PointsFault N → Type 0

@@ -5,7 +5,7 @@ ghost use Rattle.pc_types.specs.declared.limits.TheConstants.{MOST_POINTS};
 ghost use Rattle.pc_model.specs.History.{History, phase_of};
 ghost use Rattle.pc_workers.specs.Checkpointing.{HasCycled};
 ghost use Rattle.pc_texts.specs.declared.file_names.FileName.TheVariants as file;
-ghost use Rattle.pc_threads.specs.Faults.{IsFaultOf, IsThreadsEnd, PointsHaveStopped};
+ghost use Rattle.pc_threads.specs.Faults.{IsPointsFaultOf, IsThreadsEnd, PointsHaveStopped};
 ghost use Rattle.pc_threads.specs.Files.{HasParts, HasWritten};
 
 use crate::fault::ThreadsFault;
@@ -59,7 +59,7 @@ impl<N: StoreName> From<ThreadsFault> for PointsFault<N> {
 
 // The fault of points that are not all taken, after a refusal to the checkpointer of this seat.
 fn fault_of<N: StoreName>(stop: CheckpointFault<N>, seat: CheckpointerSeat<N>) -> PointsFault<N>
-    ensures { IsFaultOf stop seat result }
+    ensures { IsPointsFaultOf stop seat result }
 {
     let CheckpointFault { why, seen } = stop;
     match why {

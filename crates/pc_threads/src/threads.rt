@@ -121,20 +121,17 @@ impl<N: StoreName, F: Write> Promise<Result<Written<N, F>, LogFault<F>>> for Log
 }
 
 // Joins the files of points as they are published. Gives the tickets that the collapser holds in the end; none if its witness has
-// seen a history without a file: the checkpointer then takes those of all points that no collapser holds. All its arguments are
-// passed one by one, and not in a room: otherwise nothing is known of the thread that runs it.
+// seen a history without a file: the checkpointer then takes those of all points that no collapser holds. What it works with is
+// passed part by part, and not in a room: otherwise nothing is known of the thread that runs it.
 fn collapse<N: StoreName, R: Wait, G: Gate>(
     rt: &R,
     alloc: Global,
     shared: &Shared<N>,
-    board: &Board,
-    mut pass: BoardPass,
-    number: u8,
-    points: u32,
+    seat: Seat<'_>,
+    share: CollapserShare,
     gate: &G,
 ) -> Result<Vec<PartTicket<N>>, Refusal>
-    requires { IsOfBoard pass board.now }
-    ensures only { IfOk result (λ tickets. HaveOnlyTo points tickets.items) }
+    ensures only { IfOk result (λ tickets. HaveOnlyTo share.points tickets.items) }
     ensures memory { IfErr result (λ why. why ≡ Refusal.OutOfMemory) }
 {
     let mut seen = shared.witness(rt);
@@ -143,7 +140,7 @@ fn collapse<N: StoreName, R: Wait, G: Gate>(
         shared,
         gate,
     };
-    let share = CollapserShare { number, points };
+    let Seat { board, mut pass } = seat;
     match collapse_loop(rt, &desk, &mut seen, board, &mut pass, share) {
         Ok(held) => Ok(held),
         Err(Refusal::NoFile) => Ok(Vec::new(alloc)),
@@ -334,13 +331,10 @@ fn run_hands<
             let mut handles = handles;
             for collapser in collapsers {
                 let Collapser { number, seat } = collapser;
-                let Seat { board, pass } = seat;
-                match scope.spawn_with(
-                    UpTo(points),
-                    move ||
-                        requires { IsOfBoard pass board.now }
-                    { collapse(rt, alloc, shared, board, pass, number, points, gate) },
-                ) {
+                match scope.spawn_with(UpTo(points), move || {
+                    let share = CollapserShare { number, points };
+                    collapse(rt, alloc, shared, seat, share, gate)
+                }) {
                     Ok(handle) => {
                         let Ok(()) = handles.push(handle) else {
                             mark_end(rt, room.desk.shared);

@@ -23,7 +23,7 @@ returns-clause-settled g c =
     let st = g.N.StoreName.name.setting in
     let is = c.into_parts-world.ensures in
     let k = c.compare_own.new.self in
-    let ss = c.args.sessions.items in
+    let ss = c.args.handed.sessions.items in
     let none : k.guests ≡ [] = ap (λ (m : KeeperView). m.guests) c.compare_own.ensures.same.0 ∙ is.keeper.1 in
     let there : k.history ≡ c.args.latched = ap (λ (m : KeeperView). m.history) c.compare_own.ensures.same.0 ∙ is.keeper.0 in
     let legal : IsLegalHistory st k.history = subst (λ (y : Setting × History). IsLegalHistory y.0 y.1) (λ i. (is.stands.1 i, sym there i)) is.stands.0.legal in
@@ -33,10 +33,10 @@ pub returns-clause-apart : goal.returns-clause-apart
 returns-clause-apart g c =
     let k = c.compare_own.new.self in
     let none : k.guests ≡ [] = ap (λ (m : KeeperView). m.guests) c.compare_own.ensures.same.0 ∙ c.into_parts-world.ensures.keeper.1 in
-    all_apart c.args.sessions.items k.guests none c.compare_all.ensures.seated c.compare_all.ensures.apart
+    all_apart c.args.handed.sessions.items k.guests none c.compare_all.ensures.seated c.compare_all.ensures.apart
 
 pub returns-clause-calls : goal.returns-clause-calls
-returns-clause-calls g c = subst (λ (h : History). HasCallsOf h 0 c.args.checkpointer) c.into_parts-world.ensures.keeper.0 c.compare_own.ensures.knew
+returns-clause-calls g c = subst (λ (h : History). HasCallsOf h 0 c.args.handed.checkpointer) c.into_parts-world.ensures.keeper.0 c.compare_own.ensures.knew
 
 pub returns-clause-list : goal.returns-clause-list
 returns-clause-list g c =
@@ -52,14 +52,14 @@ returns-clause-worth g c =
     let is = c.into_parts-world.ensures in
     let chain : c.compare_all.new.keeper.history ≡ c.args.latched = ap (λ (m : KeeperView). m.history) (c.compare_all.ensures.keeper ∙ c.compare_own.ensures.same.0) ∙ is.keeper.0 in
     let legal : IsLegalHistory st c.compare_all.new.keeper.history = subst (λ (y : Setting × History). IsLegalHistory y.0 y.1) (λ i. (is.stands.1 i, sym chain i)) is.stands.0.legal in
-    subst (λ (h : History). All (IsOfItsPoints st.run st.base (log_of h)) c.args.tickets.items) chain (c.renew_tickets.ensures.worth legal)
+    subst (λ (h : History). All (IsOfItsPoints st.run st.base (log_of h)) c.args.handed.tickets.items) chain (c.renew_tickets.ensures.worth legal)
 
 pub invariant_of-result : goal.invariant_of-result
 invariant_of-result g c =
     let st = g.N.StoreName.name.setting in
     let is = c.into_parts-world.ensures in
     let k = c.compare_own.new.self in
-    let ss = c.args.sessions.items in
+    let ss = c.args.handed.sessions.items in
     let none : k.guests ≡ [] = ap (λ (m : KeeperView). m.guests) c.compare_own.ensures.same.0 ∙ is.keeper.1 in
     let there : k.history ≡ c.args.latched = ap (λ (m : KeeperView). m.history) c.compare_own.ensures.same.0 ∙ is.keeper.0 in
     let legal : IsLegalHistory st k.history = subst (λ (y : Setting × History). IsLegalHistory y.0 y.1) (λ i. (is.stands.1 i, sym there i)) is.stands.0.legal in
