@@ -16,8 +16,8 @@ use pc_tie::StoreName;
 use pc_types::{FileNo, Gate, GatePlace, Point, Refusal};
 use std::sync::Wait;
 
-/// One of the collapsers that share the points of a run: its number, from 0, which it passes to the gate; and the number of points
-/// whose files they take between them, which are those from 1 on.
+/// A collapser's share of a run: its number, from 0, which it passes to the gate, and the number of points, from the first on,
+/// whose files all collapsers take between them.
 #[derive(Clone, Copy)]
 pub struct CollapserShare {
     pub number: u8,
@@ -107,11 +107,11 @@ fn take_in<N: StoreName, G: Gate>(
 }
 
 /// Claims numbers with the pass, takes the file of the point after each once that is published, and joins it immediately to the
-/// last ticket that it holds; before each join it passes the gate. It ends if a number isn't below the share's `points`, if the end was marked
-/// before it looked and the number's point wasn't published, or if the pass can claim no more. It returns the tickets that it
-/// holds: none, one, or more if a join was refused; together they have just the points after the claimed numbers but the last. Its
-/// errors are `NoFile`, if the store that the witness has then seen has no file of the last number's point, and `OutOfMemory`; the
-/// tickets that it held are then dropped.
+/// last ticket that it holds; before each join it passes the gate. It ends if a number isn't below the share's `points`, if the end
+/// was marked before it looked and the number's point wasn't published, or if the pass can claim no more. It returns the tickets
+/// that it holds: none, one, or more if a join was refused; together they have just the points after the claimed numbers but the
+/// last. Its errors are `NoFile`, if the store that the witness has then seen has no file of the last number's point, and
+/// `OutOfMemory`; the tickets that it held are then dropped.
 pub fn collapse_loop<N: StoreName, R: Wait, G: Gate>(
     rt: &R,
     desk: &Desk<'_, N, G>,
