@@ -1,10 +1,9 @@
 //! A store of a workload, from its opening to its result.
-ghost use Rattle.std.specs.Prelude.{◌≡◌, ◌≤◌, ◌<◌, ◌||◌, ◌++◌, [], All, List, length, drop, is_some, IfErr, IfOk};
-ghost use Rattle.pc_types.specs.declared.limits.TheConstants.{MOST_KEYS, MOST_PASSES};
+ghost use Rattle.std.specs.Prelude.{◌≡◌, ◌≤◌, ◌<◌, ◌||◌, ◌++◌, [], List, length, drop, is_some, IfErr, IfOk};
+ghost use Rattle.pc_types.specs.declared.limits.TheConstants.{MOST_KEYS};
 ghost use Rattle.pc_types.specs.declared.refusal.Refusal.{Refusal};
 ghost use Rattle.pc_types.specs.declared.refusal.Refusal.TheVariants.{OutOfMemory};
 ghost use Rattle.pc_model.specs.History.{History};
-ghost use Rattle.pc_board.specs.Passes.{IsOfBoard};
 ghost use Rattle.pc_outcomes.specs.Leaving.{AreLeftAfter, IsLegacy, IsUntoldAfter, commits_in};
 ghost use Rattle.pc_shared.specs.Sitters.{Sitter, new_sitters};
 ghost use Rattle.pc_shared.specs.Written.{CountsAsOut};
@@ -21,7 +20,7 @@ ghost use Rattle.pc_runs.specs.Runs.{IsWorkloadRun};
 
 use crate::crew::RunContext;
 use crate::pace::every_of;
-use pc_board::{Board, BoardPass};
+use pc_board::{Board};
 use pc_capture::SharedPart;
 use pc_io::Tally;
 use pc_jobs::{Workload, deal};

@@ -1,7 +1,7 @@
 -- A cause that stops some of a client's transactions stops them all, and at most as many are given up as there are.
 use Rattle.std.proofs.Common.{◌≡◌, ◌⊎◌, ℕ, zero, suc, ◌+◌, ◌<◌, ◌≤◌, ◌^◌, ◌++◌, Bool, true, false, List, [], ◌∷◌, length, length-append, map, take, drop, get_or, refl, sym, ap, subst, ◌∙◌, inl, inr, arith}
 use Rattle.std.specs.List.{flat_map}
-use Rattle.std.specs.Prelude.{IsTrue, ◌||◌, All, Option, Some, None, is_some}
+use Rattle.std.specs.Prelude.{IsTrue, ◌||◌, Option, Some, None, is_some}
 use Rattle.std.proofs.lemmas.List.{drop_more, take-append-drop}
 use Rattle.std.proofs.lemmas.List.Concat.{flat_map-append}
 use Rattle.pc_types.specs.declared.refusal.Refusal.{Refusal}

@@ -1,5 +1,5 @@
 //! The clients of a workload: each has a session, and each worker runs its own clients, in order.
-ghost use Rattle.std.specs.Prelude.{◌≡◌, ◌⊎◌, ◌≤◌, ◌+◌, ◌^◌, ◌==◌, ◌||◌, ◌++◌, [], ◌∷◌, ℕ, true, All, IfOk, IfErr, List, is_some, length, map};
+ghost use Rattle.std.specs.Prelude.{◌≡◌, ◌⊎◌, ◌≤◌, ◌+◌, ◌^◌, ◌==◌, ◌||◌, ◌++◌, [], ◌∷◌, ℕ, true, All, IfOk, IfErr, List, is_some, map};
 ghost use Rattle.std.specs.List.{flat_map};
 ghost use Rattle.pc_types.specs.declared.refusal.Refusal.TheVariants.{Full, OutOfMemory};
 ghost use Rattle.pc_jobs.specs.Jobs.{job_of};

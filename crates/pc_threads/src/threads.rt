@@ -1,6 +1,5 @@
 //! The threads of a run: workers and the checkpointer, and concurrently with all of them collapsers and the logger.
-ghost use Rattle.std.specs.Prelude.{◌≡◌, ◌||◌, ℕ, Bool, false, [], All, IfErr, IfOk, is_some, map};
-ghost use Rattle.pc_board.specs.Passes.{IsOfBoard};
+ghost use Rattle.std.specs.Prelude.{◌≡◌, ◌||◌, ℕ, Bool, [], All, IfErr, IfOk, is_some, map};
 ghost use Rattle.pc_types.specs.declared.Phase.TheVariants.{Rest};
 ghost use Rattle.pc_model.specs.History.{phase_of};
 ghost use Rattle.pc_shared.specs.Written.{CountsAsOut};
@@ -17,9 +16,8 @@ use crate::hands::{Collapser, Hands, Seat};
 use crate::points::{Checkpointer, take_points};
 use crate::room::Room;
 use crate::stop::ThreadsStop;
-use pc_board::{Board, BoardPass};
 use pc_io::Tally;
-use pc_shared::{CheckpointerSeat, LogPass, PartTicket, Shared, Witness};
+use pc_shared::{CheckpointerSeat, LogPass, PartTicket, Shared};
 use pc_tie::StoreName;
 use pc_types::{Gate, Refusal};
 use pc_workers::{ClientGate, CollapserShare, Desk, collapse_loop, log_loop};

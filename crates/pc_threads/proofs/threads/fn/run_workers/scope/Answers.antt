@@ -8,8 +8,7 @@ use Rattle.pc_model.specs.History.{History}
 use Rattle.pc_workers.specs.Checkpointing.{HasCycled}
 use Rattle.pc_workers.proofs.WholeCycles.{cycled_none}
 use Rattle.pc_threads.specs.Clients.{HaveWorked, clients_in, transactions_in}
-use Rattle.pc_threads.specs.Faults.{IsThreadsEnd, PointsHaveStopped, ThreadsHaveStopped}
-use Rattle.pc_threads.proofs.PointStopLaws.{points_stop}
+use Rattle.pc_threads.specs.Faults.{IsThreadsEnd}
 use Rattle.pc_threads.proofs.StopLaws.{left_true, more_end}
 use Rattle.pc_threads.proofs.threads.fn.run_workers.scope.Goals as goal
 
