@@ -12,7 +12,7 @@ pub returns-clause-left : goal.returns-clause-left
 returns-clause-left g c =
     record {
       collapsed = c.in_ok-part.part;
-      folded = rw (c.behind.ensures ∙ ap (drop c.args.singles) c.deref.ensures.value) at c.in_ok-part.ensures.folded;
+      folded = rw (c.behind-several.ensures ∙ ap (drop c.args.singles) c.deref.ensures.value) at c.in_ok-part.ensures.folded;
       summary = c.in_ok-collapsed.ensures.summary;
       right = rw (c.deref-2.ensures.value ∙ c.in_ok-files.ensures.all) at c.in_ok-is_right.ensures;
     }
@@ -25,7 +25,7 @@ pub returns-in_err-part-clause-untold : goal.returns-in_err-part-clause-untold
 returns-in_err-part-clause-untold g c st history after =
     let p = err_from_is_err_and c.from_residual.result c.from_residual.ensures.1 in
     let why = c.in_err-part.field-0.0 in
-    let behind = c.behind.ensures ∙ ap (drop c.args.singles) c.deref.ensures.value in
+    let behind = c.behind-several.ensures ∙ ap (drop c.args.singles) c.deref.ensures.value in
     rw (p.1, p.2)
     (not_folded c.files_fold_well.ensures st history c.args.base.now (entries_of c.args.log.now) c.args.files.items after c.args.singles why
     (subst (λ (some : List File). (why ≡ OutOfMemory) ⊎ IsUnfolded some why) behind c.in_err-part.ensures.refused))
@@ -33,7 +33,7 @@ returns-in_err-part-clause-untold g c st history after =
 pub returns-in_err-collapsed-clause-untold : goal.returns-in_err-collapsed-clause-untold
 returns-in_err-collapsed-clause-untold g c st history after =
     let p = err_from_is_err_and c.from_residual-in_err-collapsed.result c.from_residual-in_err-collapsed.ensures.1 in
-    let behind = c.behind.ensures ∙ ap (drop c.args.singles) c.deref.ensures.value in
+    let behind = c.behind-several.ensures ∙ ap (drop c.args.singles) c.deref.ensures.value in
     let part = c.in_ok-part.part in
     rw (p.1, p.2)
     (not_laid c.files_fold_well.ensures st history c.args.base.now (entries_of c.args.log.now) c.args.files.items after c.args.singles c.in_err-collapsed.field-0.0 part
