@@ -131,8 +131,9 @@ impl<'a, N: StoreName, D: Drop> Checkpointer<'a, N, D> {
             mut written,
         } = self;
         let Seat { board, mut pass } = at_board;
-        if let Err(stop) = checkpoint_loop(rt, &room.desk, &mut at_store, board, &mut pass, 1) {
-            return Err(fault_of(stop, at_store));
+        match checkpoint_loop(rt, &room.desk, &mut at_store, board, &mut pass, 1) {
+            Ok(_) => {}
+            Err(stop) => return Err(fault_of(stop, at_store)),
         }
         let folder = match folder {
             Some(mut folder) => {
