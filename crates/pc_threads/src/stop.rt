@@ -19,7 +19,7 @@ pub enum ThreadsStop<N: StoreName> {
 
 impl<N: StoreName> ThreadsStop<N> {
     // The points are not all taken for this cause, and these clients have run.
-    pub(crate) fn of(fault: PointsFault<N>, ran: Ran<N>) -> ThreadsStop<N>
+    pub(crate) fn with_clients(fault: PointsFault<N>, ran: Ran<N>) -> ThreadsStop<N>
         ensures { result ≡ stop_of fault ran }
     {
         match fault {

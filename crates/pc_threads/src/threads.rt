@@ -1,5 +1,6 @@
 //! The threads of a run: workers and the checkpointer, and concurrently with all of them collapsers and the logger.
 ghost use Rattle.std.specs.Prelude.{◌≡◌, ◌||◌, ℕ, Bool, [], All, IfErr, IfOk, is_some, map};
+ghost use Rattle.pc_board.specs.Passes.{IsOfBoard};
 ghost use Rattle.pc_types.specs.declared.Phase.TheVariants.{Rest};
 ghost use Rattle.pc_model.specs.History.{phase_of};
 ghost use Rattle.pc_shared.specs.Written.{CountsAsOut};
@@ -281,11 +282,11 @@ fn run_workers<
             let ran = join_workers(rt, room.desk.alloc, handles)?;
             let checkpointer = match most {
                 Ok(checkpointer) => checkpointer,
-                Err(fault) => return Err(ThreadsStop::of(fault, ran)),
+                Err(fault) => return Err(ThreadsStop::with_clients(fault, ran)),
             };
             match take_points(rt, room, checkpointer, beside, points) {
                 Ok(checkpointer) => Ok(with_points(checkpointer, ran)),
-                Err(fault) => Err(ThreadsStop::of(fault, ran)),
+                Err(fault) => Err(ThreadsStop::with_clients(fault, ran)),
             }
         },
     )
@@ -329,10 +330,19 @@ fn run_hands<
             let mut handles = handles;
             for collapser in collapsers {
                 let Collapser { number, seat } = collapser;
-                match scope.spawn_with(UpTo(points), move || {
-                    let share = CollapserShare { number, points };
-                    collapse(rt, alloc, shared, seat, share, gate)
-                }) {
+                let Seat { board, pass } = seat;
+                match scope.spawn_with(
+                    UpTo(points),
+                    move || -> Result<Vec<PartTicket<N>>, Refusal>
+                        requires { IsOfBoard pass board.now }
+                        ensures only { IfOk result (λ tickets. HaveOnlyTo points tickets.items) }
+                        ensures memory { IfErr result (λ why. why ≡ Refusal.OutOfMemory) }
+                    {
+                        let seat = Seat { board, pass };
+                        let share = CollapserShare { number, points };
+                        collapse(rt, alloc, shared, seat, share, gate)
+                    },
+                ) {
                     Ok(handle) => {
                         let Ok(()) = handles.push(handle) else {
                             mark_end(rt, room.desk.shared);

@@ -8,7 +8,8 @@ use Rattle.pc_model.specs.History.{History}
 use Rattle.pc_workers.specs.Checkpointing.{HasCycled}
 use Rattle.pc_workers.proofs.WholeCycles.{cycled_none}
 use Rattle.pc_threads.specs.Clients.{HaveWorked, clients_in, transactions_in}
-use Rattle.pc_threads.specs.Faults.{IsThreadsEnd}
+use Rattle.pc_threads.specs.Faults.{IsThreadsEnd, PointsHaveStopped, ThreadsHaveStopped}
+use Rattle.pc_threads.proofs.PointStopLaws.{points_stop}
 use Rattle.pc_threads.proofs.StopLaws.{left_true, more_end}
 use Rattle.pc_threads.proofs.threads.fn.run_workers.scope.Goals as goal
 
@@ -34,26 +35,6 @@ loop-worker-preserved g c =
           (All-append (λ handle. handle.promise.1 ≡ has_log) c.loop-worker.handles.items (first ∷ []) c.loop-worker.invariant.3 more),
     )
 
-pub returns : goal.returns
-returns g c =
-    let rest = c.loop-worker.worker-iterator.rest in
-    let none : rest.items ≡ [] = nil_from_length rest.items (sym rest.ok.0 ∙ c.in-None.ensures.steps.0) in
-    let promised = map (λ handle. handle.promise.0.value) c.loop-worker.handles.items in
-    let all : promised ≡ c.captures.workers.items =
-    sym (append-nil promised) ∙ ap (λ (more : List (List Client)). promised ++ more) (sym none) ∙ c.loop-worker.invariant.2 ∙ c.into_iter-worker-iterator.ensures.into_iter_gives.0 in
-    record {
-      left =
-          record {
-            clients =
-                subst (λ (workers : List (List Client)). HaveWorked g.N.StoreName.name.setting (clients_in workers) c.in_ok-ran.ran.given_up c.in_ok-ran.ran.sessions.items) all c.in_ok-ran.ensures.clients;
-            cycles =
-                c.in_ok-checkpointer-2.ensures.cycles c.captures.checkpointer.at_store
-                (c.in_ok-checkpointer.ensures.cycles c.captures.checkpointer.at_store (cycled_none g.N.StoreName.name.setting c.captures.checkpointer.at_store c.requires.rest));
-            files = λ first had. c.in_ok-checkpointer-2.ensures.written first (c.in_ok-checkpointer.ensures.written first had);
-          };
-      ended = λ fresh. tt;
-    }
-
 pub returns-in_err-ran : goal.returns-in_err-ran
 returns-in_err-ran g c =
     let p = err_from_is_err_and c.from_residual-in_err-ran.result c.from_residual-in_err-ran.ensures.1 in
@@ -74,34 +55,73 @@ returns-in_err-ran g c =
           (subst (λ (workers : List (List Client)). IsThreadsEnd has_log (transactions_in (clients_in workers)) 0 fault) all (c.in_err-ran.ensures.ended has_log c.loop-worker.invariant.3));
     })
 
-pub returns-in_err-checkpointer : goal.returns-in_err-checkpointer
-returns-in_err-checkpointer g c =
+pub returns-in-Ok-take_points : goal.returns-in-Ok-take_points
+returns-in-Ok-take_points g c =
     let st = g.N.StoreName.name.setting in
-    let p = err_from_is_err_and c.from_residual-in_err-checkpointer.result c.from_residual-in_err-checkpointer.ensures.1 in
     let seat : History = c.captures.checkpointer.at_store in
     let points = c.captures.points in
-    let low : c.saturating_sub-beside.result ≤ points = search rules in
-    rw (p.1, p.2)
+    let rest = c.loop-worker.worker-iterator.rest in
+    let none : rest.items ≡ [] = nil_from_length rest.items (sym rest.ok.0 ∙ c.in-None.ensures.steps.0) in
+    let promised = map (λ handle. handle.promise.0.value) c.loop-worker.handles.items in
+    let all : promised ≡ c.captures.workers.items =
+    sym (append-nil promised) ∙ ap (λ (more : List (List Client)). promised ++ more) (sym none) ∙ c.loop-worker.invariant.2 ∙ c.into_iter-worker-iterator.ensures.into_iter_gives.0 in
+    let ran = c.in_ok-ran.ran in
+    let worked = subst (λ (workers : List (List Client)). HaveWorked st (clients_in workers) ran.given_up ran.sessions.items) all c.in_ok-ran.ensures.clients in
+    let is = c.with_points.ensures in
+    rw (is.ran, is.seat, is.folder, is.written)
     (record {
-      left = tt;
-      ended = λ fresh.
-          let none : HasCycled st 0 [] seat = subst (λ (h : History). HasCycled st 0 h seat) fresh (cycled_none st seat c.requires.rest) in
-          point_ends c.captures.has_log (is_some c.captures.checkpointer.folder) (transactions_in (clients_in c.captures.workers.items)) c.saturating_sub-beside.result points c.in_err-checkpointer.field-0.0.why low
-          (c.in_err-checkpointer.ensures.ended none).ends;
+      left =
+          record {
+            clients = worked;
+            cycles = c.in-Ok-take_points.ensures.cycles seat (c.in-Ok-most.ensures.cycles seat (cycled_none st seat c.requires.rest));
+            files = λ first had. c.in-Ok-take_points.ensures.written first (c.in-Ok-most.ensures.written first had);
+          };
+      ended = λ fresh. tt;
     })
 
-pub returns-in_err-checkpointer-2 : goal.returns-in_err-checkpointer-2
-returns-in_err-checkpointer-2 g c =
+pub returns-in-Err-most : goal.returns-in-Err-most
+returns-in-Err-most g c =
     let st = g.N.StoreName.name.setting in
-    let p = err_from_is_err_and c.from_residual-in_err-checkpointer-2.result c.from_residual-in_err-checkpointer-2.ensures.1 in
     let seat : History = c.captures.checkpointer.at_store in
     let points = c.captures.points in
-    let fault = c.in_err-checkpointer-2.field-0.0.why in
-    rw (p.1, p.2)
-    (record {
+    let rest = c.loop-worker.worker-iterator.rest in
+    let none : rest.items ≡ [] = nil_from_length rest.items (sym rest.ok.0 ∙ c.in-None.ensures.steps.0) in
+    let promised = map (λ handle. handle.promise.0.value) c.loop-worker.handles.items in
+    let all : promised ≡ c.captures.workers.items =
+    sym (append-nil promised) ∙ ap (λ (more : List (List Client)). promised ++ more) (sym none) ∙ c.loop-worker.invariant.2 ∙ c.into_iter-worker-iterator.ensures.into_iter_gives.0 in
+    let ran = c.in_ok-ran.ran in
+    let worked = subst (λ (workers : List (List Client)). HaveWorked st (clients_in workers) ran.given_up ran.sessions.items) all c.in_ok-ran.ensures.clients in
+    let there = is_some c.captures.checkpointer.folder in
+    let clients : List Client = clients_in c.captures.workers.items in
+    let low : c.saturating_sub-beside.result ≤ points = search rules in
+    record {
       left = tt;
       ended = λ fresh.
-          let none : HasCycled st 0 [] seat = subst (λ (h : History). HasCycled st 0 h seat) fresh (cycled_none st seat c.requires.rest) in
-          point_ends c.captures.has_log (is_some c.captures.checkpointer.folder) (transactions_in (clients_in c.captures.workers.items)) points points fault (omega arith)
-          (subst (λ (b : Bool). IsThreadsEnd b 0 points fault) c.in_ok-checkpointer.ensures.there (c.in_err-checkpointer-2.ensures.ended (c.in_ok-checkpointer.ensures.cycles [] none)).ends);
-    })
+          let start : HasCycled st 0 [] seat = subst (λ (h : History). HasCycled st 0 h seat) fresh (cycled_none st seat c.requires.rest) in
+          subst (ThreadsHaveStopped st (c.captures.has_log || there) clients points) (sym c.with_clients.ensures)
+          (points_stop st c.captures.has_log there clients c.saturating_sub-beside.result points c.in-Err-most.fault ran low (c.in-Err-most.ensures.ended start) worked);
+    }
+
+pub returns-in-Err-take_points : goal.returns-in-Err-take_points
+returns-in-Err-take_points g c =
+    let st = g.N.StoreName.name.setting in
+    let seat : History = c.captures.checkpointer.at_store in
+    let points = c.captures.points in
+    let rest = c.loop-worker.worker-iterator.rest in
+    let none : rest.items ≡ [] = nil_from_length rest.items (sym rest.ok.0 ∙ c.in-None.ensures.steps.0) in
+    let promised = map (λ handle. handle.promise.0.value) c.loop-worker.handles.items in
+    let all : promised ≡ c.captures.workers.items =
+    sym (append-nil promised) ∙ ap (λ (more : List (List Client)). promised ++ more) (sym none) ∙ c.loop-worker.invariant.2 ∙ c.into_iter-worker-iterator.ensures.into_iter_gives.0 in
+    let ran = c.in_ok-ran.ran in
+    let worked = subst (λ (workers : List (List Client)). HaveWorked st (clients_in workers) ran.given_up ran.sessions.items) all c.in_ok-ran.ensures.clients in
+    let there = is_some c.captures.checkpointer.folder in
+    let clients : List Client = clients_in c.captures.workers.items in
+    let fault = c.in-Err-take_points.fault in
+    record {
+      left = tt;
+      ended = λ fresh.
+          let start : HasCycled st 0 [] seat = subst (λ (h : History). HasCycled st 0 h seat) fresh (cycled_none st seat c.requires.rest) in
+          subst (ThreadsHaveStopped st (c.captures.has_log || there) clients points) (sym c.with_clients-in-Err-take_points.ensures)
+          (points_stop st c.captures.has_log there clients points points fault ran (omega arith)
+          (subst (λ (b : Bool). PointsHaveStopped st b points fault) c.in-Ok-most.ensures.there (c.in-Err-take_points.ensures.ended (c.in-Ok-most.ensures.cycles [] start))) worked);
+    }
