@@ -28,7 +28,7 @@ seat_workers-requires-clause-seats g c =
 
 pub leave-requires-clause-singles : goal.leave-requires-clause-singles
 leave-requires-clause-singles g c κs bounds =
-    let ended = c.in-Ok.ended in
+    let ended = c.in-Ok.used.0 in
     let parts = ap length (c.close-closed.ensures.parts ∙ c.in_ok-tickets.ensures.0) in
     let both = length-append ended.written.items ended.joined.items in
     let singles = c.in_ok-tickets.ensures.1 in
@@ -37,7 +37,7 @@ leave-requires-clause-singles g c κs bounds =
 pub leave-requires-clause-after : goal.leave-requires-clause-after
 leave-requires-clause-after g c κs bounds =
     let closed = c.close-closed.result in
-    left_after g.N.StoreName.name.setting closed.world.base closed.world.log closed.logged c.in-Ok.ended.sessions.items c.in-Ok.ended.seat c.in_ok-tickets.tickets.items closed.parts.items c.in-Ok.logged.pass
+    left_after g.N.StoreName.name.setting closed.world.base closed.world.log closed.logged c.in-Ok.used.0.sessions.items c.in-Ok.used.0.seat c.in_ok-tickets.tickets.items closed.parts.items c.in-Ok.used.1.pass
     c.close-closed.ensures.parts c.close-closed.ensures.left
 
 pub returns-clause-run : goal.returns-clause-run
@@ -45,7 +45,7 @@ returns-clause-run g c =
     let st = g.N.StoreName.name.setting in
     let closed = c.close-closed.result in
     let left = c.close-closed.ensures.left in
-    let ended = c.in-Ok.ended in
+    let ended = c.in-Ok.used.0 in
     let seating = c.in_ok-seating.seating in
     let worked = c.in-Ok.ensures.clients in
     let have = subst (λ (all : List (List Client)). HaveWorked st (clients_in all) ended.given_up worked.0) c.in_ok-seating.ensures.clients worked.2 in
@@ -69,9 +69,9 @@ returns-clause-run g c =
           (subst (λ (log : List Entry). IsLegacy closed.world.base log (drop c.in_ok-tickets.singles closed.parts.items) c.in_ok-left.left.files) left.1.log_is c.in_ok-left.ensures.files);
       folder_has =
           subst (λ (log : List Entry). LeavesFiles g.D.NewFiles.holds (base_of st) log c.args.workload.points (is_some c.args.folder) c.in_ok-folder.folder) left.1.log_is
-          (files_left (base_of st) closed.world.log g.D.NewFiles.holds g.F.Write.contents g.D.NewFiles.blank c.args.workload.points closed.logged c.in-Ok.logged.pass ended.written.items left.1.list
+          (files_left (base_of st) closed.world.log g.D.NewFiles.holds g.F.Write.contents g.D.NewFiles.blank c.args.workload.points closed.logged c.in-Ok.used.1.pass ended.written.items left.1.list
           (first_ones (IsOfItsPoints st.run st.base closed.world.log) ended.written.items ended.joined.items (subst (All (IsOfItsPoints st.run st.base closed.world.log)) c.in_ok-tickets.ensures.0 left.1.worth))
-          c.args.folder ended.folder c.in_ok-folder.folder c.args.log c.in-Ok.logged.out c.requires.begun c.in-Ok.ensures.written c.in-Ok.ensures.logged c.in_ok-folder.ensures.finished);
+          c.args.folder ended.folder c.in_ok-folder.folder c.args.log c.in-Ok.used.1.out c.requires.begun c.in-Ok.ensures.written c.in-Ok.ensures.logged c.in_ok-folder.ensures.finished);
     }
 
 pub returns-in_err-shared-clause-ended : goal.returns-in_err-shared-clause-ended
@@ -117,17 +117,17 @@ returns-in_err-tickets-clause-ended g c =
 pub returns-in_err-folder-clause-ended : goal.returns-in_err-folder-clause-ended
 returns-in_err-folder-clause-ended g c =
     let p = err_from_is_err_and c.from_residual-in_err-folder.result c.from_residual-in_err-folder.ensures.1 in
-    let ended = c.in-Ok.ended in
+    let ended = c.in-Ok.used.0 in
     let there = folder_there g.D.NewFiles.holds c.args.workload.points c.args.folder ended.folder ended.written.items c.in-Ok.ensures.written in
     rw (p.1, p.2)
-    (lost_ends g.N.StoreName.name.setting c.args.workload (is_some c.args.folder) c.in_err-folder.field-0.0 (subst IsTrue there (log_lost_there ended.folder c.in-Ok.logged.out c.in_err-folder.field-0.0 c.in_err-folder.ensures.lost)))
+    (lost_ends g.N.StoreName.name.setting c.args.workload (is_some c.args.folder) c.in_err-folder.field-0.0 (subst IsTrue there (log_lost_there ended.folder c.in-Ok.used.1.out c.in_err-folder.field-0.0 c.in_err-folder.ensures.lost)))
 
 pub returns-in_err-left-clause-ended : goal.returns-in_err-left-clause-ended
 returns-in_err-left-clause-ended g c =
     let p = err_from_is_err_and c.from_residual-in_err-left.result c.from_residual-in_err-left.ensures.1 in
     let st = g.N.StoreName.name.setting in
     let closed = c.close-closed.result in
-    let ended = c.in-Ok.ended in
+    let ended = c.in-Ok.used.0 in
     let left = c.close-closed.ensures.left in
     let untold = c.in_err-left.ensures.untold in
     let parts : closed.parts.items ≡ ended.written.items ++ ended.joined.items = c.close-closed.ensures.parts ∙ c.in_ok-tickets.ensures.0 in
