@@ -20,7 +20,7 @@ ghost use Rattle.pc_runs.specs.Runs.{IsWorkloadRun};
 
 use crate::crew::RunContext;
 use crate::pace::every_of;
-use pc_board::{Board};
+use pc_board::Board;
 use pc_capture::SharedPart;
 use pc_io::Tally;
 use pc_jobs::{Workload, deal};
@@ -135,14 +135,15 @@ fn fault_of<N: StoreName>(shared: Shared<N>, stop: ThreadsStop<N>) -> ThreadsFau
 
 // Runs the threads over the store, for this many points. The log is written if the logger has a file.
 fn use_store<
+    'x,
     N: StoreName + Send + Sync,
     F: Write + Drop + Send,
     D: NewFiles<F> + Drop,
     G: ClientGate + Sync,
     R: Threads + Wait + Sync,
 >(
-    context: &RunContext<'_, G, R>,
-    shared: &Shared<N>,
+    context: &'x RunContext<'x, G, R>,
+    shared: &'x Shared<N>,
     points: u32,
     seating: Seating<N>,
     checkpointer: NewCheckpointer<N, D>,
