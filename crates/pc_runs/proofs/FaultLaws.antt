@@ -62,11 +62,12 @@ folder_there holds points None (Some new) files written = absurd written
 folder_there holds points (Some old) None files written = absurd written
 
 -- a file is written only if there is a folder
-pub one_there : (a b there : Bool) → a ≡ there → b ≡ there → IsTrue (a || b) → IsTrue there
-one_there a b true x y is = refl
-one_there true b false x y is = cc (x)
-one_there false true false x y is = cc (y)
-one_there false false false x y is = cc (is)
+pub one_there : (a b c there : Bool) → a ≡ there → b ≡ there → c ≡ there → IsTrue (a || b || c) → IsTrue there
+one_there a b c true x y z is = refl
+one_there true b c false x y z is = cc (x)
+one_there false true c false x y z is = cc (y)
+one_there false false true false x y z is = cc (z)
+one_there false false false false x y z is = cc (is)
 
 module _ (st : Setting) (workload : Workload) (there : Bool) where
   -- a fault of the threads

@@ -1,9 +1,10 @@
 //! A store of a workload, from its opening to its result.
-ghost use Rattle.std.specs.Prelude.{◌≡◌, ◌≤◌, ◌<◌, ◌||◌, ◌++◌, [], List, length, drop, is_some, IfErr, IfOk};
-ghost use Rattle.pc_types.specs.declared.limits.TheConstants.{MOST_KEYS};
+ghost use Rattle.std.specs.Prelude.{◌≡◌, ◌≤◌, ◌<◌, ◌||◌, ◌++◌, [], All, List, length, drop, is_some, IfErr, IfOk};
+ghost use Rattle.pc_types.specs.declared.limits.TheConstants.{MOST_KEYS, MOST_PASSES};
 ghost use Rattle.pc_types.specs.declared.refusal.Refusal.{Refusal};
 ghost use Rattle.pc_types.specs.declared.refusal.Refusal.TheVariants.{OutOfMemory};
 ghost use Rattle.pc_model.specs.History.{History};
+ghost use Rattle.pc_board.specs.Passes.{IsOfBoard};
 ghost use Rattle.pc_outcomes.specs.Leaving.{AreLeftAfter, IsLegacy, IsUntoldAfter, commits_in};
 ghost use Rattle.pc_shared.specs.Sitters.{Sitter, new_sitters};
 ghost use Rattle.pc_shared.specs.Written.{CountsAsOut};
@@ -20,7 +21,7 @@ ghost use Rattle.pc_runs.specs.Runs.{IsWorkloadRun};
 
 use crate::crew::RunContext;
 use crate::pace::every_of;
-use pc_board::Board;
+use pc_board::{Board, BoardPass};
 use pc_capture::SharedPart;
 use pc_io::Tally;
 use pc_jobs::{Workload, deal};
@@ -133,50 +134,40 @@ fn fault_of<N: StoreName>(shared: Shared<N>, stop: ThreadsStop<N>) -> ThreadsFau
     }
 }
 
-// Runs the threads over the store, for this many points. The log is written if the logger has a file.
+// Runs the threads over the store, with a board and all of its passes.
 fn use_store<
-    'x,
     N: StoreName + Send + Sync,
     F: Write + Drop + Send,
     D: NewFiles<F> + Drop,
     G: ClientGate + Sync,
     R: Threads + Wait + Sync,
 >(
-    context: &'x RunContext<'x, G, R>,
-    shared: &'x Shared<N>,
-    points: u32,
+    rt: &R,
+    room: &Room<'_, N, G>,
     seating: Seating<N>,
     checkpointer: NewCheckpointer<N, D>,
+    board: (&Board, Vec<BoardPass>),
     logger: Logger<N, F>,
 ) -> Result<(EndedStore<N, D>, Written<N, F>), ThreadsStop<N>>
     requires fresh { checkpointer.at_store ≡ [] }
+    requires some { 0 < length board.1.items }
+    requires few { length board.1.items ≤ MOST_PASSES }
+    requires ours { All (λ pass. IsOfBoard pass board.0.now) board.1.items }
     requires counts { CountsAsOut F.contents N.out }
     ensures clients { IfOk result (λ r. (more : List Sitter) × (r.0.sessions.items ≡ seating.idle.items ++ more) × HaveWorked N.name.setting (clients_in seating.workers.items) r.0.given_up more) }
-    ensures cover { IfOk result (λ r. HaveJustTo points r.0.joined.items) }
-    ensures written { IfOk result (λ r. HasWritten D.holds points checkpointer.folder r.0.folder r.0.written.items) }
+    ensures cover { IfOk result (λ r. HaveJustTo room.now.points r.0.joined.items) }
+    ensures written { IfOk result (λ r. HasWritten D.holds room.now.points checkpointer.folder r.0.folder r.0.written.items) }
     ensures logged { IfOk result (λ r. HasLogged F.contents N.name.setting.run logger.out r.1.out r.1.pass) }
-    ensures ended { IfErr result (StoreHasStopped N.name.setting (is_some checkpointer.folder || is_some logger.out) seating.idle.items (clients_in seating.workers.items) points) }
+    ensures ended { IfErr result (StoreHasStopped N.name.setting (is_some room.now.lag || is_some checkpointer.folder || is_some logger.out) seating.idle.items (clients_in seating.workers.items) room.now.points) }
 {
-    let (rt, alloc, crew) = (context.rt, context.alloc, &context.crew);
     let Seating { workers, idle } = seating;
-    let (board, passes) = Board::new(alloc, crew.collapsers + 1)?;
-    let hands = hands_of(alloc, &board, passes, workers, checkpointer)?;
-    let working = AtomicU64::new(u64::from(crew.workers));
-    let room = Room {
-        desk: Desk {
-            alloc,
-            shared,
-            gate: crew.gate,
-        },
-        points,
-        lag: logger.out.as_ref().map(|_| crew.lag),
-        working: &working,
-    };
-    let (rested, written) = match run_threads(rt, &room, hands, logger) {
+    let (board, passes) = board;
+    let hands = hands_of(room.desk.alloc, board, passes, workers, checkpointer)?;
+    let (rested, written) = match run_threads(rt, room, hands, logger) {
         Ok(done) => done,
         Err(stop) => return Err(with_idle(stop, idle)),
     };
-    let ended = take_back(rt, shared, points, idle, rested)?;
+    let ended = take_back(rt, room.desk.shared, room.points, idle, rested)?;
     Ok((ended, written))
 }
 
@@ -219,39 +210,41 @@ pub fn run_store<
     ensures run { IfOk result (λ r. IsWorkloadRun D.holds N.name.setting workload (is_some folder) r.1 r.0) }
     ensures ended { IfErr result (EndsRun N.name.setting workload (is_some folder)) }
 {
-    let (alloc, crew) = (context.alloc, &context.crew);
+    let (rt, alloc, crew) = (context.rt, context.alloc, &context.crew);
     let Workload { points, clients } = workload;
     let (shared, sessions, seat, pass) = opened.named::<N>()?;
-    let every = every_of(crew.every, points, &clients);
-    let dealt = deal(alloc, crew.workers, clients)?;
-    let seating = seat_workers(alloc, dealt, sessions)?;
     let checkpointer = NewCheckpointer {
         at_store: seat,
-        every,
+        every: every_of(crew.every, points, &clients),
         folder,
     };
+    let dealt = deal(alloc, crew.workers, clients)?;
+    let seating = seat_workers(alloc, dealt, sessions)?;
+    let (board, passes) = Board::new(alloc, crew.collapsers + 1)?;
+    let working = AtomicU64::new(u64::from(crew.workers));
+    let room = Room {
+        desk: Desk {
+            alloc,
+            shared: &shared,
+            gate: crew.gate,
+        },
+        points,
+        lag: log.as_ref().map(|_| crew.lag),
+        working: &working,
+    };
     let logger = Logger { pass, out: log };
-    let used = use_store(context, &shared, points, seating, checkpointer, logger);
+    let used = use_store(rt, &room, seating, checkpointer, (&board, passes), logger);
     let (ended, logged) = match used {
         Ok(used) => used,
         Err(stop) => return Err(fault_of(shared, stop)),
     };
-    let EndedStore {
-        sessions,
-        given_up,
-        seat,
-        written,
-        joined,
-        folder,
-    } = ended;
-    let (tickets, singles) = all_tickets(written, joined)?;
-    let Written { pass, out } = logged;
-    let closed = shared.close(sessions, seat, tickets, pass);
-    let folder = finish_log(&closed, folder, out)?;
+    let (tickets, singles) = all_tickets(ended.written, ended.joined)?;
+    let closed = shared.close(ended.sessions, ended.seat, tickets, logged.pass);
+    let folder = finish_log(&closed, ended.folder, logged.out)?;
     let left = leave(context, closed, singles)?;
     let outcome = RunReport {
         commits: left.commits,
-        given_up,
+        given_up: ended.given_up,
         points,
         left: left.files,
     };

@@ -1,9 +1,11 @@
-use Rattle.std.proofs.Common.{◌≡◌, ◌+◌, ◌++◌, List, All, length, length-append, drop, refl, sym, ap, subst, ◌∙◌, arith}
+use Rattle.std.proofs.Common.{◌≡◌, ◌<◌, ◌≤◌, ◌+◌, ◌++◌, List, All, length, length-append, drop, refl, sym, ap, subst, ◌∙◌, arith}
 use Rattle.std.specs.Prelude.{IsTrue, is_some}
 use Rattle.pc_types.specs.declared.Entry.{Entry}
 use Rattle.pc_model.specs.Files.{BaseFile}
 use Rattle.pc_model.specs.History.{log_of}
 use Rattle.pc_model.specs.Standing.{IsOfItsPoints}
+use Rattle.pc_types.specs.declared.limits.TheConstants.{MOST_PASSES}
+use Rattle.pc_board.specs.Passes.{Pass}
 use Rattle.pc_jobs.specs.declared.works.Client.{Client}
 use Rattle.pc_outcomes.specs.Leaving.{IsLegacy, commits_in}
 use Rattle.pc_shared.specs.Sitters.{IsSitterSettled, Sitter, new_sitters}
@@ -13,10 +15,20 @@ use Rattle.pc_runs.specs.Folders.{LeavesFiles, base_of}
 use Rattle.pc_runs.proofs.HistoryLaws.{behind_first, first_ones, left_after}
 use Rattle.std.proofs.lemmas.Result.{err_from_is_err_and}
 use Rattle.pc_runs.proofs.FaultLaws.{folder_there, log_lost_there, log_there, lost_ends, no_memory, of_stop, one_there, same_transactions, untold_ends}
+use Rattle.pc_runs.proofs.NewPasses.{as_many, some_passes}
 use Rattle.pc_runs.proofs.SeatingLaws.{all_back, dealt_seats}
 use Rattle.pc_runs.proofs.WorkLaws.{all_fresh, have_run}
 use Rattle.pc_runs.proofs.FolderLaws.{files_left}
 use Rattle.pc_runs.proofs.store.run_store.Goals as goal
+
+pub use_store-requires-clause-some : goal.use_store-requires-clause-some
+use_store-requires-clause-some g c κs bounds =
+    subst (λ (passes : List Pass). 0 < length passes) (sym c.in_ok-board.ensures.passes) (some_passes c.in_ok-board.board (c.args.context.now.crew.collapsers + 1) (omega arith))
+
+pub use_store-requires-clause-few : goal.use_store-requires-clause-few
+use_store-requires-clause-few g c κs bounds =
+    subst (λ (passes : List Pass). length passes ≤ MOST_PASSES) (sym c.in_ok-board.ensures.passes)
+    (let all = as_many c.in_ok-board.board (c.args.context.now.crew.collapsers + 1) in omega (arith, all, c.args.context.now.crew.in_range.3))
 
 pub seat_workers-requires-clause-fresh : goal.seat_workers-requires-clause-fresh
 seat_workers-requires-clause-fresh g c = subst (All IsFresh) (sym c.in_ok-shared.ensures.sessions) (all_fresh g.N.StoreName.name.setting.sessions)
@@ -105,7 +117,7 @@ returns-in-Err-clause-ended g c =
     let count = ap transactions_in is ∙ same_transactions c.args.context.now.crew.workers c.args.workload.clients dealt c.args.context.now.crew.in_range.0 c.in_ok-dealt.ensures in
     let seated = subst (λ (sessions : List Sitter). AreSeated (clients_in dealt) sessions seating.idle.items) c.in_ok-shared.ensures.sessions c.in_ok-seating.ensures.seated in
     of_stop st c.args.workload (is_some c.args.folder) _ seating.idle.items clients c.in-Err.stop c.fault_of.result
-    (one_there _ _ (is_some c.args.folder) refl log) count c.in_ok-seating.ensures.idle
+    (one_there _ _ _ (is_some c.args.folder) (c.map.ensures.variant ∙ (c.as_ref.ensures.variant ∙ log)) refl log) count c.in_ok-seating.ensures.idle
     (λ given_up ran have. all_back st st.sessions (clients_in dealt) given_up seating.idle.items ran seated (subst (λ (cs : List Client). HaveWorked st cs given_up ran) is have))
     c.fault_of.ensures c.in-Err.ensures.ended
 
