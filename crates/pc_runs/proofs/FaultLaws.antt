@@ -83,7 +83,7 @@ module _ (st : Setting) (workload : Workload) (there : Bool) where
   -- a stop of the threads over its store; if the log has no place left, all sessions of the store were compared
   pub of_stop : {N : Type 0} (writes : Bool) (idle : List Sitter) (clients : List Client) (given : ThreadsStop N) (why : ThreadsFault) → (IsTrue writes → IsTrue there) → transactions_in clients ≡ transactions_in workload.clients → All IsFresh idle
       → ((given_up : ℕ) (ran : List Sitter) → HaveWorked st clients given_up ran → HasAll st.sessions (idle ++ ran)) → IsFaultOfStop st given why → StoreHasStopped st writes idle clients workload.points given → EndsRun st workload there why
-  of_stop writes idle clients (stop.LogFull full all) why on same fresh back (is, history, end) (has, ran, sessions, have) =
+  of_stop writes idle clients (stop.LogFull full all) why on same fresh back (is, (history, end)) (has, (ran, sessions, have)) =
       let whole : IsEndOf st (idle ++ ran) full.seat full.seen history = subst (λ (ss : List Sitter). IsEndOf st ss full.seat full.seen history) sessions end in
       let fills = fills_log st workload.points full clients all.given_up idle ran history has whole have fresh (back all.given_up ran have) in
       subst (EndsRun st workload there) (sym is) (omega (arith, fills, same))
