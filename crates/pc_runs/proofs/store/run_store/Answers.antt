@@ -21,12 +21,12 @@ use Rattle.pc_runs.proofs.WorkLaws.{all_fresh, have_run}
 use Rattle.pc_runs.proofs.FolderLaws.{files_left}
 use Rattle.pc_runs.proofs.store.run_store.Goals as goal
 
-pub use_store-requires-clause-some : goal.use_store-requires-clause-some
-use_store-requires-clause-some g c κs bounds =
+pub use_store-used-requires-clause-some : goal.use_store-used-requires-clause-some
+use_store-used-requires-clause-some g c κs bounds =
     subst (λ (passes : List Pass). 0 < length passes) (sym c.in_ok-board.ensures.passes) (some_passes c.in_ok-board.board (c.args.context.now.crew.collapsers + 1) (omega arith))
 
-pub use_store-requires-clause-few : goal.use_store-requires-clause-few
-use_store-requires-clause-few g c κs bounds =
+pub use_store-used-requires-clause-few : goal.use_store-used-requires-clause-few
+use_store-used-requires-clause-few g c κs bounds =
     subst (λ (passes : List Pass). length passes ≤ MOST_PASSES) (sym c.in_ok-board.ensures.passes)
     (let all = as_many c.in_ok-board.board (c.args.context.now.crew.collapsers + 1) in omega (arith, all, c.args.context.now.crew.in_range.3))
 
