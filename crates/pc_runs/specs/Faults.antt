@@ -22,7 +22,7 @@ use Rattle.pc_threads.specs.declared.stop.ThreadsStop.TheVariants as stop
 -- * a file of the folder can't be written;
 -- * the store has no room for all pairs of its base, or more transactions were given up than 64 bits can count;
 -- * there are too many points;
--- * there are points, and the log has no place left: there are so many transactions that, with the entries of all points, they fill it.
+-- * there are points, and the log has no place left: it has at most an entry for each transaction, and five for each point.
 abbrev pub IsRunRefused : Setting → Workload → Bool → Refusal → Type 0
 IsRunRefused st workload there refusal.OutOfMemory = ⊤
 IsRunRefused st workload there refusal.Device = IsTrue there
