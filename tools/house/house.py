@@ -35,7 +35,7 @@ LIMITS = {
     "crates of the product without a wrong body": (8, 0),
     "files of more than 800 lines": (0, 0),
     "functions of more than 40 lines": (1, 0),
-    "functions of more than 6 parameters": (6, 6),
+    "functions of more than 6 parameters": (8, 6),
     "lines of proof for 100 of code": (225, 225),
     "the same of the worst crate": (1_114, 700),
     "lower-case words of definitions with two homes": (7, 7),

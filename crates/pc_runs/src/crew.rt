@@ -23,10 +23,9 @@ pub struct Crew<'a, G: Gate> {
     ghost in_range: { (1 ≤ workers) × (workers ≤ MOST_WORKERS) × (1 ≤ collapsers) × (collapsers ≤ MOST_COLLAPSERS) },
 }
 
-/// What a run works with: the runtime of its threads, the allocator, the seed of the hashes of its store's keys, and its crew.
+/// What a run works with: the allocator, the seed of the hashes of its store's keys, and its crew.
 #[derive(Drop)]
-pub struct RunContext<'a, G: Gate, H> {
-    pub rt: &'a H,
+pub struct RunContext<'a, G: Gate> {
     pub alloc: Global,
     /// A random 128-bit number (`RandomState::new`), so that no workload can pick keys that all share a chain.
     pub seed: RandomState,

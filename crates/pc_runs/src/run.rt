@@ -63,7 +63,8 @@ pub fn run_workload<
     G: ClientGate + Sync,
     H: Threads + Wait + Sync,
 >(
-    context: &RunContext<'_, G, H>,
+    rt: &H,
+    context: &RunContext<'_, G>,
     workload: NamedFile<R>,
     origin: Origin<S>,
     folder: Option<RunFolder<D>>,
@@ -77,7 +78,7 @@ pub fn run_workload<
         (λ between. IsCauseOfUnprinted R.remaining D.holds W.contents workload.opened folder (RunBegins S.remaining E.contents origin errors.old between) out.old out.new) }
 {
     let NamedFile { name, opened } = workload;
-    match run_opened(context, opened, origin, folder, out, errors) {
+    match run_opened(rt, context, opened, origin, folder, out, errors) {
         Ok(finished) => finished,
         Err(failure) => {
             failure.report(&name, errors);
@@ -101,7 +102,8 @@ fn run_opened<
     G: ClientGate + Sync,
     H: Threads + Wait + Sync,
 >(
-    context: &RunContext<'_, G, H>,
+    rt: &H,
+    context: &RunContext<'_, G>,
     opened: Result<R, Refusal>,
     origin: Origin<S>,
     folder: Option<RunFolder<D>>,
@@ -112,7 +114,7 @@ fn run_opened<
     ensures printed { IfOk result (λ finished. IsOutputWritten R.remaining D.holds W.contents opened folder (RunBegins S.remaining E.contents origin errors.old errors.new) out.old out.new finished.folder finished.status) }
     ensures cause { IfErr result (IsCauseOfUnprinted R.remaining D.holds W.contents opened folder (RunBegins S.remaining E.contents origin errors.old errors.new) out.old out.new) }
 {
-    let (printed, folder) = answer(context, opened, origin, folder, errors)?;
+    let (printed, folder) = answer(rt, context, opened, origin, folder, errors)?;
     print::<R, S, W>(&printed, out)?;
     let status = printed.status();
     Ok(Finished {
@@ -132,7 +134,8 @@ fn answer<
     G: ClientGate + Sync,
     H: Threads + Wait + Sync,
 >(
-    context: &RunContext<'_, G, H>,
+    rt: &H,
+    context: &RunContext<'_, G>,
     opened: Result<R, Refusal>,
     origin: Origin<S>,
     folder: Option<RunFolder<D>>,
@@ -154,7 +157,7 @@ fn answer<
             let folder = usable::<R, S, D>(folder)?;
             let Origin { start, capacity } = origin;
             let base = base_of::<R, S, E>(alloc, start, errors)?;
-            let (outcome, folder) = run_read(context, workload, base, capacity, folder)?;
+            let (outcome, folder) = run_read(rt, context, workload, base, capacity, folder)?;
             Ok((Printed::Whole(outcome), folder))
         }
     }
@@ -168,7 +171,8 @@ fn run_read<
     G: ClientGate + Sync,
     H: Threads + Wait + Sync,
 >(
-    context: &RunContext<'_, G, H>,
+    rt: &H,
+    context: &RunContext<'_, G>,
     workload: Workload,
     base: Base,
     capacity: u32,
@@ -185,7 +189,7 @@ fn run_read<
     }
     let (folder, log) = begin(folder, &base)?;
     let opened = Opened::new(context.alloc, base, MOST_SESSIONS, capacity, context.seed)?;
-    run_store::<Brand, F, D, G, H>(context, opened, workload, folder, log)
+    run_store::<Brand, F, D, G, H>(rt, context, opened, workload, folder, log)
 }
 
 // Begins the files of the folder, if there is one. A file of which a call failed is returned.

@@ -196,7 +196,8 @@ pub fn run_store<
     G: ClientGate + Sync,
     R: Threads + Wait + Sync,
 >(
-    context: &RunContext<'_, G, R>,
+    rt: &R,
+    context: &RunContext<'_, G>,
     opened: Opened,
     workload: Workload,
     folder: Option<D>,
@@ -210,7 +211,7 @@ pub fn run_store<
     ensures run { IfOk result (λ r. IsWorkloadRun D.holds N.name.setting workload (is_some folder) r.1 r.0) }
     ensures ended { IfErr result (EndsRun N.name.setting workload (is_some folder)) }
 {
-    let (rt, alloc, crew) = (context.rt, context.alloc, &context.crew);
+    let (alloc, crew) = (context.alloc, &context.crew);
     let Workload { points, clients } = workload;
     let (shared, sessions, seat, pass) = opened.named::<N>()?;
     let checkpointer = NewCheckpointer {
@@ -241,7 +242,7 @@ pub fn run_store<
     let (tickets, singles) = all_tickets(ended.written, ended.joined)?;
     let closed = shared.close(ended.sessions, ended.seat, tickets, logged.pass);
     let folder = finish_log(&closed, ended.folder, logged.out)?;
-    let left = leave(context, closed, singles)?;
+    let left = leave(rt, context, closed, singles)?;
     let outcome = RunReport {
         commits: left.commits,
         given_up: ended.given_up,
@@ -260,7 +261,8 @@ struct Legacy {
 
 // The result of the closed store. The first `singles` tickets are each of a point whose file was written.
 fn leave<N: StoreName, G: Gate + Sync, R: Threads + Wait + Sync>(
-    context: &RunContext<'_, G, R>,
+    rt: &R,
+    context: &RunContext<'_, G>,
     closed: Closed<N>,
     singles: usize,
 ) -> Result<Legacy, ThreadsFault>
@@ -274,7 +276,7 @@ fn leave<N: StoreName, G: Gate + Sync, R: Threads + Wait + Sync>(
     let mut closed = closed;
     let files = files_of(alloc, &mut closed)?;
     let reporter = Reporter {
-        rt: context.rt,
+        rt,
         alloc,
         seed: context.seed,
         collapsers: crew.collapsers,

@@ -338,13 +338,8 @@ fn run_in<R: Read + Drop, H: Threads + Wait + Sync, E: Write>(
         every: options.every,
         gate: &gate,
     };
-    let context = RunContext {
-        rt: threads,
-        alloc,
-        seed,
-        crew,
-    };
-    let finished = run_workload(&context, file, origin, folder, &mut out, errors);
+    let context = RunContext { alloc, seed, crew };
+    let finished = run_workload(threads, &context, file, origin, folder, &mut out, errors);
     let status = finished.status;
     progress.end(threads);
     if status == 0 && options.is_reported {

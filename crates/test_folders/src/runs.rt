@@ -55,13 +55,8 @@ fn run_into<'a, H: Threads + Wait + Sync>(
         name: Vec::new(alloc),
         files,
     };
-    let context = RunContext {
-        rt,
-        alloc,
-        seed,
-        crew,
-    };
-    run_workload(&context, workload, origin, Some(folder), out, errors)
+    let context = RunContext { alloc, seed, crew };
+    run_workload(rt, &context, workload, origin, Some(folder), out, errors)
 }
 
 // What is recovered of the base, the two parts and the log, if all of them are there.
@@ -162,13 +157,8 @@ fn run_from<'a, H: Threads + Wait + Sync>(
         name: Vec::new(alloc),
         files: Ok(MemoryFolder::new(alloc)),
     };
-    let context = RunContext {
-        rt,
-        alloc,
-        seed,
-        crew,
-    };
-    run_workload(&context, workload, origin, Some(folder), out, errors)
+    let context = RunContext { alloc, seed, crew };
+    run_workload(rt, &context, workload, origin, Some(folder), out, errors)
 }
 
 // How a run has ended: its status, whether it hands back a folder, and its output and its messages.
