@@ -1,7 +1,7 @@
 -- Sets whose links stay, and what is known of their lists.
 use Rattle.std.proofs.Common.{◌≡◌, ℕ, zero, suc, List, [], ◌∷◌, length, Option, refl, ◌∙◌, ap, arith}
 use Rattle.pc_chain.specs.declared.chain.Chain.{Chain}
-use Rattle.pc_chain.specs.Chains.{first_of, Avoids, AllHave, Leads, IsChain}
+use Rattle.pc_chain.specs.Chains.{first_of, AllHave, Leads, IsChain}
 use Rattle.pc_chain.proofs.ChainLaws.{empty_chain}
 use Rattle.pc_dirty.proofs.Changing.{avoids_slots}
 use Rattle.pc_dirty.specs.declared.side.SideSlot.{SideSlot}

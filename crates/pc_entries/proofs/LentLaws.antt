@@ -1,16 +1,14 @@
 -- The text of an entry shows the entry.
-use Rattle.std.proofs.Common.{◌≡◌, ℕ, ◌+◌, ◌-◌, ◌≤◌, ◌<◌, eqb, cond, Bool, true, false, List, [], ◌∷◌, ◌++◌, length, take, drop, get_or, nat_lt, Option, Some, None, Result, Ok, refl, sym, ap, ◌∙◌, subst, append_assoc, arith, Ordering, Less, Equal, Greater}
+use Rattle.std.proofs.Common.{◌≡◌, ℕ, ◌+◌, ◌-◌, ◌≤◌, ◌<◌, eqb, cond, Bool, true, false, List, [], ◌∷◌, ◌++◌, length, take, drop, get_or, nat_lt, Option, Some, None, Ok, refl, sym, ap, ◌∙◌, append_assoc, arith, Ordering, Less, Equal, Greater}
 use Rattle.std.specs.Cmp.{nat_cmp_is}
 use Rattle.std.specs.Int.{w16, w32, to_be_bytes}
 use Rattle.std.specs.Ordering.{is_lt, nat_cmp}
 use Rattle.std.proofs.lemmas.Bool.{ltb-true, ltb-false}
 use Rattle.std.proofs.lemmas.List.{length-append, take_at, drop_at, drop-drop, drop-take, get_or-drop}
 use Rattle.pc_types.specs.Bytes.{IsBytes}
-use Rattle.pc_io.specs.FieldForms.{TakesText}
 use Rattle.pc_io.specs.Fields.{key_text, content_text}
 use Rattle.pc_types.specs.declared.Triple.{Triple}
 use Rattle.pc_io.specs.declared.formats.Format.{Format}
-use Rattle.pc_io.specs.declared.formats.Format.TheVariants.{First, Second}
 use Rattle.pc_types.specs.Heads.{head}
 use Rattle.pc_io.proofs.FieldLaws.{wide16, wide32}
 use Rattle.pc_types.proofs.HeadLaws.{by_heads}

@@ -1,5 +1,5 @@
 -- Laws of the faults of texts.
-use Rattle.std.proofs.Common.{◌≡◌, ◌<◌, ◌∙◌, ℕ, Bool, true, false, true≢false, List, [], ◌∷◌, length, refl, sym, arith}
+use Rattle.std.proofs.Common.{◌≡◌, ◌<◌, ◌∙◌, ℕ, true, false, true≢false, List, [], ◌∷◌, length, refl, sym, arith}
 use Rattle.pc_io.specs.Fields.{magic_at}
 use Rattle.pc_part.specs.Reading.{part_header_at, part_fields_at}
 use Rattle.pc_bases.specs.Reading.{base_fields_at}

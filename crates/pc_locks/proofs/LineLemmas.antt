@@ -5,7 +5,7 @@ use Rattle.std.specs.Prelude.{unwrap_or}
 use Rattle.std.proofs.lemmas.List.Folds.{list_any-append}
 use Rattle.pc_chain.specs.declared.chain.Chain.{Chain}
 use Rattle.pc_chain.specs.Chains as chains
-use Rattle.pc_chain.specs.Chains.{IsChain, Leads, AllHave, Avoids, AreDisjoint}
+use Rattle.pc_chain.specs.Chains.{Leads, AllHave, Avoids, AreDisjoint}
 use Rattle.pc_chain.proofs.ChainLaws.{chain_fits}
 use Rattle.pc_locks.specs.Lines.{Links, HasLink, link_at, next_id, linked_ids, ids_of, IsLine, AreLines, LineBecomes}
 use Rattle.pc_locks.specs.States.{is_listed, first_in_list, rest_of_list, last_in_list}

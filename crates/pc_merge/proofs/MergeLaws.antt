@@ -9,11 +9,11 @@ use Rattle.pc_types.specs.declared.Triple.{Triple}
 use Rattle.pc_merge.specs.Coming.{Coming, ended}
 use Rattle.pc_merge.specs.Drawing.{ArePassing, input_at}
 use Rattle.pc_merge.specs.Given.{HasGiven, IsCauseOfAll, IsMerge}
-use Rattle.pc_merge.specs.Inputs.{all_known, all_left, coming_at, if_ended, rest_of_input, left_unless}
-use Rattle.pc_merge.specs.Merging.{AreEnded, GivesFirst, MergesNext, IsBelow, IsCause, all_behind, first_to_come}
+use Rattle.pc_merge.specs.Inputs.{all_left, coming_at, rest_of_input}
+use Rattle.pc_merge.specs.Merging.{AreEnded, GivesFirst, MergesNext, IsBelow, IsCause, all_behind}
 use Rattle.pc_merge.specs.Tournaments.{first_entry_at, HasNoEntries, IsLeast, IsNoLater}
 use Rattle.pc_merge.proofs.GivenLaws.{causes_stand, ends_are_merges, given_grows}
-use Rattle.pc_merge.proofs.LeftLaws.{first_at, first_left, known_each, left_at, left_length, none_left}
+use Rattle.pc_merge.proofs.LeftLaws.{first_at, left_at, left_length, none_left}
 use Rattle.pc_merge.proofs.NewestLaws.{all_passed, gives_first}
 
 abbrev pub Answer : Type 0

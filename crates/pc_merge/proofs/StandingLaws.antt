@@ -3,11 +3,10 @@ use Rattle.std.proofs.Common.{◌≡◌, ◌≢◌, ℕ, suc, ◌++◌, option_t
 use Rattle.std.proofs.lemmas.List.{get_or-map, get_or-set_same, get_or-set_other, length-map, map-set, set-get_or}
 use Rattle.pc_io.specs.Counted.{HasRisen}
 use Rattle.pc_types.specs.declared.Refusal.{Refusal}
-use Rattle.pc_types.specs.declared.Refusal.TheVariants.{Device}
 use Rattle.std.proofs.lemmas.List.Elements.{All-get_or, All-set}
 use Rattle.pc_types.specs.declared.Triple.{Triple}
-use Rattle.pc_merge.specs.Coming.{IsFailureCounted, GivesWithin, IsWithin, Standing, KeepsRefusal, StandsBy}
-use Rattle.pc_merge.specs.Standings.{AllStand, AreWithin, HasFailed, standing_at}
+use Rattle.pc_merge.specs.Coming.{GivesWithin, IsWithin, Standing, KeepsRefusal, StandsBy}
+use Rattle.pc_merge.specs.Standings.{AllStand, AreWithin, standing_at}
 use Rattle.pc_merge.specs.Tournaments.{first_entry_at}
 use Rattle.std.proofs.lemmas.Bool.Decides.{nat_tests}
 

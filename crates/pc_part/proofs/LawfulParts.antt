@@ -4,7 +4,6 @@ use Rattle.std.specs.List.{All, AllByRecursion}
 use Rattle.std.proofs.lemmas.List.{length-map}
 use Rattle.std.proofs.lemmas.List.Elements.{All-map, All-from_recursion}
 use Rattle.pc_model.specs.Sets as set
-use Rattle.pc_model.specs.Sets.{Set, number_order}
 use Rattle.pc_model.specs.Files.{File}
 use Rattle.pc_model.specs.TripleLists.{entry_of, map_entries}
 use Rattle.pc_types.specs.declared.Triple.{Triple}

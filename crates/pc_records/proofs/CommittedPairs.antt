@@ -90,11 +90,7 @@ module _ (side : Side) where
 
     find_content : (slots : List Slot) (q : List ℕ) → find key_cmp q (contents_of slots) ≡ option_map committed (slot_of slots q)
     find_content [] q = refl
-    find_content (s ∷ ss) q = by_test (same_bytes q s.key) (find_content ss q)
-      where
-        by_test : (b : Bool) → find key_cmp q (contents_of ss) ≡ option_map committed (slot_of ss q) → cond b (Some (committed s)) (find key_cmp q (contents_of ss)) ≡ option_map committed (cond b (Some s) (slot_of ss q))
-        by_test true rest = refl
-        by_test false rest = rest
+    find_content (s ∷ ss) q = grind (arith, find_content ss q)
 
     content_found : (q : List ℕ) (o : Option (ℕ × Cell)) → option_map content o ≡ option_map committed (option_map (cell_of side q) o)
     content_found q None = refl

@@ -1,7 +1,7 @@
 -- Writes of which no two have one key.
-use Rattle.std.proofs.Common.{◌≡◌, ℕ, List, [], ◌∷◌, is_some, refl, sym, ap, ◌∙◌, cond, true, false, Bool, eqb, ◌||◌}
+use Rattle.std.proofs.Common.{◌≡◌, ℕ, List, [], ◌∷◌, is_some, cond, true, false, Bool, eqb, ◌||◌, arith}
 use Rattle.pc_types.specs.declared.Write.{Write}
-use Rattle.pc_model.specs.Database.{same_bytes, written}
+use Rattle.pc_model.specs.Database.{written}
 use Rattle.pc_model.specs.Points.{is_among, with_key, with_keys}
 use Rattle.pc_model.specs.History.{History, Effect, effect, writes_of, writes_by}
 use Rattle.pc_model.specs.History.Effect.{Begins, Reads, Writes, Adds, Waits, Dies, Commits, Aborts, Moves, Takes, Shelves, Joins, Nothing}
@@ -36,15 +36,5 @@ distinct_writes s (step ∷ h) = distinct_by s (effect step) (writes_of s h) (di
 
 -- which keys a list has once those of the writes are added
 pub among_with_keys : (keys : List (List ℕ)) (ws : List Write) (q : List ℕ) → is_among (with_keys keys ws) q ≡ (is_among keys q || is_some (written ws q))
-among_with_keys keys [] q = or-false (is_among keys q)
-  where
-    or-false : (b : Bool) → b ≡ (b || false)
-    or-false true = refl
-    or-false false = refl
-among_with_keys keys (w ∷ ws) q = among_with_keys (with_key keys w.key) ws q ∙ ap (λ b. b || is_some (written ws q)) (among_with_key keys w.key q) ∙ turn (same_bytes w.key q) (is_among keys q) ∙ ap (λ b. is_among keys q || b) (sym (written_first w ws q))
-  where
-    turn : (b c : Bool) → ((b || c) || is_some (written ws q)) ≡ (c || (b || is_some (written ws q)))
-    turn true true = refl
-    turn true false = refl
-    turn false true = refl
-    turn false false = refl
+among_with_keys keys [] q = grind arith
+among_with_keys keys (w ∷ ws) q = grind (arith, among_with_keys (with_key keys w.key) ws q, among_with_key keys w.key q, written_first w ws q)

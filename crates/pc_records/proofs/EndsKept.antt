@@ -1,5 +1,5 @@
 -- The ends of the slots' queues, where a record is changed, goes in, or goes, and what the locks keep besides them.
-use Rattle.std.proofs.Common.{◌≡◌, ◌≢◌, ◌⊎◌, inl, inr, ℕ, List, [], ◌∷◌, map, Option, Some, None, option_map, is_some, refl, sym, ap, ◌∙◌, subst, cond, Bool, true, false, eqb}
+use Rattle.std.proofs.Common.{◌≡◌, ◌≢◌, ◌⊎◌, inl, inr, ℕ, List, [], ◌∷◌, map, Option, Some, None, option_map, is_some, refl, sym, ap, ◌∙◌, subst, cond, Bool, true, false, eqb, arith}
 use Rattle.std.proofs.lemmas.Bool.{eqb-true, eq-eqb}
 use Rattle.pc_chain.specs.declared.chain.Chain.{Chain}
 use Rattle.pc_chain.specs.Chains.{IsEmpty}
@@ -70,7 +70,7 @@ module _ (old new : Contents Cell) (id : ℕ) (gone : new ≡ without_slot old i
 
 at_same : (n : ℕ) (slots : List Slot) → map (at_number (λ s. s) n) slots ≡ slots
 at_same n [] = refl
-at_same n (s ∷ ss) = ap (λ (rest : List Slot). cond (eqb s.number n) s s ∷ rest) (at_same n ss) ∙ elim (eqb s.number n) as (λ b. cond b s s ∷ ss ≡ s ∷ ss) [ true ↦ refl | false ↦ refl ]
+at_same n (s ∷ ss) = grind (arith, at_same n ss)
 
 -- a record that gets other ends
 module _ (table : Contents Cell) (a : AreInSlots table) (id : ℕ) (x : Cell) (has : option_map (λ pair. pair.1) (in_slot table.rows id) ≡ Some x) (y : Cell) (rest : y ≡ with_ends y x) (ends : Chain ℕ) (are : chain_in y ≡ ends) where

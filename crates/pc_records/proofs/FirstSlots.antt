@@ -1,12 +1,12 @@
 -- The slots of pairs that ascend, in order.
-use Rattle.std.proofs.Common.{◌≡◌, ℕ, zero, suc, ◌+◌, ◌<◌, List, [], ◌∷◌, ◌++◌, length, map, take, get_or, Option, Some, None, option_map, Bool, true, false, cond, refl, sym, ap, ◌∙◌, subst, ◌&&◌}
+use Rattle.std.proofs.Common.{◌≡◌, ℕ, zero, suc, ◌+◌, ◌<◌, List, [], ◌∷◌, ◌++◌, length, map, take, get_or, Option, Some, None, option_map, true, false, cond, refl, sym, ap, ◌∙◌, subst, ◌&&◌, arith}
 use Rattle.std.specs.Ordering.{is_lt, is_eq}
 use Rattle.std.specs.declared.cmp.Ordering.{Ordering}
 use Rattle.std.specs.declared.cmp.Ordering.TheVariants.{Less, Equal, Greater}
 use Rattle.std.specs.FinMap.{find, put, is_sorted}
 use Rattle.std.specs.FinMap.Entries.{below_all, by_order, find-put, find-append, is_sorted-put}
 use Rattle.std.proofs.lemmas.List.{take_more}
-use Rattle.pc_model.specs.Database.{KeysRise, key_cmp, key_order, same_bytes}
+use Rattle.pc_model.specs.Database.{KeysRise, key_cmp, key_order}
 use Rattle.pc_model.proofs.PairMapLaws.{computes, tested}
 use Rattle.pc_model.proofs.RisingLaws.{both, and_of, Rise}
 use Rattle.pc_table.specs.Rows.{TableRow, Contents, slot_of as table_slot, with_row, AreInSlots}
@@ -31,11 +31,7 @@ cells_put key n x (row ∷ rows) = by_test (key_cmp key row.0) (cells_put key n 
 
 cells_found : (key : List ℕ) (rows : List (TableRow Cell)) → find key_cmp key (cells_in rows) ≡ option_map (λ place. place.1) (find key_cmp key rows)
 cells_found key [] = refl
-cells_found key (row ∷ rows) = by_test (same_bytes key row.0) (cells_found key rows)
-  where
-    by_test : (b : Bool) → find key_cmp key (cells_in rows) ≡ option_map (λ place. place.1) (find key_cmp key rows) → cond b (Some row.1.1) (find key_cmp key (cells_in rows)) ≡ option_map (λ place. place.1) (cond b (Some row.1) (find key_cmp key rows))
-    by_test true rest = refl
-    by_test false rest = rest
+cells_found key (row ∷ rows) = grind (arith, cells_found key rows)
 
 less_apart : (o : Ordering) → is_lt o ≡ true → is_eq o ≡ false
 less_apart Less e = refl

@@ -1,9 +1,8 @@
 -- The floor of slots, seen again if one of them or its queue has changed.
-use Rattle.std.proofs.Common.{◌≡◌, ◌≢◌, ℕ, ◌+◌, List, [], ◌∷◌, ◌++◌, map, Option, Some, None, is_some, option_map, refl, sym, ap, ◌∙◌, subst, cond, Bool, true, false, eqb, ◌||◌, ◌&&◌, ◌==◌, not, arith}
+use Rattle.std.proofs.Common.{◌≡◌, ◌≢◌, ℕ, List, [], ◌∷◌, ◌++◌, map, Option, Some, None, is_some, option_map, refl, sym, ap, ◌∙◌, subst, cond, Bool, true, false, eqb, ◌||◌, ◌&&◌, not, arith}
 use Rattle.std.proofs.lemmas.Bool.Decides.{nat_tests}
 use Rattle.std.specs.Prelude.{IfOk, IfSome, IfNone, OnErr, Result, Ok, Err}
 use Rattle.pc_types.specs.declared.Class.{Class}
-use Rattle.pc_types.specs.declared.Class.TheVariants.{Before, During, After}
 use Rattle.pc_chain.specs.declared.chain.Chain.{Chain}
 use Rattle.pc_types.specs.declared.Mode.{Mode}
 use Rattle.pc_types.specs.declared.Outcome.{Outcome}
@@ -17,9 +16,7 @@ use Rattle.pc_dirty.specs.declared.dirty.Dirty.{Dirty}
 use Rattle.pc_dirty.specs.Sets.{other_side, AreSets}
 use Rattle.pc_table.specs.Rows.{TableRow, Contents, in_slot, HasRow, slot_of as table_slot}
 use Rattle.pc_slots.specs.declared.cells.Cell.{Cell}
-use Rattle.pc_slots.specs.declared.versions.Stable.TheVariants.{Held}
-use Rattle.pc_slots.specs.declared.versions.Writer.{Writer}
-use Rattle.pc_slots.specs.Slots.{Slot, writer_in, put_slot, put_beside, saved, settled, closed_slot}
+use Rattle.pc_slots.specs.Slots.{Slot, writer_in, put_slot, settled, closed_slot}
 use Rattle.pc_slots.specs.Words.{is_marked}
 use Rattle.pc_records.specs.Ends.{ends_in, queues_in, KeepSlots}
 use Rattle.pc_records.specs.RowSteps.{is_waiting_in_rows}
@@ -38,62 +35,25 @@ use Rattle.pc_locks.specs.Keepers as keepers
 -- a slot that has the number has a row
 pub spot_row : (side : Side) (queues : Queues) (id : ℕ) (rows : List (TableRow Cell)) → has_spot (spots_of queues (slots_in side rows)) id ≡ true → HasRow rows id
 spot_row side queues id [] has = absurd (cc (has))
-spot_row side queues id (row ∷ rows) has = by_test (eqb row.1.0 id) has (spot_row side queues id rows)
-  where
-    by_test : (b : Bool) → (b || has_spot (spots_of queues (slots_in side rows)) id) ≡ true → (has_spot (spots_of queues (slots_in side rows)) id ≡ true → HasRow rows id) → is_some (cond b (Some (row.0, row.1.1)) (in_slot rows id)) ≡ true
-    by_test true h rest = refl
-    by_test false h rest = rest h
+spot_row side queues id (row ∷ rows) has = grind (arith, nat_tests, spot_row side queues id rows)
 
 -- a write leaves the slot's number
 pub put_number : (point t : ℕ) (class : Class) (copy value : Option (List ℕ)) (slot : Slot) → (put_slot point t class copy value slot).number ≡ slot.number
-put_number point t class copy value slot = by_writer slot.writer
-  where
-    saves : (c : Class) → (saved point c copy slot).number ≡ slot.number
-    saves Before = refl
-    saves During = refl
-    saves After = elim (slot.is_in_closed_set && not (slot.mark == point)) as (λ b. (cond b (record slot { stable = Held copy; mark = point }) slot).number ≡ slot.number) [ true ↦ refl | false ↦ refl ]
-
-    by_writer : (w : Option Writer) → (put_beside w point t class copy value slot).number ≡ slot.number
-    by_writer None = saves class
-    by_writer (Some w) = refl
+put_number point t class copy value slot = grind arith
 
 -- and its key
 pub put_key : (point t : ℕ) (class : Class) (copy value : Option (List ℕ)) (slot : Slot) → (put_slot point t class copy value slot).key ≡ slot.key
-put_key point t class copy value slot = by_writer slot.writer
-  where
-    saves : (c : Class) → (saved point c copy slot).key ≡ slot.key
-    saves Before = refl
-    saves During = refl
-    saves After = elim (slot.is_in_closed_set && not (slot.mark == point)) as (λ b. (cond b (record slot { stable = Held copy; mark = point }) slot).key ≡ slot.key) [ true ↦ refl | false ↦ refl ]
-
-    by_writer : (w : Option Writer) → (put_beside w point t class copy value slot).key ≡ slot.key
-    by_writer None = saves class
-    by_writer (Some w) = refl
+put_key point t class copy value slot = grind arith
 
 -- the spots where the slot of a number has changed, and kept its number
 pub spots_changed : (f : Slot → Slot) (queues : Queues) (id : ℕ) → ((s : Slot) → (f s).number ≡ s.number) → (slots : List Slot) → spots_of queues (map (at_number f id) slots) ≡ map (at_spot (with_slot_changed f) id) (spots_of queues slots)
 spots_changed f queues id keeps [] = refl
-spots_changed f queues id keeps (s ∷ slots) =
-    ap (λ (x : Spot). x ∷ spots_of queues (map (at_number f id) slots)) (one (eqb s.number id))
-    ∙ ap (λ (xs : List Spot). at_spot (with_slot_changed f) id (spot_of queues s) ∷ xs) (spots_changed f queues id keeps slots)
-  where
-    one : (b : Bool) → spot_of queues (cond b (f s) s) ≡ cond b (with_slot_changed f (spot_of queues s)) (spot_of queues s)
-    one true = ap (λ n. record { slot = f s; queue = queue_at queues n }) (keeps s)
-    one false = refl
+spots_changed f queues id keeps (s ∷ slots) = grind (arith, nat_tests, spots_changed f queues id keeps slots, keeps s)
 
 -- the spots where the queue of a number has changed
 pub spots_queued : (g : Queue → Queue) (id : ℕ) (queues new : Queues) → SetsAt queues new id (g (queue_at queues id)) → (slots : List Slot) → spots_of new slots ≡ map (at_spot (queued g) id) (spots_of queues slots)
 spots_queued g id queues new sets [] = refl
-spots_queued g id queues new sets (s ∷ slots) =
-    ap (λ (x : Spot). x ∷ spots_of new slots) (one (eqb s.number id) refl) ∙ ap (λ (xs : List Spot). at_spot (queued g) id (spot_of queues s) ∷ xs) (spots_queued g id queues new sets slots)
-  where
-    one : (b : Bool) → eqb s.number id ≡ b → spot_of new s ≡ cond b (queued g (spot_of queues s)) (spot_of queues s)
-    one true is =
-        let same : s.number ≡ id = grind (arith, nat_tests, is) in
-        ap (λ (q : Queue). record { slot = s; queue = q }) (ap (queue_at new) same ∙ sets.this ∙ ap (λ n. g (queue_at queues n)) (sym same))
-    one false is =
-        let other : s.number ≢ id = λ same. grind (arith, nat_tests, is, same) in
-        ap (λ (q : Queue). record { slot = s; queue = q }) (sets.others s.number other)
+spots_queued g id queues new sets (s ∷ slots) = grind (arith, nat_tests, spots_queued g id queues new sets slots, sets.this, sets.others s.number)
 
 -- the spots where each queue is what it was
 spots_alike : (queues new : Queues) → ((slot : ℕ) → queue_at new slot ≡ queue_at queues slot) → (slots : List Slot) → spots_of new slots ≡ spots_of queues slots
@@ -103,13 +63,7 @@ spots_alike queues new alike (s ∷ slots) = ap (λ (q : Queue). record { slot =
 -- the queue at a slot that is there
 pub queue_there : (queues : Queues) (id : ℕ) (slots : List Slot) → has_spot (spots_of queues slots) id ≡ true → queue_at_slot (spots_of queues slots) id ≡ queue_at queues id
 queue_there queues id [] has = absurd (cc (has))
-queue_there queues id (s ∷ slots) has = by_test (eqb s.number id) refl has (queue_there queues id slots)
-  where
-    by_test : (b : Bool) → eqb s.number id ≡ b → (b || has_spot (spots_of queues slots) id) ≡ true → (has_spot (spots_of queues slots) id ≡ true → queue_at_slot (spots_of queues slots) id ≡ queue_at queues id) → cond b (queue_at queues s.number) (queue_at_slot (spots_of queues slots) id) ≡ queue_at queues id
-    by_test true is h rest =
-        let same : s.number ≡ id = grind (arith, nat_tests, is) in
-        ap (queue_at queues) same
-    by_test false is h rest = rest h
+queue_there queues id (s ∷ slots) has = grind (arith, nat_tests, queue_there queues id slots)
 
 -- a transaction waits somewhere as the rows have it
 pub waits_alike : (t : ℕ) (queues : Queues) (slots : List Slot) → waits_anywhere (spots_of queues slots) t ≡ is_waiting_in_rows (rows_of queues slots) t
@@ -165,11 +119,7 @@ number_there side queues key (row ∷ rows) = elim (same_bytes key row.0) as (λ
 -- a row has its slot
 pub row_spot : (side : Side) (queues : Queues) (id : ℕ) (rows : List (TableRow Cell)) → HasRow rows id → has_spot (spots_of queues (slots_in side rows)) id ≡ true
 row_spot side queues id [] has = absurd (cc (has))
-row_spot side queues id (row ∷ rows) has = by_test (eqb row.1.0 id) has (row_spot side queues id rows)
-  where
-    by_test : (b : Bool) → is_some (cond b (Some (row.0, row.1.1)) (in_slot rows id)) ≡ true → (HasRow rows id → has_spot (spots_of queues (slots_in side rows)) id ≡ true) → (b || has_spot (spots_of queues (slots_in side rows)) id) ≡ true
-    by_test true h rest = refl
-    by_test false h rest = rest h
+row_spot side queues id (row ∷ rows) has = grind (arith, nat_tests, row_spot side queues id rows)
 
 pub found_spot : (side : Side) (queues : Queues) (rows : List (TableRow Cell)) (r : Option ℕ) → IfSome r (HasRow rows) → IfSome r (λ id. has_spot (spots_of queues (slots_in side rows)) id ≡ true)
 found_spot side queues rows (Some id) has = row_spot side queues id rows has
@@ -235,24 +185,12 @@ kept_queue id q slots queues new empty sets kept = record { rise = kept.rise; on
 -- a slot that is there has its number
 has_times : (queues : Queues) (id : ℕ) (slots : List Slot) → has_spot (spots_of queues slots) id ≡ true → times id (numbers_of slots) ≡ 0 → ⊥
 has_times queues id [] has none = absurd (cc (has))
-has_times queues id (s ∷ slots) has none = by_test (eqb s.number id) refl has (has_times queues id slots)
-  where
-    by_test : (b : Bool) → eqb s.number id ≡ b → (b || has_spot (spots_of queues slots) id) ≡ true → (has_spot (spots_of queues slots) id ≡ true → times id (numbers_of slots) ≡ 0 → ⊥) → ⊥
-    by_test true is h rest =
-        let more : times id (numbers_of slots) + 1 ≡ 0 = sym (ap (λ b. cond b (times id (numbers_of slots) + 1) (times id (numbers_of slots))) is) ∙ none in
-        absurd (omega (arith, more))
-    by_test false is h rest = rest h (sym (ap (λ b. cond b (times id (numbers_of slots) + 1) (times id (numbers_of slots))) is) ∙ none)
+has_times queues id (s ∷ slots) has none = grind (arith, nat_tests, has_times queues id slots)
 
 -- a transaction is at the spot of a slot in whose queue it is
 stands_spot : (t id : ℕ) (queues : Queues) (slots : List Slot) → stands_in (queue_at queues id) t ≡ true → (times id (numbers_of slots) ≡ 0 → ⊥) → stands_at (spots_of queues slots) id t ≡ true
 stands_spot t id queues [] stands some = absurd (some refl)
-stands_spot t id queues (s ∷ slots) stands some = by_test (eqb s.number id) refl (stands_spot t id queues slots stands)
-  where
-    by_test : (b : Bool) → eqb s.number id ≡ b → ((times id (numbers_of slots) ≡ 0 → ⊥) → stands_at (spots_of queues slots) id t ≡ true) → ((b && stands_in (queue_at queues s.number) t) || stands_at (spots_of queues slots) id t) ≡ true
-    by_test true is rest =
-        let same : s.number ≡ id = grind (arith, nat_tests, is) in
-        ap (λ b. b || stands_at (spots_of queues slots) id t) (ap (λ n. stands_in (queue_at queues n) t) same ∙ stands)
-    by_test false is rest = rest (λ none. some (ap (λ b. cond b (times id (numbers_of slots) + 1) (times id (numbers_of slots))) is ∙ none))
+stands_spot t id queues (s ∷ slots) stands some = grind (arith, nat_tests, stands_spot t id queues slots stands)
 
 -- and at none if it is in no queue
 stands_at_none : (t : ℕ) (queues : Queues) (slots : List Slot) → ((n : ℕ) → stands_in (queue_at queues n) t ≡ false) → stands_anywhere (spots_of queues slots) t ≡ false

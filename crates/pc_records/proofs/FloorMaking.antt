@@ -1,5 +1,5 @@
 -- The floor of slots, once a key got a slot.
-use Rattle.std.proofs.Common.{◌≡◌, ℕ, List, [], ◌∷◌, length, map, Option, Some, None, option_map, refl, sym, ap, ◌∙◌, subst, cond, Bool, true, false, eqb, ◌||◌, arith}
+use Rattle.std.proofs.Common.{◌≡◌, ℕ, List, [], ◌∷◌, length, map, Option, Some, None, option_map, refl, sym, ap, ◌∙◌, subst, cond, Bool, true, false, arith}
 use Rattle.std.proofs.lemmas.Bool.Decides.{nat_tests}
 use Rattle.std.specs.Prelude.{IfOk, IfErr, OnErr, Result, Ok, Err, if◌then◌else◌, ◌==◌}
 use Rattle.std.specs.declared.cmp.Ordering.{Ordering}
@@ -17,7 +17,7 @@ use Rattle.pc_locks.specs.States.{Queues, queue_at}
 use Rattle.pc_dirty.specs.declared.side.Side.{Side}
 use Rattle.pc_dirty.specs.declared.dirty.Dirty.{Dirty}
 use Rattle.pc_table.specs.Rows.{TableRow, Contents, HasRow, AreInSlots, IsNewSlot, in_slot, with_row, slot_of as table_slot}
-use Rattle.pc_table.proofs.RowLaws.{no_row, same_some}
+use Rattle.pc_table.proofs.RowLaws.{no_row}
 use Rattle.pc_slots.specs.declared.cells.Cell.{Cell}
 use Rattle.pc_slots.specs.Slots.{Slot, slot_with, base_cell, new_slot, keeps_copy, committed}
 use Rattle.pc_types.specs.declared.Class.{Class}
@@ -51,11 +51,7 @@ put_spots side queues key n x (row ∷ rows) none = by_test (key_cmp key row.0) 
 -- no spot has the number of a slot without a row
 pub no_spot : (side : Side) (queues : Queues) (id : ℕ) (rows : List (TableRow Cell)) → in_slot rows id ≡ None → has_spot (spots_of queues (slots_in side rows)) id ≡ false
 no_spot side queues id [] none = refl
-no_spot side queues id (row ∷ rows) none = by_test (eqb row.1.0 id) none (no_spot side queues id rows)
-  where
-    by_test : (b : Bool) → cond b (Some (row.0, row.1.1)) (in_slot rows id) ≡ None → (in_slot rows id ≡ None → has_spot (spots_of queues (slots_in side rows)) id ≡ false) → (b || has_spot (spots_of queues (slots_in side rows)) id) ≡ false
-    by_test true e rest = absurd (no_row (sym e))
-    by_test false e rest = rest e
+no_spot side queues id (row ∷ rows) none = grind (arith, nat_tests, no_spot side queues id rows)
 
 -- there are as many spots as rows
 pub counted : (side : Side) (queues : Queues) (rows : List (TableRow Cell)) → length (spots_of queues (slots_in side rows)) ≡ length rows
@@ -132,44 +128,21 @@ module _ (old new : Contents Cell) (key : List ℕ) (locks : keepers.KeptRequest
 -- what a refused slot tells, and one that was made
 module _ (side : Side) (table new : Contents Cell) (queues later : Queues) (r : Result ℕ Refusal) where
   pub made_fresh : IfOk r (IsNewSlot table) → IfOk r (λ id. has_spot (spots_of queues (slots_in side table.rows)) id ≡ false)
-  made_fresh fresh = by_result r fresh
-    where
-      by_result : (r : Result ℕ Refusal) → IfOk r (IsNewSlot table) → IfOk r (λ id. has_spot (spots_of queues (slots_in side table.rows)) id ≡ false)
-      by_result (Ok id) fresh = no_spot side queues id table.rows fresh.1
-      by_result (Err e) fresh = tt
+  made_fresh fresh = grind (arith, no_spot side queues)
 
   pub made_there : IfOk r (HasRow new.rows) → IfOk r (λ id. has_spot (spots_of later (slots_in side new.rows)) id ≡ true)
-  made_there row = by_result r row
-    where
-      by_result : (r : Result ℕ Refusal) → IfOk r (HasRow new.rows) → IfOk r (λ id. has_spot (spots_of later (slots_in side new.rows)) id ≡ true)
-      by_result (Ok id) row = row_spot side later id new.rows row
-      by_result (Err e) row = tt
+  made_there row = grind (arith, row_spot side later)
 
   pub made_room : IfOk r (λ id. (length table.rows == table.capacity) ≡ false) → IfOk r (λ id. (length (spots_of queues (slots_in side table.rows)) == table.capacity) ≡ false)
-  made_room room = by_result r room
-    where
-      by_result : (r : Result ℕ Refusal) → IfOk r (λ id. (length table.rows == table.capacity) ≡ false) → IfOk r (λ id. (length (spots_of queues (slots_in side table.rows)) == table.capacity) ≡ false)
-      by_result (Ok id) room = ap (λ n. eqb n table.capacity) (counted side queues table.rows) ∙ room
-      by_result (Err e) room = tt
+  made_room room = grind (arith, counted side queues table.rows)
 
   pub made_refused : IfErr r (λ e. e ≡ (if length table.rows == table.capacity then Full else OutOfMemory)) → IfErr r (λ e. e ≡ (if length (spots_of queues (slots_in side table.rows)) == table.capacity then Full else OutOfMemory))
-  made_refused refusal = by_result r refusal
-    where
-      by_result : (r : Result ℕ Refusal) → IfErr r (λ e. e ≡ (if length table.rows == table.capacity then Full else OutOfMemory)) → IfErr r (λ e. e ≡ (if length (spots_of queues (slots_in side table.rows)) == table.capacity then Full else OutOfMemory))
-      by_result (Ok id) refusal = tt
-      by_result (Err e) refusal = refusal ∙ ap (λ n. cond (eqb n table.capacity) Full OutOfMemory) (sym (counted side queues table.rows))
+  made_refused refusal = grind (arith, counted side queues table.rows)
 
 -- what a slot that is there has of something
 pub of_there : (side : Side) (queues : Queues) (f : Slot → Option (List ℕ)) (out : Option (List ℕ)) (id : ℕ) (x : Cell) → ((key : List ℕ) → f (slot_with side id key x) ≡ out) → (rows : List (TableRow Cell)) → option_map (λ pair. pair.1) (in_slot rows id) ≡ Some x → of_spot f (spots_of queues (slots_in side rows)) id ≡ out
 of_there side queues f out id x is [] has = absurd (no_row has)
-of_there side queues f out id x is (row ∷ rows) has = by_test (eqb row.1.0 id) refl has (of_there side queues f out id x is rows)
-  where
-    by_test : (b : Bool) → eqb row.1.0 id ≡ b → option_map (λ (pair : List ℕ × Cell). pair.1) (cond b (Some (row.0, row.1.1)) (in_slot rows id)) ≡ Some x → (option_map (λ pair. pair.1) (in_slot rows id) ≡ Some x → of_spot f (spots_of queues (slots_in side rows)) id ≡ out)
-        → cond b (f (slot_in side row)) (of_spot f (spots_of queues (slots_in side rows)) id) ≡ out
-    by_test true same h rest =
-        let number : row.1.0 ≡ id = grind (arith, nat_tests, same) in
-        ap (λ n. f (slot_with side n row.0 row.1.1)) number ∙ ap (λ y. f (slot_with side id row.0 y)) (same_some h) ∙ is row.0
-    by_test false same h rest = rest h
+of_there side queues f out id x is (row ∷ rows) has = grind (arith, nat_tests, of_there side queues f out id x is rows, is row.0)
 
 pub copied_there : {E : Type 0} (side : Side) (queues : Queues) (f : Slot → Option (List ℕ)) (out : Option (List ℕ)) (id : ℕ) (x : Cell) (rows : List (TableRow Cell)) → option_map (λ pair. pair.1) (in_slot rows id) ≡ Some x → (r : Result (Option (List ℕ)) E) → ((key : List ℕ) → f (slot_with side id key x) ≡ out) → IfOk r (λ copy. copy ≡ out)
     → IfOk r (λ copy. copy ≡ of_spot f (spots_of queues (slots_in side rows)) id)

@@ -7,7 +7,7 @@ use Rattle.pc_locks.specs.Keepers as keepers
 use Rattle.pc_dirty.specs.declared.side.Side.{Side}
 use Rattle.pc_dirty.specs.declared.dirty.Dirty.{Dirty}
 use Rattle.pc_table.specs.Rows.{TableRow, Contents, AreInSlots, in_slot, without_slot}
-use Rattle.pc_table.proofs.RowLaws.{no_row, same_some}
+use Rattle.pc_table.proofs.RowLaws.{no_row}
 use Rattle.pc_slots.specs.declared.cells.Cell.{Cell}
 use Rattle.pc_slots.specs.Slots.{Slot, slot_with, is_kept_slot, is_held}
 use Rattle.pc_records.specs.Ends.{ends_in, queues_in}
@@ -42,21 +42,11 @@ module _ (side : Side) (queues : Queues) (id : ℕ) where
   -- the others stay
   others_stay : (rows : List (TableRow Cell)) → times id (numbers_of (slots_in side rows)) ≡ 0 → tidied id (spots rows) ≡ spots rows
   others_stay [] none = refl
-  others_stay (row ∷ rows) none = by_test (eqb row.1.0 id) none (others_stay rows)
-    where
-      by_test : (b : Bool) → cond b (times id (numbers_of (slots_in side rows)) + 1) (times id (numbers_of (slots_in side rows))) ≡ 0 → (times id (numbers_of (slots_in side rows)) ≡ 0 → tidied id (spots rows) ≡ spots rows)
-          → cond (not b || is_needed (spot_of queues (slot_in side row))) (spot_of queues (slot_in side row) ∷ tidied id (spots rows)) (tidied id (spots rows)) ≡ spot_of queues (slot_in side row) ∷ spots rows
-      by_test true e rest = absurd (omega (arith, e))
-      by_test false e rest = ap (λ (xs : List Spot). spot_of queues (slot_in side row) ∷ xs) (rest e)
+  others_stay (row ∷ rows) none = grind (arith, nat_tests, others_stay rows)
 
   rows_stay : (rows : List (TableRow Cell)) → times id (numbers_of (slots_in side rows)) ≡ 0 → spots (filter (λ row. not (eqb row.1.0 id)) rows) ≡ spots rows
   rows_stay [] none = refl
-  rows_stay (row ∷ rows) none = by_test (eqb row.1.0 id) none (rows_stay rows)
-    where
-      by_test : (b : Bool) → cond b (times id (numbers_of (slots_in side rows)) + 1) (times id (numbers_of (slots_in side rows))) ≡ 0 → (times id (numbers_of (slots_in side rows)) ≡ 0 → spots (filter (λ row. not (eqb row.1.0 id)) rows) ≡ spots rows)
-          → spots (cond (not b) (row ∷ filter (λ row. not (eqb row.1.0 id)) rows) (filter (λ row. not (eqb row.1.0 id)) rows)) ≡ spot_of queues (slot_in side row) ∷ spots rows
-      by_test true e rest = absurd (omega (arith, e))
-      by_test false e rest = ap (λ (xs : List Spot). spot_of queues (slot_in side row) ∷ xs) (rest e)
+  rows_stay (row ∷ rows) none = grind (arith, nat_tests, rows_stay rows)
 
   module _ (x : Cell) where
     abbrev is_kept_here : Bool
@@ -70,50 +60,16 @@ module _ (side : Side) (queues : Queues) (id : ℕ) where
 
     pub needed_stays : (rows : List (TableRow Cell)) → times id (numbers_of (slots_in side rows)) ≤ 1 → option_map (λ pair. pair.1) (in_slot rows id) ≡ Some x → is_kept_here ≡ true → tidied id (spots rows) ≡ spots rows
     needed_stays [] once has needed = absurd (no_row has)
-    needed_stays (row ∷ rows) once has needed = by_test (eqb row.1.0 id) refl once has (needed_stays rows)
-      where
-        by_test : (b : Bool) → eqb row.1.0 id ≡ b → cond b (times id (numbers_of (slots_in side rows)) + 1) (times id (numbers_of (slots_in side rows))) ≤ 1 → option_map (λ (pair : List ℕ × Cell). pair.1) (cond b (Some (row.0, row.1.1)) (in_slot rows id)) ≡ Some x
-            → (times id (numbers_of (slots_in side rows)) ≤ 1 → option_map (λ pair. pair.1) (in_slot rows id) ≡ Some x → is_kept_here ≡ true → tidied id (spots rows) ≡ spots rows)
-            → cond (not b || is_needed (spot_of queues (slot_in side row))) (spot_of queues (slot_in side row) ∷ tidied id (spots rows)) (tidied id (spots rows)) ≡ spot_of queues (slot_in side row) ∷ spots rows
-        by_test true is o h rest =
-            let same : row.1.0 ≡ id = grind (arith, nat_tests, is) in
-            ap (λ b. cond b (spot_of queues (slot_in side row) ∷ tidied id (spots rows)) (tidied id (spots rows))) (test row same (same_some h) ∙ needed)
-            ∙ ap (λ (xs : List Spot). spot_of queues (slot_in side row) ∷ xs) (others_stay rows (last_one (times id (numbers_of (slots_in side rows))) o))
-        by_test false is o h rest = ap (λ (xs : List Spot). spot_of queues (slot_in side row) ∷ xs) (rest o h needed)
+    needed_stays (row ∷ rows) once has needed = grind (arith, nat_tests, needed_stays rows, others_stay rows, test row)
 
     pub needless_goes : (rows : List (TableRow Cell)) → times id (numbers_of (slots_in side rows)) ≤ 1 → option_map (λ pair. pair.1) (in_slot rows id) ≡ Some x → is_kept_here ≡ false → spots (filter (λ row. not (eqb row.1.0 id)) rows) ≡ tidied id (spots rows)
     needless_goes [] once has nothing = refl
-    needless_goes (row ∷ rows) once has nothing = by_test (eqb row.1.0 id) refl once has (needless_goes rows)
-      where
-        by_test : (b : Bool) → eqb row.1.0 id ≡ b → cond b (times id (numbers_of (slots_in side rows)) + 1) (times id (numbers_of (slots_in side rows))) ≤ 1 → option_map (λ (pair : List ℕ × Cell). pair.1) (cond b (Some (row.0, row.1.1)) (in_slot rows id)) ≡ Some x
-            → (times id (numbers_of (slots_in side rows)) ≤ 1 → option_map (λ pair. pair.1) (in_slot rows id) ≡ Some x → is_kept_here ≡ false → spots (filter (λ row. not (eqb row.1.0 id)) rows) ≡ tidied id (spots rows))
-            → spots (cond (not b) (row ∷ filter (λ row. not (eqb row.1.0 id)) rows) (filter (λ row. not (eqb row.1.0 id)) rows)) ≡ cond (not b || is_needed (spot_of queues (slot_in side row))) (spot_of queues (slot_in side row) ∷ tidied id (spots rows)) (tidied id (spots rows))
-        by_test true is o h rest =
-            let same : row.1.0 ≡ id = grind (arith, nat_tests, is) in
-            let none = last_one (times id (numbers_of (slots_in side rows))) o in
-            rows_stay rows none ∙ sym (others_stay rows none) ∙ ap (λ b. cond b (spot_of queues (slot_in side row) ∷ tidied id (spots rows)) (tidied id (spots rows))) (sym (test row same (same_some h) ∙ nothing))
-        by_test false is o h rest = ap (λ (xs : List Spot). spot_of queues (slot_in side row) ∷ xs) (rest o h nothing)
+    needless_goes (row ∷ rows) once has nothing = grind (arith, nat_tests, needless_goes rows, others_stay rows, rows_stay rows, test row)
 
   -- how often a number occurs among the slots that are left
   left_times : (n : ℕ) (rows : List (TableRow Cell)) → times n (numbers_of (slots_in side (filter (λ row. not (eqb row.1.0 id)) rows))) ≡ cond (eqb n id) 0 (times n (numbers_of (slots_in side rows)))
-  left_times n [] = elim (eqb n id) as (λ b. ◌≡◌ {A = ℕ} 0 (cond b 0 0)) [ true ↦ refl | false ↦ refl ]
-  left_times n (row ∷ rows) = by_test (eqb row.1.0 id) refl (eqb n id) refl (eqb row.1.0 n) refl (left_times n rows)
-    where
-      by_test : (b : Bool) → eqb row.1.0 id ≡ b → (o : Bool) → eqb n id ≡ o → (m : Bool) → eqb row.1.0 n ≡ m → times n (numbers_of (slots_in side (filter (λ row. not (eqb row.1.0 id)) rows))) ≡ cond o 0 (times n (numbers_of (slots_in side rows)))
-          → times n (numbers_of (slots_in side (cond (not b) (row ∷ filter (λ row. not (eqb row.1.0 id)) rows) (filter (λ row. not (eqb row.1.0 id)) rows)))) ≡ cond o 0 (cond m (times n (numbers_of (slots_in side rows)) + 1) (times n (numbers_of (slots_in side rows))))
-      by_test true is true other m own rest = rest
-      by_test true is false other true own rest = absurd (clash is other own)
-        where
-          clash : eqb row.1.0 id ≡ true → eqb n id ≡ false → eqb row.1.0 n ≡ true → ⊥
-          clash a b c = grind (arith, nat_tests, a, b, c)
-      by_test true is false other false own rest = rest
-      by_test false is true other true own rest = absurd (clash is other own)
-        where
-          clash : eqb row.1.0 id ≡ false → eqb n id ≡ true → eqb row.1.0 n ≡ true → ⊥
-          clash a b c = grind (arith, nat_tests, a, b, c)
-      by_test false is true other false own rest = ap (λ b. cond b (times n (numbers_of (slots_in side (filter (λ row. not (eqb row.1.0 id)) rows))) + 1) (times n (numbers_of (slots_in side (filter (λ row. not (eqb row.1.0 id)) rows))))) own ∙ rest
-      by_test false is false other true own rest = ap (λ b. cond b (times n (numbers_of (slots_in side (filter (λ row. not (eqb row.1.0 id)) rows))) + 1) (times n (numbers_of (slots_in side (filter (λ row. not (eqb row.1.0 id)) rows))))) own ∙ ap (λ k. k + 1) rest
-      by_test false is false other false own rest = ap (λ b. cond b (times n (numbers_of (slots_in side (filter (λ row. not (eqb row.1.0 id)) rows))) + 1) (times n (numbers_of (slots_in side (filter (λ row. not (eqb row.1.0 id)) rows))))) own ∙ rest
+  left_times n [] = grind arith
+  left_times n (row ∷ rows) = grind (arith, nat_tests, left_times n rows)
 
   pub kept_left : (table new : Contents Cell) → new ≡ without_slot table id → AreInSlots new → queue_at queues id ≡ [] → AreSlotsKept (slots_in side table.rows) queues → AreSlotsKept (slots_in side new.rows) queues
   kept_left table new gone after empty kept = record {

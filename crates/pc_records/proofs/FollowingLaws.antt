@@ -1,5 +1,5 @@
 -- What each request leaves of the records.
-use Rattle.std.proofs.Common.{◌≡◌, ℕ, List, [], ◌∷◌, Option, Some, None, is_some, refl, sym, ap, ◌∙◌, cond, true, false, Bool, not, ◌||◌}
+use Rattle.std.proofs.Common.{◌≡◌, ℕ, List, [], ◌∷◌, Option, Some, is_some, refl, sym, ap, ◌∙◌, cond, true, false, Bool, arith}
 use Rattle.std.specs.FinMap.{put as put_entry}
 use Rattle.std.specs.FinMap.Entries.{is_sorted-put, find-put}
 use Rattle.std.proofs.lemmas.Cmp.{eq_by_cmp_equiv}
@@ -39,33 +39,22 @@ same_records base rows h after cs qs ws ls ps are =
 
 -- a record with other requests keeps the rest, and a request keeps it
 pub stored-with : (r : Option Record) (queue : Queue) → stored (Some (with_requests r queue)) ≡ stored r
-stored-with None queue = refl
-stored-with (Some r) queue = refl
+stored-with r queue = grind arith
 
 pub open-with : (r : Option Record) (queue : Queue) → is_in_open_set (Some (with_requests r queue)) ≡ is_in_open_set r
-open-with None queue = refl
-open-with (Some r) queue = refl
+open-with r queue = grind arith
 
 pub closed-with : (r : Option Record) (queue : Queue) → is_in_closed_set (Some (with_requests r queue)) ≡ is_in_closed_set r
-closed-with None queue = refl
-closed-with (Some r) queue = refl
+closed-with r queue = grind arith
 
 point-with : (r : Option Record) (queue : Queue) → at_point (Some (with_requests r queue)) ≡ at_point r
-point-with None queue = refl
-point-with (Some r) queue = refl
+point-with r queue = grind arith
 
 requests-with : (r : Option Record) (queue : Queue) → requests_on (Some (with_requests r queue)) ≡ queue
-requests-with None queue = refl
-requests-with (Some r) queue = refl
+requests-with r queue = grind arith
 
 kept-with : (r : Option Record) (queue : Queue) → is_empty queue ≡ false → true ≡ stands_kept (Some (with_requests r queue))
-kept-with None queue some = rw some refl
-kept-with (Some r) queue some = by_value (is_some r.value) (is_empty queue) (r.is_in_open_set || r.is_in_closed_set) some
-  where
-    by_value : (a b c : Bool) → b ≡ false → true ≡ (a || (not b || c))
-    by_value true b c e = refl
-    by_value false true c e = cc
-    by_value false false c e = refl
+kept-with r queue some = grind arith
 
 -- a request, granted or waiting
 placed_records : (base : Database) (rows : List Row) (h after : History) (k : List ℕ) (n : ℕ) (mode : Mode) (o : Outcome) → ((queue : Queue) → is_empty (queue_after queue n mode o) ≡ false) → contents base after ≡ contents base h →

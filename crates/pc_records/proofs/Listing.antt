@@ -1,5 +1,5 @@
 -- The two lists of slots: what of the rows they see, and what follows if that stays.
-use Rattle.std.proofs.Common.{◌≡◌, ℕ, List, [], ◌∷◌, Option, Some, None, is_some, refl, sym, ap, ◌∙◌, subst, cond, Bool, true, false, eqb, ◌||◌}
+use Rattle.std.proofs.Common.{◌≡◌, ℕ, List, [], ◌∷◌, Option, Some, None, is_some, refl, sym, ap, ◌∙◌, subst, Bool, true, false, eqb, ◌||◌, arith}
 use Rattle.std.proofs.lemmas.Bool.{eq-eqb}
 use Rattle.pc_chain.specs.Chains.{AllHave}
 use Rattle.pc_dirty.specs.declared.side.Side.{Side}
@@ -21,34 +21,15 @@ abbrev mark_seen : Side → Option (List ℕ × (Word × Word)) → Bool
 mark_seen side None = false
 mark_seen side (Some q) = (word_in side q.1).is_in
 
-by_words : (side : Side) (key : List ℕ) (w : Word × Word) (a b : Bool) → w.0.is_in ≡ a → w.1.is_in ≡ b → mark_seen side (cond (a || b) (Some (key, w)) None) ≡ (word_in side w).is_in
-by_words First key w true b f s = refl
-by_words First key w false true f s = refl
-by_words First key w false false f s = sym f
-by_words Second key w true b f s = refl
-by_words Second key w false true f s = refl
-by_words Second key w false false f s = sym s
-
 -- a mark is seen
 mark_is : (side : Side) (o : Option (List ℕ × Cell)) → marked_in side o ≡ mark_seen side (in_sets o)
-mark_is First None = refl
-mark_is Second None = refl
-mark_is First (Some p) = sym (by_words First p.0 (cell_words p.1) p.1.first.is_in p.1.second.is_in refl refl)
-mark_is Second (Some p) = sym (by_words Second p.0 (cell_words p.1) p.1.first.is_in p.1.second.is_in refl refl)
+mark_is side o = grind arith
 
 pub marks_same : (side : Side) (a b : Option (List ℕ × Cell)) → in_sets b ≡ in_sets a → marked_in side b ≡ marked_in side a
 marks_same side a b e = mark_is side b ∙ (ap (mark_seen side) e ∙ sym (mark_is side a))
 
--- what a slot that is in a set has, is seen
-seen_some : (key : List ℕ) (w : Word × Word) (side : Side) (a b : Bool) → w.0.is_in ≡ a → w.1.is_in ≡ b → (word_in side w).is_in ≡ true → cond {A = Option (List ℕ × (Word × Word))} (a || b) (Some (key, w)) None ≡ Some (key, w)
-seen_some key w side true b f s e = refl
-seen_some key w side false true f s e = refl
-seen_some key w First false false f s e = absurd (let g : false ≡ true = sym f ∙ e in cc)
-seen_some key w Second false false f s e = absurd (let g : false ≡ true = sym s ∙ e in cc)
-
 cell_seen : (side : Side) (p : List ℕ × Cell) → marked_in side (Some p) ≡ true → in_sets (Some p) ≡ Some (p.0, cell_words p.1)
-cell_seen First p e = seen_some p.0 (cell_words p.1) First p.1.first.is_in p.1.second.is_in refl refl e
-cell_seen Second p e = seen_some p.0 (cell_words p.1) Second p.1.first.is_in p.1.second.is_in refl refl e
+cell_seen side p e = grind arith
 
 -- a slot in a set, of which the sets have what they had
 pub record IsSameThere (side : Side) (a b : Option (List ℕ × Cell)) : Type 0 where

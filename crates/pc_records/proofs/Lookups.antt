@@ -44,11 +44,7 @@ same_turned a b = (eq_by_cmp_equiv key_order.total).symm a b
 
 pub find_row : (queues : Queues) (slots : List Slot) (q : List ℕ) → record_of (rows_of queues slots) q ≡ record_in queues (slot_of slots q)
 find_row queues [] q = refl
-find_row queues (s ∷ ss) q = by_test (same_bytes q s.key) (find_row queues ss q)
-  where
-    by_test : (b : Bool) → record_of (rows_of queues ss) q ≡ record_in queues (slot_of ss q) → cond b (Some (row_of queues s).1) (record_of (rows_of queues ss) q) ≡ record_in queues (cond b (Some s) (slot_of ss q))
-    by_test true rest = refl
-    by_test false rest = rest
+find_row queues (s ∷ ss) q = grind (arith, find_row queues ss q)
 
 none_of : {A : Type 0} (o : Option A) → is_some o ≡ false → o ≡ None
 none_of None e = refl

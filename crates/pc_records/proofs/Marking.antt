@@ -1,6 +1,7 @@
 -- A slot whose marks are changed, and whose links stay.
-use Rattle.std.proofs.Common.{◌≡◌, ℕ, ◌==◌, List, [], ◌∷◌, length, map, Option, Some, None, option_map, is_some, not, refl, sym, ap, ◌∙◌, cond, Bool, true, false, eqb, ◌||◌}
-use Rattle.std.proofs.lemmas.Bool.{eqb-true, or_parts}
+use Rattle.std.proofs.Common.{◌≡◌, ℕ, List, [], ◌∷◌, map, Option, Some, None, option_map, is_some, refl, sym, ap, ◌∙◌, cond, Bool, true, false, eqb, ◌||◌, arith}
+use Rattle.std.proofs.lemmas.Bool.Decides.{nat_tests}
+use Rattle.std.proofs.lemmas.Bool.{eqb-true}
 use Rattle.pc_chain.specs.Chains.{AllHave}
 use Rattle.pc_dirty.specs.declared.side.Side.{Side}
 use Rattle.pc_dirty.specs.declared.side.Side.TheVariants.{First, Second}
@@ -11,7 +12,7 @@ use Rattle.pc_table.specs.Rows.{TableRow, in_slot, with_record_in}
 use Rattle.pc_table.proofs.RowLaws.{same_some}
 use Rattle.pc_slots.specs.declared.cells.Cell.{Cell}
 use Rattle.pc_slots.specs.Words.{cell_words, is_marked, place_at, link_of, HaveLinks}
-use Rattle.pc_slots.specs.Slots.{Slot, slot_with, is_held, is_kept_slot, taken_slot, aside_in}
+use Rattle.pc_slots.specs.Slots.{Slot, slot_with, is_kept_slot, taken_slot}
 use Rattle.pc_model.specs.Locks.{Queue}
 use Rattle.pc_records.specs.SetLists.{HasPlace, link_in, next_in, marked_in, key_in, KeepLinks, IsUnmarked}
 use Rattle.pc_records.proofs.InSlots.{changed_in, in_changed}
@@ -29,13 +30,7 @@ module _ (rows : List (TableRow Cell)) (id : ℕ) (x y : Cell) (has : option_map
   here slot is p e = same_some (sym (ap (option_map (λ (pair : List ℕ × Cell). pair.1)) e) ∙ (ap (λ m. option_map (λ (pair : List ℕ × Cell). pair.1) (in_slot rows m)) (eqb-true slot id is) ∙ has))
 
   pub mark_there : (side : Side) (slot : ℕ) → marked_in side (in_slot changed slot) ≡ cond (eqb slot id) (is_marked side y) (marked_in side (in_slot rows slot))
-  mark_there side slot = ap (marked_in side) (in_changed id y rows slot) ∙ by_test (eqb slot id) refl (in_slot rows slot) refl
-    where
-      by_test : (b : Bool) → eqb slot id ≡ b → (o : Option (List ℕ × Cell)) → in_slot rows slot ≡ o → marked_in side (option_map (λ p. (p.0, cond b y p.1)) o) ≡ cond b (is_marked side y) (marked_in side o)
-      by_test true is None e = absurd (let f : Some x ≡ None = sym has ∙ (ap (λ m. option_map (λ (pair : List ℕ × Cell). pair.1) (in_slot rows m)) (sym (eqb-true slot id is)) ∙ ap (option_map (λ (pair : List ℕ × Cell). pair.1)) e) in cc)
-      by_test true is (Some p) e = refl
-      by_test false is None e = refl
-      by_test false is (Some p) e = refl
+  mark_there side slot = grind (arith, nat_tests, in_changed id y rows slot)
 
   pub links_kept : HaveLinks x y → KeepLinks rows changed
   links_kept h = record {
@@ -89,16 +84,4 @@ same_words Second x y h a b = λ i. (record { slot = h.first_slot i; leads_to = 
 
 -- a slot that nothing keeps is in no set
 pub nothing_marked : (side : Side) (queue : Queue) (id : ℕ) (x : Cell) → is_kept_slot queue (slot_with side id [] x) ≡ false → (x.first.is_in || x.second.is_in) ≡ false
-nothing_marked side queue id x e =
-    let marks = is_marked side x || is_marked (other_side side) x in
-    let asked = not (length queue == 0) in
-    by_side side (or_parts asked marks (or_parts (is_held (aside_in x.aside).stable) (asked || marks) (or_parts (is_some x.live) (is_held (aside_in x.aside).stable || (asked || marks)) e).1).1).1
-  where
-    turned : (a b : Bool) → (a || b) ≡ false → (b || a) ≡ false
-    turned true b e = cc
-    turned false true e = cc
-    turned false false e = refl
-
-    by_side : (s : Side) → (is_marked s x || is_marked (other_side s) x) ≡ false → (x.first.is_in || x.second.is_in) ≡ false
-    by_side First e = e
-    by_side Second e = turned x.second.is_in x.first.is_in e
+nothing_marked side queue id x e = grind arith

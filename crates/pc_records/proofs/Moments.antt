@@ -1,18 +1,17 @@
 -- What each moment of a slot keeps, and what becomes of its row.
-use Rattle.std.proofs.Common.{◌≡◌, ℕ, ◌<◌, List, [], ◌∷◌, length, Option, Some, None, is_some, not, refl, sym, ap, ◌∙◌, arith, cond, Bool, true, false, eqb, ◌&&◌, ◌||◌}
+use Rattle.std.proofs.Common.{◌≡◌, ℕ, ◌<◌, List, Option, Some, None, not, refl, sym, ap, ◌∙◌, arith, cond, Bool, true, false, eqb, ◌&&◌}
 use Rattle.std.proofs.lemmas.Bool.Decides.{nat_tests}
 use Rattle.pc_types.specs.declared.Class.{Class}
 use Rattle.pc_types.specs.declared.Class.TheVariants.{Before, During, After}
 use Rattle.pc_model.specs.Locks.{Queue}
-use Rattle.pc_model.specs.Replies.{is_empty}
 use Rattle.pc_types.specs.Phases.{same_class}
 use Rattle.pc_locks.specs.States.{Queues, queue_at}
 use Rattle.pc_slots.specs.declared.versions.Stable.{Stable}
 use Rattle.pc_slots.specs.declared.versions.Stable.TheVariants.{Empty, Held}
 use Rattle.pc_slots.specs.declared.versions.Writer.{Writer}
-use Rattle.pc_records.specs.Rows.{Row, is_kept}
+use Rattle.pc_records.specs.Rows.{is_kept}
 use Rattle.pc_records.specs.RowSteps.{closed_row}
-use Rattle.pc_slots.specs.Slots.{Slot, committed, committed_by, version_or, pinned, pending_in, pending_of_writer, is_available, is_held, held_for, is_prepared, has_exclusive, is_locked, IsSlotSound, is_kept_slot, new_slot, held_or, saved, first_put, put_beside, put_slot, settled_class, settled_from, settled, undone_from, undone, closed_slot, taken_slot}
+use Rattle.pc_slots.specs.Slots.{Slot, committed, committed_by, version_or, pinned, pending_in, is_available, is_held, held_for, is_prepared, has_exclusive, is_locked, IsSlotSound, is_kept_slot, new_slot, held_or, saved, first_put, put_beside, put_slot, settled_class, settled_from, settled, undone_from, undone, closed_slot, taken_slot}
 use Rattle.pc_records.specs.Slots.{row_of}
 
 no : false ≡ true → ⊥
@@ -33,15 +32,7 @@ sound_queue point queue new s still sound = record { passed = sound.passed; hold
 module _ (point t : ℕ) (value : Option (List ℕ)) (s : Slot) where
   first_pinned : (class : Class) (a m : Bool) (st : Stable) → s.is_in_closed_set ≡ a → eqb s.mark point ≡ m → s.stable ≡ st → (class ≡ Before → a ≡ false) → ((a && m) ≡ true → is_held st ≡ true) → ((a && m) ≡ false → st ≡ Empty) →
       pinned (first_put point t class s.live value s) ≡ pinned s
-  first_pinned Before a m st closed mark is outside holds follows = simp (closed ∙ outside refl)
-  first_pinned During true m Empty closed mark is outside holds follows = simp (closed, is)
-  first_pinned During true m (Held v) closed mark is outside holds follows = simp (closed, is)
-  first_pinned During false m st closed mark is outside holds follows = simp closed
-  first_pinned After true true Empty closed mark is outside holds follows = absurd (no (holds refl))
-  first_pinned After true true (Held v) closed mark is outside holds follows = simp (closed, mark, is)
-  first_pinned After true false Empty closed mark is outside holds follows = simp (closed, mark, is)
-  first_pinned After true false (Held v) closed mark is outside holds follows = absurd (let e : Held v ≡ Empty = follows refl in cc)
-  first_pinned After false m st closed mark is outside holds follows = simp closed
+  first_pinned class a m st closed mark is outside holds follows = grind arith
 
   first_sound : (queue new : Queue) (class : Class) → s.writer ≡ None → (class ≡ Before → s.is_in_closed_set ≡ false) → has_exclusive new t ≡ true → IsSlotSound point queue s → IsSlotSound point new (first_put point t class s.live value s)
   first_sound queue new Before none outside has sound = record {
@@ -86,14 +77,7 @@ module _ (point t : ℕ) (value : Option (List ℕ)) (s : Slot) where
       }
 
   row_first : (queues : Queues) (class : Class) → pinned (first_put point t class s.live value s) ≡ pinned s → committed s ≡ s.live → row_of queues (first_put point t class s.live value s) ≡ row_of queues s
-  row_first queues Before same live = rw same (rw live refl)
-  row_first queues During same live = rw same (rw live refl)
-  row_first queues After same live = by_test (s.is_in_closed_set && not (eqb s.mark point)) same
-    where
-      by_test : (b : Bool) → pinned (record (cond b (record s { stable = Held s.live; mark = point }) s) { live = value; writer = Some (record { transaction = t; class = After; before = s.live }) }) ≡ pinned s →
-          row_of queues (record (cond b (record s { stable = Held s.live; mark = point }) s) { live = value; writer = Some (record { transaction = t; class = After; before = s.live }) }) ≡ row_of queues s
-      by_test true same = rw same (rw live refl)
-      by_test false same = rw same (rw live refl)
+  row_first queues class same live = grind arith
 
 -- any write
 module _ (point t : ℕ) (class : Class) (value : Option (List ℕ)) (queue new : Queue) (s : Slot) (outside : class ≡ Before → s.is_in_closed_set ≡ false) (sound : IsSlotSound point queue s) where
@@ -106,74 +90,36 @@ module _ (point t : ℕ) (class : Class) (value : Option (List ℕ)) (queue new 
 
   -- a slot with a writer holds a version, if its key is in the closed set
   held_closed : (w : Writer) → s.writer ≡ Some w → s.is_in_closed_set ≡ true → is_held s.stable ≡ true
-  held_closed w is closed = by_mark (eqb s.mark point) refl
-    where
-      by_mark : (m : Bool) → eqb s.mark point ≡ m → is_held s.stable ≡ true
-      by_mark true mark = sound.holds (rw (closed, mark) refl)
-      by_mark false mark =
-          let class : same_class w.class During ≡ true = ap is_prepared (sym is) ∙ sound.prepared closed mark in
-          ap is_held (sound.follows (rw (closed, mark) refl) ∙ ap held_for is ∙ ap (λ b. cond b (Held w.before) Empty) class)
+  held_closed w is closed = grind (arith, sound.holds, sound.follows, sound.prepared)
 
   pub put_row : (queues : Queues) → row_of queues (put_slot point t class s.live value s) ≡ row_of queues s
-  put_row queues = by_writer s.writer refl
-    where
-      same_pinned : (a : Bool) (st : Stable) → (a ≡ true → is_held st ≡ true) → cond a (version_or st value) None ≡ cond a (version_or st s.live) None
-      same_pinned false st held = refl
-      same_pinned true Empty held = absurd (no (held refl))
-      same_pinned true (Held v) held = refl
-
-      by_writer : (o : Option Writer) → s.writer ≡ o → row_of queues (put_beside o point t class s.live value s) ≡ row_of queues s
-      by_writer None is = row_first point t value s queues class (first_pinned point t value s class s.is_in_closed_set (eqb s.mark point) s.stable refl refl refl outside sound.holds (λ e. sound.follows e ∙ ap held_for is)) (ap (λ o. committed_by o s.live) is)
-      by_writer (Some w) is =
-          ap (λ p. (s.key, record { value = committed_by s.writer value; is_in_open_set = s.is_in_open_set; is_in_closed_set = s.is_in_closed_set; pinned = p; requests = queue_at queues s.number })) (same_pinned s.is_in_closed_set s.stable (held_closed w is))
-          ∙ ap (λ v. (s.key, record { value = v; is_in_open_set = s.is_in_open_set; is_in_closed_set = s.is_in_closed_set; pinned = pinned s; requests = queue_at queues s.number })) (ap (λ o. committed_by o value) is ∙ sym (ap (λ o. committed_by o s.live) is))
+  put_row queues = grind (arith, row_first point t value s queues class, first_pinned point t value s class, held_closed)
 
 -- what is the same in all slots that are written
 saved_key : (point : ℕ) (class : Class) (copy : Option (List ℕ)) (s : Slot) → (saved point class copy s).key ≡ s.key
-saved_key point Before copy s = refl
-saved_key point During copy s = refl
-saved_key point After copy s = elim (s.is_in_closed_set && not (eqb s.mark point)) as (λ b. (cond b (record s { stable = Held copy; mark = point }) s).key ≡ s.key) [ true ↦ refl | false ↦ refl ]
+saved_key point class copy s = grind arith
 
 pub put_key : (point t : ℕ) (class : Class) (copy value : Option (List ℕ)) (s : Slot) → (put_slot point t class copy value s).key ≡ s.key
 put_key point t class copy value s = elim s.writer as (λ o. (put_beside o point t class copy value s).key ≡ s.key) [ None ↦ saved_key point class copy s | Some w ↦ refl ]
 
 -- and the write that is there then
 pub put_pending : (point t : ℕ) (class : Class) (copy value : Option (List ℕ)) (s : Slot) → ((w : Writer) → s.writer ≡ Some w → (w.transaction ≡ t) × (w.class ≡ class)) → pending_in (put_slot point t class copy value s) ≡ Some (record { by = t; class = class; value = value })
-put_pending point t class copy value s own = by_writer s.writer refl
-  where
-    by_writer : (o : Option Writer) → s.writer ≡ o → pending_in (put_beside o point t class copy value s) ≡ Some (record { by = t; class = class; value = value })
-    by_writer None is = refl
-    by_writer (Some w) is =
-        ap (λ o. pending_of_writer o value) is ∙ ap (λ (n : ℕ). Some (record { by = n; class = w.class; value = value })) (own w is).0 ∙ ap (λ (c : Class). Some (record { by = t; class = c; value = value })) (own w is).1
-
--- a commit
-settled_writer_class : (c : Class) (point : ℕ) (s : Slot) → (settled_class c point s).writer ≡ None
-settled_writer_class Before point s = refl
-settled_writer_class During point s = elim s.is_in_closed_set as (λ b. (cond b (record s { mark = point; writer = None; is_in_open_set = true }) (record s { stable = Empty; writer = None; is_in_open_set = true })).writer ≡ None) [ true ↦ refl | false ↦ refl ]
-settled_writer_class After point s = refl
+put_pending point t class copy value s own = grind arith
 
 pub settled_writer : (point : ℕ) (s : Slot) → (settled point s).writer ≡ None
-settled_writer point s = by_writer s.writer refl
-  where
-    by_writer : (o : Option Writer) → s.writer ≡ o → (settled_from o point s).writer ≡ None
-    by_writer None is = is
-    by_writer (Some w) is = settled_writer_class w.class point s
+settled_writer point s = grind arith
 
 pub settled_again : (point : ℕ) (s : Slot) → settled point (settled point s) ≡ settled point s
 settled_again point s = ap (λ o. settled_from o point (settled point s)) (settled_writer point s)
 
 key_class : (c : Class) (point : ℕ) (s : Slot) → (settled_class c point s).key ≡ s.key
-key_class Before point s = refl
-key_class During point s = elim s.is_in_closed_set as (λ b. (cond b (record s { mark = point; writer = None; is_in_open_set = true }) (record s { stable = Empty; writer = None; is_in_open_set = true })).key ≡ s.key) [ true ↦ refl | false ↦ refl ]
-key_class After point s = refl
+key_class c point s = grind arith
 
 pub settled_key : (point : ℕ) (s : Slot) → (settled point s).key ≡ s.key
 settled_key point s = elim s.writer as (λ o. (settled_from o point s).key ≡ s.key) [ None ↦ refl | Some w ↦ key_class w.class point s ]
 
 number_class : (c : Class) (point : ℕ) (s : Slot) → (settled_class c point s).number ≡ s.number
-number_class Before point s = refl
-number_class During point s = elim s.is_in_closed_set as (λ b. (cond b (record s { mark = point; writer = None; is_in_open_set = true }) (record s { stable = Empty; writer = None; is_in_open_set = true })).number ≡ s.number) [ true ↦ refl | false ↦ refl ]
-number_class After point s = refl
+number_class c point s = grind arith
 
 pub settled_number : (point : ℕ) (s : Slot) → (settled point s).number ≡ s.number
 settled_number point s = elim s.writer as (λ o. (settled_from o point s).number ≡ s.number) [ None ↦ refl | Some w ↦ number_class w.class point s ]
@@ -222,29 +168,12 @@ settled_sound point queue s sound = by_writer s.writer refl
     by_writer None is = sound
     by_writer (Some w) is = by_class w w.class is refl
 
--- the row of a slot whose write is committed
-abbrev given_row : Queues → Slot → Row
-given_row queues s = (s.key, record { value = s.live; is_in_open_set = true; is_in_closed_set = s.is_in_closed_set; pinned = pinned s; requests = queue_at queues s.number })
-
 pub row_settled : (queues : Queues) (point : ℕ) (s : Slot) (w : Writer) → s.writer ≡ Some w → row_of queues (settled point s) ≡ (s.key, record (row_of queues s).1 { value = s.live; is_in_open_set = true })
-row_settled queues point s w is = ap (λ o. row_of queues (settled_from o point s)) is ∙ by_class w.class
-  where
-    by_class : (c : Class) → row_of queues (settled_class c point s) ≡ given_row queues s
-    by_class Before = refl
-    by_class During = by_test s.is_in_closed_set refl
-      where
-        by_test : (b : Bool) → s.is_in_closed_set ≡ b → row_of queues (cond b (record s { mark = point; writer = None; is_in_open_set = true }) (record s { stable = Empty; writer = None; is_in_open_set = true })) ≡ given_row queues s
-        by_test true closed = refl
-        by_test false closed = simp closed
-    by_class After = refl
+row_settled queues point s w is = grind arith
 
 -- an abort
 pub undone_writer : (point : ℕ) (s : Slot) → (undone point s).writer ≡ None
-undone_writer point s = by_writer s.writer refl
-  where
-    by_writer : (o : Option Writer) → s.writer ≡ o → (undone_from o point s).writer ≡ None
-    by_writer None is = is
-    by_writer (Some w) is = refl
+undone_writer point s = grind arith
 
 pub undone_again : (point : ℕ) (s : Slot) → undone point (undone point s) ≡ undone point s
 undone_again point s = ap (λ o. undone_from o point (undone point s)) (undone_writer point s)
@@ -268,37 +197,11 @@ undone_sound point queue s sound = by_writer s.writer refl
     by_writer (Some w) is = by_test w is (same_class w.class During) (is_available point s) refl refl
 
 pub row_undone : (queues : Queues) (point : ℕ) (queue : Queue) (s : Slot) → IsSlotSound point queue s → row_of queues (undone point s) ≡ row_of queues s
-row_undone queues point queue s sound = by_writer s.writer refl
-  where
-    same_pinned : (w : Writer) → s.writer ≡ Some w → (a m : Bool) (st : Stable) → s.is_in_closed_set ≡ a → eqb s.mark point ≡ m → s.stable ≡ st →
-        cond a (version_or (cond (same_class w.class During && not (a && m)) Empty st) w.before) None ≡ cond a (version_or st s.live) None
-    same_pinned w is false m st closed mark stable = refl
-    same_pinned w is true true Empty closed mark stable = absurd (no (ap is_held (sym stable) ∙ sound.holds (rw (closed, mark) refl)))
-    same_pinned w is true true (Held v) closed mark stable = by_class (same_class w.class During)
-      where
-        by_class : (c : Bool) → version_or (cond (c && false) Empty (Held v)) w.before ≡ v
-        by_class true = refl
-        by_class false = refl
-    same_pinned w is true false st closed mark stable =
-        let class : same_class w.class During ≡ true = ap is_prepared (sym is) ∙ sound.prepared closed mark in
-        let held : st ≡ Held w.before = sym stable ∙ sound.follows (rw (closed, mark) refl) ∙ ap held_for is ∙ ap (λ b. cond b (Held w.before) Empty) class in
-        rw (class, held) refl
-
-    by_writer : (o : Option Writer) → s.writer ≡ o → row_of queues (undone_from o point s) ≡ row_of queues s
-    by_writer None is = refl
-    by_writer (Some w) is =
-        let same : pinned (undone_from (Some w) point s) ≡ pinned s = same_pinned w is s.is_in_closed_set (eqb s.mark point) s.stable refl refl refl in
-        let value : committed s ≡ w.before = ap (λ o. committed_by o s.live) is in
-        ap (λ p. (s.key, record { value = w.before; is_in_open_set = s.is_in_open_set; is_in_closed_set = s.is_in_closed_set; pinned = p; requests = queue_at queues s.number })) same
-        ∙ ap (λ v. (s.key, record { value = v; is_in_open_set = s.is_in_open_set; is_in_closed_set = s.is_in_closed_set; pinned = pinned s; requests = queue_at queues s.number })) (sym value)
+row_undone queues point queue s sound = grind (arith, sound.holds, sound.follows, sound.prepared)
 
 -- a key is taken
 pub taken_sound : (point : ℕ) (queue : Queue) (s : Slot) → ((w : Writer) → s.writer ≡ Some w → same_class w.class During ≡ false) → IsSlotSound point queue s → IsSlotSound point queue (taken_slot s)
-taken_sound point queue s over sound = record { passed = omega arith; holds = λ e. absurd (no e); follows = λ e. by_writer s.writer refl; prepared = λ c e. absurd (no c); locked = sound.locked }
-  where
-    by_writer : (o : Option Writer) → s.writer ≡ o → Empty ≡ held_for o
-    by_writer None is = refl
-    by_writer (Some w) is = ap (λ b. cond b (Held w.before) Empty) (sym (over w is))
+taken_sound point queue s over sound = record { passed = omega arith; holds = λ e. grind arith; follows = λ e. grind (arith, over); prepared = λ c e. grind arith; locked = sound.locked }
 
 -- the open set is closed
 module _ (point later : ℕ) (queue : Queue) (s : Slot) (after : point < later) (none : s.is_in_closed_set ≡ false) (sound : IsSlotSound point queue s) where
@@ -306,11 +209,7 @@ module _ (point later : ℕ) (queue : Queue) (s : Slot) (after : point < later) 
   stable_is = sound.follows (ap (λ b. b && eqb s.mark point) none)
 
   pub closed_sound : is_prepared s.writer ≡ true → IsSlotSound later queue (closed_slot s)
-  closed_sound during = record { passed = omega (arith, sound.passed); holds = λ e. absurd (marked s.is_in_open_set e); follows = λ e. stable_is; prepared = λ c e. during; locked = sound.locked }
-    where
-      marked : (b : Bool) → (b && eqb s.mark later) ≡ true → ⊥
-      marked true e = grind (arith, nat_tests, e, sound.passed)
-      marked false e = no e
+  closed_sound during = record { passed = omega (arith, sound.passed); holds = λ e. grind (arith, nat_tests, sound.passed); follows = λ e. stable_is; prepared = λ c e. during; locked = sound.locked }
 
   pub row_closed : (queues : Queues) → is_prepared s.writer ≡ true → row_of queues (closed_slot s) ≡ closed_row (row_of queues s)
   row_closed queues during = ap (λ v. (s.key, record { value = committed s; is_in_open_set = false; is_in_closed_set = s.is_in_open_set; pinned = cond s.is_in_open_set v None; requests = queue_at queues s.number })) (ap (λ st. version_or st s.live) stable_is ∙ by_writer s.writer during)
@@ -321,19 +220,4 @@ module _ (point later : ℕ) (queue : Queue) (s : Slot) (after : point < later) 
 
 -- what keeps a slot keeps its row
 pub kept_row : (point : ℕ) (queue : Queue) (s : Slot) → IsSlotSound point queue s → is_kept_slot queue s ≡ is_kept (record { value = committed s; is_in_open_set = s.is_in_open_set; is_in_closed_set = s.is_in_closed_set; pinned = pinned s; requests = queue })
-kept_row point queue s sound = by_queue queue sound.locked s.writer refl s.is_in_closed_set refl
-  where
-    or_true : (a : Bool) → (a || true) ≡ true
-    or_true true = refl
-    or_true false = refl
-
-    by_queue : (q : Queue) → is_locked q s.writer ≡ true → (o : Option Writer) → s.writer ≡ o → (b : Bool) → s.is_in_closed_set ≡ b →
-        (is_some s.live || (is_held s.stable || (not (eqb (length q) 0) || (s.is_in_open_set || b)))) ≡ (is_some (committed_by o s.live) || (not (is_empty q) || (s.is_in_open_set || b)))
-    by_queue (r ∷ rs) locked o is b closed =
-        let some : eqb (length (r ∷ rs)) 0 ≡ false = grind (arith, nat_tests) in
-        rw (some, or_true (is_held s.stable), or_true (is_some s.live), or_true (is_some (committed_by o s.live))) refl
-    by_queue [] locked (Some w) is b closed = absurd (no (ap (is_locked []) (sym is) ∙ locked))
-    by_queue [] locked None is true closed = rw (or_true s.is_in_open_set, or_true (is_held s.stable), or_true (is_some s.live)) refl
-    by_queue [] locked None is false closed =
-        let stable : s.stable ≡ Empty = sound.follows (ap (λ b. b && eqb s.mark point) closed) ∙ ap held_for is in
-        rw stable refl
+kept_row point queue s sound = grind (arith, nat_tests, sound.locked, sound.follows)

@@ -1,5 +1,5 @@
 -- The keys that a commit adds to the open set.
-use Rattle.std.proofs.Common.{◌≡◌, ℕ, ◌+◌, ◌≤◌, List, [], ◌∷◌, ◌++◌, length, refl, sym, ap, ◌∙◌, arith, append_assoc, Bool, true, false, cond, is_some, is_none, eqb, Option, Some, ◌||◌, ◌&&◌}
+use Rattle.std.proofs.Common.{◌≡◌, ℕ, ◌+◌, ◌≤◌, List, [], ◌∷◌, ◌++◌, length, refl, sym, ap, ◌∙◌, arith, append_assoc, Bool, true, false, cond, is_some, is_none, ◌||◌}
 use Rattle.std.proofs.lemmas.List.{append-nil}
 use Rattle.std.proofs.lemmas.List.Folds.{list_any-append}
 use Rattle.std.proofs.lemmas.Bool.Decides.{nat_tests}
@@ -14,11 +14,7 @@ use Rattle.pc_records.proofs.WrittenKeys.{written_own, written_later}
 
 pub no_more_new : (rows : List Row) (writes : List Write) → length (new_keys rows writes) ≤ length writes
 no_more_new rows [] = omega arith
-no_more_new rows (w ∷ ws) = by_test (is_in_open_set (record_of rows w.key)) (no_more_new rows ws)
-  where
-    by_test : (b : Bool) → length (new_keys rows ws) ≤ length ws → length (with_new b w.key (new_keys rows ws)) ≤ length (w ∷ ws)
-    by_test true le = omega (arith, le)
-    by_test false le = omega (arith, le)
+no_more_new rows (w ∷ ws) = grind (arith, no_more_new rows ws)
 
 or_first : (a b : Bool) → b ≡ false → a ≡ (a || (b || false))
 or_first true b e = refl
@@ -54,17 +50,8 @@ with_keys_new keys rows (w ∷ ws) distinct open_now = by_there (is_among keys w
 
 length-with_write : (ws : List Write) (write : Write) → length (with_write ws write) ≡ length ws + cond (is_none (written ws write.key)) 1 0
 length-with_write [] write = refl
-length-with_write (w ∷ ws) write = by_same (same_bytes w.key write.key) _ _ (written ws write.key) (length-with_write ws write)
-  where
-    by_same : {A : Type 0} (b : Bool) (x : Write) (y : A) (o : Option A) → length (with_write ws write) ≡ length ws + cond (is_none o) 1 0 →
-        length (cond b (x ∷ ws) (w ∷ with_write ws write)) ≡ length (w ∷ ws) + cond (is_none (cond b (Some y) o)) 1 0
-    by_same true x y o e = omega arith
-    by_same false x y o e = omega (arith, e)
+length-with_write (w ∷ ws) write = grind (arith, length-with_write ws write)
 
 -- one more write if they aren't too many
 pub few_enough : (ws : List Write) (write : Write) → length ws ≤ 256 → is_one_too_many ws write.key ≡ false → length (with_write ws write) ≤ 256
-few_enough ws write le few = by_new (is_none (written ws write.key)) few (length-with_write ws write)
-  where
-    by_new : (b : Bool) → (eqb (length ws) 256 && b) ≡ false → length (with_write ws write) ≡ length ws + cond b 1 0 → length (with_write ws write) ≤ 256
-    by_new true few e = grind (arith, nat_tests, few, e, le)
-    by_new false few e = omega (arith, e, le)
+few_enough ws write le few = grind (arith, nat_tests, length-with_write ws write)

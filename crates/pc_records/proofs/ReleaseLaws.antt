@@ -1,5 +1,6 @@
 -- What the end of a transaction leaves of the records.
-use Rattle.std.proofs.Common.{◌≡◌, ℕ, ◌==◌, List, [], ◌∷◌, ◌++◌, map, Option, Some, None, is_some, refl, sym, ap, subst, ◌∙◌, cond, true, false, Bool, not, ◌||◌, ◌&&◌}
+use Rattle.std.proofs.Common.{◌≡◌, ℕ, ◌==◌, List, [], ◌∷◌, ◌++◌, map, Option, Some, None, is_some, refl, sym, ap, subst, ◌∙◌, cond, true, false, Bool, not, ◌||◌, ◌&&◌, arith}
+use Rattle.std.proofs.lemmas.Bool.Decides.{nat_tests}
 use Rattle.std.specs.Prelude.{MatchBool, filter}
 use Rattle.std.specs.List.{list_all}
 use Rattle.std.specs.FinMap.{is_sorted}
@@ -14,11 +15,11 @@ use Rattle.pc_model.specs.History.{History, contents, log_of, point_of}
 use Rattle.pc_types.specs.declared.Request.{Request}
 use Rattle.pc_model.specs.Locks.{Queue, are_compatible, queue_of, queue_without, granted_behind}
 use Rattle.pc_model.specs.Queues.{AllWait, IsSettledBehind, IsSettled, stands_in, grant}
-use Rattle.pc_model.specs.Replies.{is_empty, open_set, closed_set}
+use Rattle.pc_model.specs.Replies.{open_set, closed_set}
 use Rattle.pc_model.proofs.CountLaws.{below_apart, and_both}
 use Rattle.pc_model.proofs.JoinLaws.{one_key}
 use Rattle.pc_records.specs.Rows.{Row, Record, record_of, stored, is_in_open_set, is_in_closed_set, at_point, requests_on}
-use Rattle.pc_records.specs.RowSteps.{if_kept, with_row, released, released_rows, committed_record, written_row}
+use Rattle.pc_records.specs.RowSteps.{with_row, released, released_rows, committed_record, written_row}
 use Rattle.pc_records.specs.Following.{AreRecords, stands_kept}
 use Rattle.pc_records.proofs.Keeping.{stored-if, requests-if, open-if, closed-if, point-if, kept-if}
 use Rattle.pc_records.proofs.DistinctLaws.{among_with_keys}
@@ -26,11 +27,7 @@ use Rattle.pc_records.proofs.DistinctLaws.{among_with_keys}
 -- a queue in which the transaction has no request stays as it is without it
 none_removed : (queue : Queue) (t : ℕ) → stands_in queue t ≡ false → filter (λ r. not (r.transaction == t)) queue ≡ queue
 none_removed [] t none = refl
-none_removed (r ∷ rs) t none = by_own (r.transaction == t) none (none_removed rs t)
-  where
-    by_own : (b : Bool) → (b || stands_in rs t) ≡ false → (stands_in rs t ≡ false → filter (λ r. not (r.transaction == t)) rs ≡ rs) → cond (not b) (r ∷ filter (λ r. not (r.transaction == t)) rs) (filter (λ r. not (r.transaction == t)) rs) ≡ r ∷ rs
-    by_own true e later = cc
-    by_own false e later = ap (λ xs. r ∷ xs) (later e)
+none_removed (r ∷ rs) t none = grind (arith, nat_tests, none_removed rs t)
 
 settled_stays : (before rs : Queue) → IsSettledBehind before rs → granted_behind before rs ≡ rs
 settled_stays before [] s = refl
@@ -114,52 +111,22 @@ found_released t (row ∷ rows) q h =
 -- What a record says once the request is removed.
 module _ (t : ℕ) where
   pub stored-released : (o : Option Record) → stored (released_at t o) ≡ stored o
-  stored-released None = refl
-  stored-released (Some r) = by_own (stands_in r.requests t)
-    where
-      by_own : (b : Bool) → stored (cond b (if_kept (record r { requests = queue_without r.requests t })) (Some r)) ≡ r.value
-      by_own true = stored-if (record r { requests = queue_without r.requests t })
-      by_own false = refl
+  stored-released o = grind (arith, stored-if)
 
   pub open-released : (o : Option Record) → is_in_open_set (released_at t o) ≡ is_in_open_set o
-  open-released None = refl
-  open-released (Some r) = by_own (stands_in r.requests t)
-    where
-      by_own : (b : Bool) → is_in_open_set (cond b (if_kept (record r { requests = queue_without r.requests t })) (Some r)) ≡ r.is_in_open_set
-      by_own true = open-if (record r { requests = queue_without r.requests t })
-      by_own false = refl
+  open-released o = grind (arith, open-if)
 
   pub closed-released : (o : Option Record) → is_in_closed_set (released_at t o) ≡ is_in_closed_set o
-  closed-released None = refl
-  closed-released (Some r) = by_own (stands_in r.requests t)
-    where
-      by_own : (b : Bool) → is_in_closed_set (cond b (if_kept (record r { requests = queue_without r.requests t })) (Some r)) ≡ r.is_in_closed_set
-      by_own true = closed-if (record r { requests = queue_without r.requests t })
-      by_own false = refl
+  closed-released o = grind (arith, closed-if)
 
   point-released : (o : Option Record) → is_in_closed_set o ≡ true → at_point (released_at t o) ≡ at_point o
-  point-released None closed = refl
-  point-released (Some r) closed = by_own (stands_in r.requests t)
-    where
-      by_own : (b : Bool) → at_point (cond b (if_kept (record r { requests = queue_without r.requests t })) (Some r)) ≡ r.pinned
-      by_own true = point-if (record r { requests = queue_without r.requests t }) closed
-      by_own false = refl
+  point-released o closed = grind (arith, point-if)
 
   requests-released : (o : Option Record) → IsSettled (requests_on o) → requests_on (released_at t o) ≡ queue_without (requests_on o) t
-  requests-released None settled = refl
-  requests-released (Some r) settled = by_own (stands_in r.requests t) refl
-    where
-      by_own : (b : Bool) → stands_in r.requests t ≡ b → requests_on (cond b (if_kept (record r { requests = queue_without r.requests t })) (Some r)) ≡ queue_without r.requests t
-      by_own true own = requests-if (record r { requests = queue_without r.requests t })
-      by_own false own = sym (without_absent r.requests t settled own)
+  requests-released o settled = grind (arith, requests-if, without_absent)
 
   kept-released : (o : Option Record) → is_some o ≡ stands_kept o → is_some (released_at t o) ≡ stands_kept (released_at t o)
-  kept-released None kept = refl
-  kept-released (Some r) kept = by_own (stands_in r.requests t)
-    where
-      by_own : (b : Bool) → is_some (cond b (if_kept (record r { requests = queue_without r.requests t })) (Some r)) ≡ stands_kept (cond b (if_kept (record r { requests = queue_without r.requests t })) (Some r))
-      by_own true = kept-if (record r { requests = queue_without r.requests t })
-      by_own false = kept
+  kept-released o kept = grind (arith, kept-if)
 
 released_read : (t : ℕ) (rows : List Row) (content past : List ℕ → Option (List ℕ)) (queue : List ℕ → Queue) (in_open in_closed : List ℕ → Bool) → ((q : List ℕ) → IsSettled (queue q)) → AreRead rows content past queue in_open in_closed →
     AreRead (released_rows t rows) content past (λ q. queue_without (queue q) t) in_open in_closed
@@ -213,41 +180,22 @@ module _ (committed : List ℕ → Option (Option (List ℕ))) where
 
 -- what a record says once this is committed of its key
 stored-given : (o : Option (Option (List ℕ))) (r : Option Record) → (is_some o ≡ true → is_some r ≡ true) → stored (given_at o r) ≡ now_or o (stored r)
-stored-given None None there = refl
-stored-given (Some v) None there = absurd (let no : false ≡ true = there refl in cc)
-stored-given None (Some r) there = refl
-stored-given (Some v) (Some r) there = refl
+stored-given o r there = grind arith
 
 requests-given : (o : Option (Option (List ℕ))) (r : Option Record) → requests_on (given_at o r) ≡ requests_on r
-requests-given o None = refl
-requests-given None (Some r) = refl
-requests-given (Some v) (Some r) = refl
+requests-given o r = grind arith
 
 open-given : (o : Option (Option (List ℕ))) (r : Option Record) → (is_some o ≡ true → is_some r ≡ true) → is_in_open_set (given_at o r) ≡ (is_in_open_set r || is_some o)
-open-given None None there = refl
-open-given (Some v) None there = absurd (let no : false ≡ true = there refl in cc)
-open-given None (Some r) there = elim r.is_in_open_set as (λ b. b ≡ (b || false)) [ true ↦ refl | false ↦ refl ]
-open-given (Some v) (Some r) there = elim r.is_in_open_set as (λ b. true ≡ (b || true)) [ true ↦ refl | false ↦ refl ]
+open-given o r there = grind arith
 
 closed-given : (o : Option (Option (List ℕ))) (r : Option Record) → is_in_closed_set (given_at o r) ≡ is_in_closed_set r
-closed-given o None = refl
-closed-given None (Some r) = refl
-closed-given (Some v) (Some r) = refl
+closed-given o r = grind arith
 
 point-given : (o : Option (Option (List ℕ))) (r : Option Record) → is_in_closed_set r ≡ true → at_point (given_at o r) ≡ at_point r
-point-given o None closed = refl
-point-given None (Some r) closed = refl
-point-given (Some v) (Some r) closed = refl
+point-given o r closed = grind arith
 
 kept-given : (o : Option (Option (List ℕ))) (r : Option Record) → is_some r ≡ stands_kept r → is_some (given_at o r) ≡ stands_kept (given_at o r)
-kept-given o None kept = refl
-kept-given None (Some r) kept = kept
-kept-given (Some v) (Some r) kept = by_value (is_some v) (not (is_empty r.requests))
-  where
-    by_value : (a b : Bool) → true ≡ (a || (b || true))
-    by_value true b = refl
-    by_value false true = refl
-    by_value false false = refl
+kept-given o r kept = grind arith
 
 written_read : (committed : List ℕ → Option (Option (List ℕ))) (rows : List Row) (content past : List ℕ → Option (List ℕ)) (queue : List ℕ → Queue) (in_open in_closed : List ℕ → Bool) → ((q : List ℕ) → is_some (committed q) ≡ true → is_some (record_of rows q) ≡ true) →
     AreRead rows content past queue in_open in_closed → AreRead (map (written_row committed) rows) (λ q. now_or (committed q) (content q)) past queue (λ q. in_open q || is_some (committed q)) in_closed

@@ -1,5 +1,5 @@
 -- What each change of the rows leaves of the values, and of the open and the closed set.
-use Rattle.std.proofs.Common.{◌≡◌, ℕ, List, map, Option, Some, None, is_some, refl, sym, ap, ◌∙◌, cond, true, false, Bool, inl, inr}
+use Rattle.std.proofs.Common.{◌≡◌, ℕ, List, map, Option, Some, None, is_some, refl, sym, ap, ◌∙◌, cond, true, false, Bool, arith}
 use Rattle.std.specs.Prelude.{◌⊎◌}
 use Rattle.std.specs.FinMap.{put as put_entry}
 use Rattle.std.specs.FinMap.Entries.{find-put}
@@ -13,8 +13,8 @@ use Rattle.pc_model.proofs.MapLaws.{find-without}
 use Rattle.pc_records.specs.Rows.{Row, Record, record_of, stored, is_in_open_set, is_in_closed_set, requests_on}
 use Rattle.pc_records.specs.RowSteps.{with_requests, rows_after, released_rows, written_row, closed_row, record_after_take, with_left, left_rows}
 use Rattle.pc_records.proofs.FollowingLaws.{stored-with, open-with, closed-with}
-use Rattle.pc_records.proofs.ReleaseLaws.{found_released, stored-released, open-released, closed-released, found_written, given_at}
-use Rattle.pc_records.proofs.CycleLaws.{found_closed, closed_of, stored-left, open-left, closed-left}
+use Rattle.pc_records.proofs.ReleaseLaws.{found_released, stored-released, open-released, closed-released, found_written}
+use Rattle.pc_records.proofs.CycleLaws.{found_closed, stored-left, open-left, closed-left}
 use Rattle.pc_records.specs.RowSets.{HaveSameContents}
 
 pub same_sets : (rows : List Row) → HaveSameContents rows rows
@@ -45,49 +45,22 @@ released_sets t rows rise = record { value = λ q. ap stored (found_released t r
 
 -- a commit leaves the values of other keys
 pub written_value : (committed : List ℕ → Option (Option (List ℕ))) (rows : List Row) (q : List ℕ) → is_some (committed q) ≡ false → stored (record_of (map (written_row committed) rows) q) ≡ stored (record_of rows q)
-written_value committed rows q none = ap stored (found_written committed rows q) ∙ by_given (committed q) (record_of rows q) none
-  where
-    by_given : (o : Option (Option (List ℕ))) (r : Option Record) → is_some o ≡ false → stored (given_at o r) ≡ stored r
-    by_given o None e = refl
-    by_given None (Some r) e = refl
-    by_given (Some v) (Some r) e = absurd (let no : true ≡ false = e in cc)
+written_value committed rows q none = grind (arith, found_written committed rows q)
 
 -- a commit adds its keys to the open set, and leaves the closed one
 pub written_open : (committed : List ℕ → Option (Option (List ℕ))) (rows : List Row) (q : List ℕ) → is_in_open_set (record_of (map (written_row committed) rows) q) ≡ true → (is_in_open_set (record_of rows q) ≡ true) ⊎ (is_some (committed q) ≡ true)
-written_open committed rows q open_now = by_given (committed q) (record_of rows q) (sym (ap is_in_open_set (found_written committed rows q)) ∙ open_now)
-  where
-    by_given : (o : Option (Option (List ℕ))) (r : Option Record) → is_in_open_set (given_at o r) ≡ true → (is_in_open_set r ≡ true) ⊎ (is_some o ≡ true)
-    by_given o None e = absurd (let no : false ≡ true = e in cc)
-    by_given None (Some r) e = inl e
-    by_given (Some v) (Some r) e = inr refl
+written_open committed rows q open_now = grind (arith, found_written committed rows q)
 
 pub written_closed : (committed : List ℕ → Option (Option (List ℕ))) (rows : List Row) (q : List ℕ) → is_in_closed_set (record_of (map (written_row committed) rows) q) ≡ is_in_closed_set (record_of rows q)
-written_closed committed rows q = ap is_in_closed_set (found_written committed rows q) ∙ by_given (committed q) (record_of rows q)
-  where
-    by_given : (o : Option (Option (List ℕ))) (r : Option Record) → is_in_closed_set (given_at o r) ≡ is_in_closed_set r
-    by_given o None = refl
-    by_given None (Some r) = refl
-    by_given (Some v) (Some r) = refl
+written_closed committed rows q = grind (arith, found_written committed rows q)
 
 -- once the open set is closed, the values are what they were
 pub closed_value : (rows : List Row) (q : List ℕ) → stored (record_of (map closed_row rows) q) ≡ stored (record_of rows q)
-closed_value rows q = ap stored (found_closed rows q) ∙ by_record (record_of rows q)
-  where
-    by_record : (o : Option Record) → stored (closed_of o) ≡ stored o
-    by_record None = refl
-    by_record (Some r) = refl
+closed_value rows q = grind (arith, found_closed rows q)
 
 -- and the closed set is what the open one was
 pub closed_sets : (rows : List Row) (q : List ℕ) → (is_in_closed_set (record_of (map closed_row rows) q) ≡ is_in_open_set (record_of rows q)) × (is_in_open_set (record_of (map closed_row rows) q) ≡ false)
-closed_sets rows q = (ap is_in_closed_set (found_closed rows q) ∙ closed_by (record_of rows q), ap is_in_open_set (found_closed rows q) ∙ recent_by (record_of rows q))
-  where
-    closed_by : (o : Option Record) → is_in_closed_set (closed_of o) ≡ is_in_open_set o
-    closed_by None = refl
-    closed_by (Some r) = refl
-
-    recent_by : (o : Option Record) → is_in_open_set (closed_of o) ≡ false
-    recent_by None = refl
-    recent_by (Some r) = refl
+closed_sets rows q = (grind (arith, found_closed rows q), grind (arith, found_closed rows q))
 
 -- a taken key is not in the closed set, and the others are where they were
 found_left : (rows : List Row) (k q : List ℕ) → record_of (left_rows rows k) q ≡ cond (same_bytes q k) (record_after_take (record_of rows k)) (record_of rows q)
@@ -98,22 +71,10 @@ found_left rows k q = found_with (record_after_take (record_of rows k))
     found_with (Some r) = find-put key_cmp key_order.total q k r rows
 
 pub left_value : (rows : List Row) (k q : List ℕ) → stored (record_of (left_rows rows k) q) ≡ stored (record_of rows q)
-left_value rows k q = ap stored (found_left rows k q) ∙ by_test (same_bytes q k) refl
-  where
-    by_test : (b : Bool) → same_bytes q k ≡ b → stored (cond b (record_after_take (record_of rows k)) (record_of rows q)) ≡ stored (record_of rows q)
-    by_test true is = stored-left (record_of rows k) ∙ ap (λ x. stored (record_of rows x)) (sym (one_key q k is))
-    by_test false is = refl
+left_value rows k q = grind (arith, found_left rows k q, one_key q k, stored-left (record_of rows k))
 
 pub left_open : (rows : List Row) (k q : List ℕ) → is_in_open_set (record_of (left_rows rows k) q) ≡ is_in_open_set (record_of rows q)
-left_open rows k q = ap is_in_open_set (found_left rows k q) ∙ by_test (same_bytes q k) refl
-  where
-    by_test : (b : Bool) → same_bytes q k ≡ b → is_in_open_set (cond b (record_after_take (record_of rows k)) (record_of rows q)) ≡ is_in_open_set (record_of rows q)
-    by_test true is = open-left (record_of rows k) ∙ ap (λ x. is_in_open_set (record_of rows x)) (sym (one_key q k is))
-    by_test false is = refl
+left_open rows k q = grind (arith, found_left rows k q, one_key q k, open-left (record_of rows k))
 
 pub left_closed : (rows : List Row) (k q : List ℕ) → is_in_closed_set (record_of (left_rows rows k) q) ≡ true → (is_in_closed_set (record_of rows q) ≡ true) × (same_bytes q k ≡ false)
-left_closed rows k q closed = by_test (same_bytes q k) refl (sym (ap is_in_closed_set (found_left rows k q)) ∙ closed)
-  where
-    by_test : (b : Bool) → same_bytes q k ≡ b → is_in_closed_set (cond b (record_after_take (record_of rows k)) (record_of rows q)) ≡ true → (is_in_closed_set (record_of rows q) ≡ true) × (same_bytes q k ≡ false)
-    by_test true is e = absurd (let no : false ≡ true = sym (closed-left (record_of rows k)) ∙ e in cc)
-    by_test false is e = (e, is)
+left_closed rows k q closed = (grind (arith, found_left rows k q, closed-left (record_of rows k)), grind (arith, found_left rows k q, closed-left (record_of rows k)))

@@ -1,10 +1,9 @@
 -- A slot whose write is committed, and that goes into the open set if it isn't in it.
-use Rattle.std.proofs.Common.{◌≡◌, ℕ, ◌+◌, ◌<◌, ◌≤◌, ◌^◌, List, [], ◌∷◌, ◌++◌, map, length, Option, Some, None, option_map, is_some, not, refl, sym, ap, ◌∙◌, subst, arith, cond, Bool, true, false, eqb, ◌==◌, ◌||◌, ◌&&◌, inl, inr, append-nil}
+use Rattle.std.proofs.Common.{◌≡◌, ℕ, ◌+◌, ◌<◌, ◌≤◌, ◌^◌, List, [], ◌∷◌, ◌++◌, map, length, Option, Some, None, option_map, is_some, not, refl, sym, ap, ◌∙◌, subst, arith, cond, Bool, true, false, eqb, ◌==◌, ◌&&◌, inl, inr, append-nil}
+use Rattle.std.proofs.lemmas.Bool.Decides.{nat_tests}
 use Rattle.std.proofs.lemmas.Bool.{eqb-true, eq-eqb, or_parts, or_cases}
 use Rattle.std.specs.List.{list_any, IsDistinct}
 use Rattle.std.proofs.lemmas.Map.Steps.{length-le_from_distinct_below}
-use Rattle.pc_types.specs.declared.Class.{Class}
-use Rattle.pc_types.specs.declared.Class.TheVariants.{Before, During, After}
 use Rattle.pc_chain.specs.Chains.{Avoids, AllHave}
 use Rattle.pc_chain.proofs.ChainLaws.{avoided}
 use Rattle.pc_dirty.specs.declared.side.Side.{Side}
@@ -13,10 +12,8 @@ use Rattle.pc_dirty.specs.Sets.{other_side, place_on_side, AreSets, HasNoRepeats
 use Rattle.pc_dirty.proofs.SetLaws.{opened_once, opened_have}
 use Rattle.pc_table.specs.Rows.{TableRow, Contents, in_slot, with_record_in, HasRow, AreInSlots}
 use Rattle.pc_slots.specs.declared.cells.Cell.{Cell}
-use Rattle.pc_slots.specs.declared.versions.Stable.TheVariants.{Empty}
-use Rattle.pc_slots.specs.declared.versions.Writer.{Writer}
 use Rattle.pc_slots.specs.Words.{is_marked, HaveLinks}
-use Rattle.pc_slots.specs.Slots.{Slot, slot_with, settled, settled_class, settled_from, writer_in}
+use Rattle.pc_slots.specs.Slots.{Slot, slot_with, settled, writer_in}
 use Rattle.pc_records.specs.Slots.{slots_in, at_number}
 use Rattle.pc_records.proofs.TableSlots.{changed_slots}
 use Rattle.pc_records.specs.SetLists.{HasPlace, next_in, marked_in, key_in, keys_at, is_among_slots, AreSetLists, open_slots, closed_slots, IsListed, open_keys, closed_keys, entering, KeepSets, KeepRecords}
@@ -35,20 +32,8 @@ avoids_unlisted slot (x ∷ xs) e =
 
 -- a list with one more at its end
 pub listed_push : (xs : List ℕ) (id slot : ℕ) → is_among_slots (xs ++ id ∷ []) slot ≡ cond (eqb slot id) true (is_among_slots xs slot)
-listed_push [] id slot = by_test (eqb id slot) (eqb slot id) refl refl
-  where
-    by_test : (a b : Bool) → eqb id slot ≡ a → eqb slot id ≡ b → (a || false) ≡ cond b true false
-    by_test true true e f = refl
-    by_test true false e f = absurd (let g : eqb slot id ≡ true = eq-eqb slot id (sym (eqb-true id slot e)) in let h : true ≡ false = sym g ∙ f in cc)
-    by_test false true e f = absurd (let g : eqb id slot ≡ true = eq-eqb id slot (sym (eqb-true slot id f)) in let h : true ≡ false = sym g ∙ e in cc)
-    by_test false false e f = refl
-listed_push (x ∷ xs) id slot = ap (λ b. eqb x slot || b) (listed_push xs id slot) ∙ by_test (eqb x slot) (eqb slot id)
-  where
-    by_test : (a b : Bool) → (a || cond b true (is_among_slots xs slot)) ≡ cond b true (a || is_among_slots xs slot)
-    by_test true true = refl
-    by_test true false = refl
-    by_test false true = refl
-    by_test false false = refl
+listed_push [] id slot = grind (arith, nat_tests)
+listed_push (x ∷ xs) id slot = grind (arith, nat_tests, listed_push xs id slot)
 
 distinct_of : (xs : List ℕ) → HasNoRepeats xs → IsDistinct ◌==◌ xs
 unfolding IsDistinct
@@ -68,28 +53,10 @@ lists_fit table a slots once have =
 
 -- what a commit makes of the marks
 settled_open : (point : ℕ) (s : Slot) → (settled point s).is_in_open_set ≡ cond (is_some s.writer) true s.is_in_open_set
-settled_open point s = by_writer s.writer
-  where
-    by_class : (c : Class) → (settled_class c point s).is_in_open_set ≡ true
-    by_class Before = refl
-    by_class During = elim s.is_in_closed_set as (λ b. (cond b (record s { mark = point; writer = None; is_in_open_set = true }) (record s { stable = Empty; writer = None; is_in_open_set = true })).is_in_open_set ≡ true) [ true ↦ refl | false ↦ refl ]
-    by_class After = refl
-
-    by_writer : (o : Option Writer) → (settled_from o point s).is_in_open_set ≡ cond (is_some o) true s.is_in_open_set
-    by_writer None = refl
-    by_writer (Some w) = by_class w.class
+settled_open point s = grind arith
 
 settled_closed : (point : ℕ) (s : Slot) → (settled point s).is_in_closed_set ≡ s.is_in_closed_set
-settled_closed point s = by_writer s.writer
-  where
-    by_class : (c : Class) → (settled_class c point s).is_in_closed_set ≡ s.is_in_closed_set
-    by_class Before = refl
-    by_class During = elim s.is_in_closed_set as (λ b. (cond b (record s { mark = point; writer = None; is_in_open_set = true }) (record s { stable = Empty; writer = None; is_in_open_set = true })).is_in_closed_set ≡ s.is_in_closed_set) [ true ↦ refl | false ↦ refl ]
-    by_class After = refl
-
-    by_writer : (o : Option Writer) → (settled_from o point s).is_in_closed_set ≡ s.is_in_closed_set
-    by_writer None = refl
-    by_writer (Some w) = by_class w.class
+settled_closed point s = grind arith
 
 keys_push : (rows : List (TableRow Cell)) (xs : List ℕ) (x : ℕ) → keys_at rows (xs ++ x ∷ []) ≡ keys_at rows xs ++ key_in (in_slot rows x) ∷ []
 keys_push rows [] x = refl
@@ -142,12 +109,7 @@ module _ (table : Contents Cell) (a : AreInSlots table) (sets : Dirty) (l : IsLi
     stays = subst (λ (s : Side). false ≡ (is_some (writer_in x) && not (is_marked s x))) is still
 
     open_same : is_marked sets.side y ≡ is_marked sets.side x
-    open_same = open_now ∙ by_test (is_some (writer_in x)) (is_marked sets.side x) stays
-      where
-        by_test : (w m : Bool) → false ≡ (w && not m) → cond w true m ≡ m
-        by_test true true e = refl
-        by_test true false e = cc
-        by_test false m e = refl
+    open_same = grind (arith, open_now, stays)
 
     keeps : KeepSets table.rows after
     keeps = changed_sets table.rows id x y has (same_words sets.side x y links open_same closed_now)
@@ -170,19 +132,10 @@ module _ (table : Contents Cell) (a : AreInSlots table) (sets : Dirty) (l : IsLi
     goes = subst (λ (s : Side). true ≡ (is_some (writer_in x) && not (is_marked s x))) is gone
 
     marked_now : is_marked sets.side y ≡ true
-    marked_now = open_now ∙ by_test (is_some (writer_in x)) (is_marked sets.side x) goes
-      where
-        by_test : (w m : Bool) → true ≡ (w && not m) → cond w true m ≡ true
-        by_test true m e = refl
-        by_test false m e = cc
+    marked_now = grind (arith, open_now, goes)
 
     not_before : is_marked sets.side x ≡ false
-    not_before = by_test (is_some (writer_in x)) (is_marked sets.side x) goes
-      where
-        by_test : (w m : Bool) → true ≡ (w && not m) → m ≡ false
-        by_test true true e = cc
-        by_test true false e = refl
-        by_test false m e = cc
+    not_before = grind (arith, goes)
 
     pub linked_after : AreSets (HasPlace after) (next_in after) sets opened closed
     linked_after = linked_keep table.rows after sets opened closed (links_kept table.rows id x y has links) l.linked

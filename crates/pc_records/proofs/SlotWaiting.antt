@@ -1,5 +1,5 @@
 -- Who waits in the queues waits in the rows.
-use Rattle.std.proofs.Common.{◌≡◌, ℕ, zero, suc, ◌+◌, ◌<◌, List, [], ◌∷◌, refl, sym, ap, ◌∙◌, arith, cond, Bool, true, false, eqb, ◌||◌}
+use Rattle.std.proofs.Common.{◌≡◌, ℕ, zero, suc, ◌<◌, List, [], ◌∷◌, refl, sym, ap, ◌∙◌, arith, Bool, true, false}
 use Rattle.std.specs.List.{list_any}
 use Rattle.std.proofs.lemmas.Bool.Decides.{nat_tests}
 use Rattle.pc_model.specs.Locks.{Queue, request_in, is_ungranted}
@@ -13,23 +13,10 @@ use Rattle.pc_records.specs.Slots.{rows_of, numbers_of, times, AreSlotsKept}
 abbrev pub waits_in : ℕ → Queue → Bool
 waits_in t q = is_ungranted (request_in q t)
 
-or_false : (a b : Bool) → (a || b) ≡ false → (a ≡ false) × (b ≡ false)
-or_false true b e = absurd cc
-or_false false b e = (refl, e)
-
 -- none waits in a queue if none waits in the rows
 none_at : (t n : ℕ) (queues : Queues) (slots : List Slot) → is_waiting_in_rows (rows_of queues slots) t ≡ false → 0 < times n (numbers_of slots) → waits_in t (queue_at queues n) ≡ false
 none_at t n queues [] none more = absurd (omega (arith, more))
-none_at t n queues (x ∷ xs) none more =
-    let parts = or_false (waits_in t (queue_at queues x.number)) (is_waiting_in_rows (rows_of queues xs) t) none in
-    by_test (eqb x.number n) refl more parts.0 (none_at t n queues xs parts.1)
-  where
-    by_test : (b : Bool) → eqb x.number n ≡ b → 0 < cond b (times n (numbers_of xs) + 1) (times n (numbers_of xs)) → waits_in t (queue_at queues x.number) ≡ false → (0 < times n (numbers_of xs) → waits_in t (queue_at queues n) ≡ false) →
-        waits_in t (queue_at queues n) ≡ false
-    by_test true is more here rest =
-        let same : x.number ≡ n = grind (arith, nat_tests, is) in
-        ap (λ m. waits_in t (queue_at queues m)) (sym same) ∙ here
-    by_test false is more here rest = rest more
+none_at t n queues (x ∷ xs) none more = grind (arith, nat_tests, none_at t n queues xs)
 
 none_waits : (t n : ℕ) (queues : Queues) (slots : List Slot) → ((n : ℕ) → times n (numbers_of slots) ≡ 0 → queue_at queues n ≡ []) → is_waiting_in_rows (rows_of queues slots) t ≡ false → waits_in t (queue_at queues n) ≡ false
 none_waits t n queues slots bare none = by_count (times n (numbers_of slots)) refl

@@ -1,5 +1,6 @@
 -- The spot of a key, and spots where that of a key has changed, or one has gone in.
-use Rattle.std.proofs.Common.{◌≡◌, ℕ, List, [], ◌∷◌, map, Option, Some, None, option_map, refl, sym, ap, ◌∙◌, subst, cond, Bool, true, false, eqb, ◌||◌}
+use Rattle.std.proofs.Common.{◌≡◌, ℕ, List, [], ◌∷◌, map, Option, Some, None, option_map, refl, sym, ap, ◌∙◌, subst, cond, Bool, true, false, eqb, ◌||◌, arith}
+use Rattle.std.proofs.lemmas.Bool.Decides.{nat_tests}
 use Rattle.std.proofs.lemmas.Bool.{eqb-true, eq-eqb}
 use Rattle.std.proofs.lemmas.Cmp.{eq_by_cmp_equiv}
 use Rattle.std.specs.FinMap.{find, put, is_sorted}
@@ -56,11 +57,7 @@ none_under key ss below = none_in (spot_of_key ss key) (sym (found_record ss key
 -- a spot that is found has the key
 pub key_found : (ss : List Spot) (q : List ℕ) (s : Spot) → spot_of_key ss q ≡ Some s → q ≡ s.slot.key
 key_found [] q s found = no_some found
-key_found (x ∷ xs) q s found = by_test (same_bytes q x.slot.key) refl found (key_found xs q s)
-  where
-    by_test : (b : Bool) → same_bytes q x.slot.key ≡ b → cond b (Some x) (spot_of_key xs q) ≡ Some s → (spot_of_key xs q ≡ Some s → q ≡ s.slot.key) → q ≡ s.slot.key
-    by_test true is found rest = one_key q x.slot.key is ∙ ap (λ (y : Spot). y.slot.key) (one_some found)
-    by_test false is found rest = rest found
+key_found (x ∷ xs) q s found = grind (arith, one_key q x.slot.key, key_found xs q s)
 
 -- the head of ascending spots has another key than the rest
 pub head_lacks : (s : Spot) (ss : List Spot) (q : List ℕ) → Rise (rows_in (s ∷ ss)) → same_bytes q s.slot.key ≡ true → spot_of_key ss q ≡ None
@@ -72,11 +69,7 @@ tail_rises s ss rise = (both (below_all key_cmp s.slot.key (rows_in ss)) (is_sor
 -- what each spot has, that which is found has; and back
 pub each_found : (P : Spot → Type 0) (ss : List Spot) (q : List ℕ) (s : Spot) → Each P ss → spot_of_key ss q ≡ Some s → P s
 each_found P [] q s each found = no_some found
-each_found P (x ∷ xs) q s each found = by_test (same_bytes q x.slot.key) found (each_found P xs q s each.1)
-  where
-    by_test : (b : Bool) → cond b (Some x) (spot_of_key xs q) ≡ Some s → (spot_of_key xs q ≡ Some s → P s) → P s
-    by_test true found rest = subst P (one_some found) each.0
-    by_test false found rest = rest found
+each_found P (x ∷ xs) q s each found = elim (same_bytes q x.slot.key) as (λ b. cond b (Some x) (spot_of_key xs q) ≡ Some s → P s) [ true ↦ λ e. subst P (one_some e) each.0 | false ↦ each_found P xs q s each.1 ] found
 
 pub each_by_key : (P : Spot → Type 0) (ss : List Spot) → Rise (rows_in ss) → ((q : List ℕ) (s : Spot) → spot_of_key ss q ≡ Some s → P s) → Each P ss
 each_by_key P [] rise all = tt
@@ -124,32 +117,16 @@ key_map g keeps (s ∷ ss) q =
 -- if no spot has the number, or the key, none changes
 pub apart_stay : (g : Spot → Spot) (id : ℕ) (ss : List Spot) → has_spot ss id ≡ false → map (at_spot g id) ss ≡ ss
 apart_stay g id [] none = refl
-apart_stay g id (s ∷ ss) none = by_test (eqb s.slot.number id) none (apart_stay g id ss)
-  where
-    by_test : (b : Bool) → (b || has_spot ss id) ≡ false → (has_spot ss id ≡ false → map (at_spot g id) ss ≡ ss) → cond b (g s) s ∷ map (at_spot g id) ss ≡ s ∷ ss
-    by_test true none rest = no (sym none)
-    by_test false none rest = ap (λ (xs : List Spot). s ∷ xs) (rest none)
+apart_stay g id (s ∷ ss) none = grind (arith, nat_tests, apart_stay g id ss)
 
 pub lacking_stay : (g : Spot → Spot) (key : List ℕ) (ss : List Spot) → spot_of_key ss key ≡ None → map (at_key g key) ss ≡ ss
 lacking_stay g key [] none = refl
-lacking_stay g key (s ∷ ss) none = by_test (same_bytes key s.slot.key) none (lacking_stay g key ss)
-  where
-    by_test : (b : Bool) → cond b (Some s) (spot_of_key ss key) ≡ None → (spot_of_key ss key ≡ None → map (at_key g key) ss ≡ ss) → cond b (g s) s ∷ map (at_key g key) ss ≡ s ∷ ss
-    by_test true none rest = no_some (sym none)
-    by_test false none rest = ap (λ (xs : List Spot). s ∷ xs) (rest none)
+lacking_stay g key (s ∷ ss) none = grind (arith, lacking_stay g key ss)
 
 -- a key has a number if it has a spot
 pub has_number : (ss : List Spot) (key : List ℕ) (id : ℕ) → slot_number_of ss key ≡ Some id → has_spot ss id ≡ true
 has_number [] key id e = no_some e
-has_number (s ∷ ss) key id e = by_test (same_bytes key s.slot.key) e (has_number ss key id)
-  where
-    or_true : (a : Bool) → (a || true) ≡ true
-    or_true true = refl
-    or_true false = refl
-
-    by_test : (b : Bool) → cond b (Some s.slot.number) (slot_number_of ss key) ≡ Some id → (slot_number_of ss key ≡ Some id → has_spot ss id ≡ true) → (eqb s.slot.number id || has_spot ss id) ≡ true
-    by_test true e rest = ap (λ b. b || has_spot ss id) (eq-eqb s.slot.number id (one_some e))
-    by_test false e rest = ap (λ b. eqb s.slot.number id || b) (rest e) ∙ or_true (eqb s.slot.number id)
+has_number (s ∷ ss) key id e = grind (arith, nat_tests, has_number ss key id)
 
 pub number_found : (ss : List Spot) (key : List ℕ) → slot_number_of ss key ≡ option_map (λ (s : Spot). s.slot.number) (spot_of_key ss key)
 number_found [] key = refl
@@ -171,13 +148,7 @@ spot_of_number (s ∷ ss) id = cond (eqb s.slot.number id) (Some s) (spot_of_num
 module _ (key : List ℕ) (id : ℕ) where
   by_number : (ss : List Spot) → AreSpotsApart ss → slot_number_of ss key ≡ Some id → spot_of_number ss id ≡ spot_of_key ss key
   by_number [] apart e = no_some e
-  by_number (s ∷ ss) apart e = by_test (same_bytes key s.slot.key) (eqb s.slot.number id) refl e (by_number ss apart.1)
-    where
-      by_test : (b c : Bool) → eqb s.slot.number id ≡ c → cond b (Some s.slot.number) (slot_number_of ss key) ≡ Some id → (slot_number_of ss key ≡ Some id → spot_of_number ss id ≡ spot_of_key ss key) → cond c (Some s) (spot_of_number ss id) ≡ cond b (Some s) (spot_of_key ss key)
-      by_test true true is e rest = refl
-      by_test true false is e rest = no (sym is ∙ eq-eqb s.slot.number id (one_some e))
-      by_test false true is e rest = no (sym apart.0 ∙ ap (has_spot ss) (eqb-true s.slot.number id is) ∙ has_number ss key id e)
-      by_test false false is e rest = rest e
+  by_number (s ∷ ss) apart e = grind (arith, nat_tests, by_number ss, has_number ss key id)
 
   pub swapped : (g : Spot → Spot) (ss : List Spot) → Rise (rows_in ss) → AreSpotsApart ss → slot_number_of ss key ≡ Some id → map (at_spot g id) ss ≡ map (at_key g key) ss
   swapped g [] rise apart e = no_some e
@@ -191,19 +162,11 @@ module _ (key : List ℕ) (id : ℕ) where
 
 queue_numbered : (ss : List Spot) (id : ℕ) (s : Spot) → spot_of_number ss id ≡ Some s → queue_at_slot ss id ≡ s.queue
 queue_numbered [] id s e = no_some e
-queue_numbered (x ∷ xs) id s e = by_test (eqb x.slot.number id) e (queue_numbered xs id s)
-  where
-    by_test : (b : Bool) → cond b (Some x) (spot_of_number xs id) ≡ Some s → (spot_of_number xs id ≡ Some s → queue_at_slot xs id ≡ s.queue) → cond b x.queue (queue_at_slot xs id) ≡ s.queue
-    by_test true e rest = ap (λ (y : Spot). y.queue) (one_some e)
-    by_test false e rest = rest e
+queue_numbered (x ∷ xs) id s e = grind (arith, nat_tests, queue_numbered xs id s)
 
 has_numbered : (f : Slot → Option (List ℕ)) (ss : List Spot) (id : ℕ) (s : Spot) → spot_of_number ss id ≡ Some s → of_spot f ss id ≡ f s.slot
 has_numbered f [] id s e = no_some e
-has_numbered f (x ∷ xs) id s e = by_test (eqb x.slot.number id) e (has_numbered f xs id s)
-  where
-    by_test : (b : Bool) → cond b (Some x) (spot_of_number xs id) ≡ Some s → (spot_of_number xs id ≡ Some s → of_spot f xs id ≡ f s.slot) → cond b (f x.slot) (of_spot f xs id) ≡ f s.slot
-    by_test true e rest = ap (λ (y : Spot). f y.slot) (one_some e)
-    by_test false e rest = rest e
+has_numbered f (x ∷ xs) id s e = grind (arith, nat_tests, has_numbered f xs id s)
 
 -- what is known of the spot of a key that has the number
 pub record IsFound (ss : List Spot) (key : List ℕ) (id : ℕ) (spot : Spot) : Type 0 where
@@ -309,11 +272,7 @@ key_entered new (s ∷ ss) q none = by_test (is_lt (key_cmp new.slot.key s.slot.
 -- one change after the other
 pub number_twice : (f g : Spot → Spot) → ((s : Spot) → (g s).slot.number ≡ s.slot.number) → (id : ℕ) (ss : List Spot) → map (at_spot f id) (map (at_spot g id) ss) ≡ map (at_spot (λ s. f (g s)) id) ss
 number_twice f g keeps id [] = refl
-number_twice f g keeps id (s ∷ ss) = ap (λ (x : Spot). x ∷ map (at_spot f id) (map (at_spot g id) ss)) (by_test (eqb s.slot.number id) refl) ∙ ap (λ (xs : List Spot). at_spot (λ s. f (g s)) id s ∷ xs) (number_twice f g keeps id ss)
-  where
-    by_test : (b : Bool) → eqb s.slot.number id ≡ b → at_spot f id (cond b (g s) s) ≡ cond b (f (g s)) s
-    by_test true is = ap (λ c. cond c (f (g s)) (g s)) (ap (λ n. eqb n id) (keeps s) ∙ is)
-    by_test false is = ap (λ c. cond c (f s) s) is
+number_twice f g keeps id (s ∷ ss) = grind (arith, nat_tests, number_twice f g keeps id ss, keeps s)
 
 -- a change that is none
 pub map_same : (g : Spot → Spot) → ((s : Spot) → g s ≡ s) → (ss : List Spot) → map g ss ≡ ss

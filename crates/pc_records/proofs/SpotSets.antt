@@ -1,5 +1,6 @@
 -- What the floor keeps of its sets, once the open one is closed, and of the first spots.
-use Rattle.std.proofs.Common.{◌≡◌, ℕ, ◌<◌, ◌≤◌, ◌+◌, List, [], ◌∷◌, map, Option, Some, None, refl, sym, ap, ◌∙◌, subst, cond, Bool, true, false, eqb, ◌||◌, arith}
+use Rattle.std.proofs.Common.{◌≡◌, ℕ, ◌<◌, ◌≤◌, ◌+◌, List, [], ◌∷◌, map, Option, Some, None, refl, sym, ap, ◌∙◌, subst, cond, Bool, true, false, eqb, arith}
+use Rattle.std.proofs.lemmas.Bool.Decides.{nat_tests}
 use Rattle.std.proofs.lemmas.Bool.{eq-eqb}
 use Rattle.std.specs.FinMap.{find}
 use Rattle.pc_types.specs.declared.Class.TheVariants.{During}
@@ -38,11 +39,7 @@ all_legal queues settled (s ∷ slots) = (settled_legal (queue_at queues s.numbe
 
 none_has : (queues : Queues) (n : ℕ) (slots : List Slot) → times n (numbers_of slots) ≡ 0 → has_spot (spots_of queues slots) n ≡ false
 none_has queues n [] none = refl
-none_has queues n (s ∷ slots) none = by_test (eqb s.number n) none (none_has queues n slots)
-  where
-    by_test : (b : Bool) → cond b (times n (numbers_of slots) + 1) (times n (numbers_of slots)) ≡ 0 → (times n (numbers_of slots) ≡ 0 → has_spot (spots_of queues slots) n ≡ false) → (b || has_spot (spots_of queues slots) n) ≡ false
-    by_test true none rest = absurd (omega (arith, none))
-    by_test false none rest = rest none
+none_has queues n (s ∷ slots) none = grind (arith, nat_tests, none_has queues n slots)
 
 all_apart : (queues : Queues) (slots : List Slot) → ((n : ℕ) → times n (numbers_of slots) ≤ 1) → AreSpotsApart (spots_of queues slots)
 all_apart queues [] once = tt

@@ -1,5 +1,6 @@
 -- Spots once a request is let go, or a key taken, and once the slot is free if nothing keeps it.
 use Rattle.std.proofs.Common.{◌≡◌, ℕ, ◌+◌, ◌<◌, List, [], ◌∷◌, filter, map, Option, Some, None, refl, sym, ap, ◌∙◌, subst, cond, Bool, true, false, eqb, ◌||◌, ◌&&◌, not, arith}
+use Rattle.std.proofs.lemmas.Bool.Decides.{nat_tests}
 use Rattle.std.proofs.lemmas.Bool.{eqb-true, eq-eqb}
 use Rattle.std.specs.FinMap.{find}
 use Rattle.pc_types.specs.Phases.{same_class}
@@ -10,9 +11,8 @@ use Rattle.pc_model.specs.Queues.{stands_in}
 use Rattle.pc_model.proofs.RisingLaws.{Rise}
 use Rattle.pc_slots.specs.declared.versions.Writer.{Writer}
 use Rattle.pc_slots.specs.Slots.{Pending, pending_in, pending_of_writer, is_locked, IsSlotSound, taken_slot}
-use Rattle.pc_records.specs.Rows.{Row, is_kept, Record, record_of}
+use Rattle.pc_records.specs.Rows.{Row, is_kept, record_of}
 use Rattle.pc_records.specs.RowSteps.{if_kept, with_row, released, released_rows, record_after_take, with_left, left_rows}
-use Rattle.pc_records.specs.Slots.{with_optional_entry}
 use Rattle.pc_records.specs.Floor.{Spot, Floor, IsFloorWhole, Each, AreSpotsApart, AreSpotsSound, row_in, rows_in, pending_writes, table_on, with_slot_changed, at_spot, with_spot, HasNoPendingWrite, IsFloorReleased, has_spot, let_go, stands_at, stands_anywhere, is_needed, tidied, standing, TakesFirstSpot, slot_number_of}
 use Rattle.pc_records.proofs.Exclusive.{kept_released}
 use Rattle.pc_records.proofs.Moments.{sound_queue, kept_row, taken_sound}
@@ -23,14 +23,7 @@ use Rattle.pc_records.proofs.SpotLaws.{no, one_some, same_self, spot_of_key, spo
 -- the rows of other keys, if the key has none
 others_all : (key : List ℕ) (rows : List Row) → record_of rows key ≡ None → filter (λ row. not (same_bytes key row.0)) rows ≡ rows
 others_all key [] h = refl
-others_all key (row ∷ rows) h = by_test (same_bytes key row.0) refl (others_all key rows)
-  where
-    by_test : (b : Bool) → same_bytes key row.0 ≡ b → (record_of rows key ≡ None → filter (λ row. not (same_bytes key row.0)) rows ≡ rows) → filter (λ row. not (same_bytes key row.0)) (row ∷ rows) ≡ row ∷ rows
-    by_test true is rest = absurd (some_not_none row.1 (rw is at h))
-      where
-        some_not_none : (r : Record) → Some r ≡ None → ⊥
-        some_not_none r e = cc
-    by_test false is rest = rw is (ap (λ (rows : List Row). row ∷ rows) (rest (rw is at h)))
+others_all key (row ∷ rows) h = grind (arith, others_all key rows)
 
 pub or_parts : (a b : Bool) → (a || b) ≡ false → (a ≡ false) × (b ≡ false)
 or_parts true b e = absurd cc
@@ -46,9 +39,7 @@ module _ (id : ℕ) (x : Spot) (xs : List Spot) where
 
 pub apart_tidied : (id : ℕ) (ss : List Spot) → has_spot ss id ≡ false → tidied id ss ≡ ss
 apart_tidied id [] none = refl
-apart_tidied id (s ∷ ss) none =
-    let parts = or_parts (eqb s.slot.number id) (has_spot ss id) none in
-    tidied_past id s ss parts.0 ∙ ap (λ (xs : List Spot). s ∷ xs) (apart_tidied id ss parts.1)
+apart_tidied id (s ∷ ss) none = grind (arith, nat_tests, apart_tidied id ss)
 
 pub each_tidied : (P : Spot → Type 0) (id : ℕ) (ss : List Spot) → Each P ss → Each P (tidied id ss)
 each_tidied P id [] each = tt
@@ -64,12 +55,7 @@ bare_write point s sound bare = by_writer s.slot.writer (ap (λ q. is_locked q s
 
 pub writes_tidied : (point id : ℕ) (ss : List Spot) → AreSpotsSound point ss → pending_writes (tidied id ss) ≡ pending_writes ss
 writes_tidied point id [] sound = refl
-writes_tidied point id (s ∷ ss) sound = by_test (not (eqb s.slot.number id)) (is_needed s) refl (writes_tidied point id ss sound.1)
-  where
-    by_test : (a b : Bool) → is_needed s ≡ b → pending_writes (tidied id ss) ≡ pending_writes ss → pending_writes (cond (a || b) (s ∷ tidied id ss) (tidied id ss)) ≡ with_optional_entry s.slot.key (pending_in s.slot) (pending_writes ss)
-    by_test true b is rest = ap (with_optional_entry s.slot.key (pending_in s.slot)) rest
-    by_test false true is rest = ap (with_optional_entry s.slot.key (pending_in s.slot)) rest
-    by_test false false is rest = rest ∙ sym (ap (λ o. with_optional_entry s.slot.key o (pending_writes ss)) (bare_write point s sound.0 is))
+writes_tidied point id (s ∷ ss) sound = grind (arith, nat_tests, writes_tidied point id ss sound.1, bare_write point s sound.0)
 
 -- what keeps a spot keeps its row
 needed_row : (point : ℕ) (s : Spot) → IsSlotSound point s.queue s.slot → is_needed s ≡ is_kept (row_in s).1
@@ -85,9 +71,7 @@ module _ (t id : ℕ) where
 
   stands_apart : (ss : List Spot) → has_spot ss id ≡ false → stands_at ss id t ≡ false
   stands_apart [] none = refl
-  stands_apart (s ∷ ss) none =
-      let parts = or_parts (eqb s.slot.number id) (has_spot ss id) none in
-      ap (λ b. (b && stands_in s.queue t) || stands_at ss id t) parts.0 ∙ stands_apart ss parts.1
+  stands_apart (s ∷ ss) none = grind (arith, nat_tests, stands_apart ss)
 
   -- the first spot, if it has the number
   module _ (s : Spot) (ss : List Spot) (is : eqb s.slot.number id ≡ true) (apart : has_spot ss s.slot.number ≡ false) where

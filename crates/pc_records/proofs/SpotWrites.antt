@@ -1,5 +1,5 @@
 -- Spots once writes are committed or undone, in order.
-use Rattle.std.proofs.Common.{◌≡◌, ℕ, zero, suc, ◌+◌, ◌<◌, ◌≤◌, List, [], ◌∷◌, ◌++◌, append_assoc, append-nil, length, drop, get_or, map, Option, Some, None, is_some, option_map, refl, sym, ap, ◌∙◌, subst, cond, Bool, true, false, eqb, ◌&&◌, ◌||◌, not}
+use Rattle.std.proofs.Common.{◌≡◌, ℕ, zero, suc, ◌+◌, ◌<◌, ◌≤◌, List, [], ◌∷◌, ◌++◌, append_assoc, append-nil, length, drop, get_or, map, Option, Some, None, is_some, option_map, refl, sym, ap, ◌∙◌, subst, cond, Bool, true, false, eqb, ◌&&◌, ◌||◌, not, arith}
 use Rattle.std.proofs.lemmas.List.{drop_all}
 use Rattle.std.specs.FinMap.{find}
 use Rattle.pc_types.specs.declared.Write.{Write}
@@ -80,11 +80,7 @@ opened_in q (Some s) = cond (is_some s.slot.writer && not s.slot.is_in_open_set)
 
 by_spots : (ss : List Spot) (q : List ℕ) → newly_opened_key ss q ≡ opened_in q (spot_of_key ss q)
 by_spots [] q = refl
-by_spots (s ∷ ss) q = by_test (same_bytes q s.slot.key) refl (by_spots ss q)
-  where
-    by_test : (b : Bool) → same_bytes q s.slot.key ≡ b → newly_opened_key ss q ≡ opened_in q (spot_of_key ss q) → cond b (cond (is_some s.slot.writer && not s.slot.is_in_open_set) (s.slot.key ∷ []) []) (newly_opened_key ss q) ≡ opened_in q (cond b (Some s) (spot_of_key ss q))
-    by_test true same rest = ap (λ k. cond (is_some s.slot.writer && not s.slot.is_in_open_set) (k ∷ []) []) (sym (one_key q s.slot.key same))
-    by_test false same rest = rest
+by_spots (s ∷ ss) q = grind (arith, one_key q s.slot.key, by_spots ss q)
 
 module _ (point : ℕ) where
   abbrev settles : List ℕ → List Spot → List Spot
@@ -104,11 +100,7 @@ module _ (point : ℕ) where
 
   others_open : (ss : List Spot) (key : List ℕ) (ws : List Write) → is_some (written ws key) ≡ false → newly_opened_keys (settles key ss) ws ≡ newly_opened_keys ss ws
   others_open ss key [] none = refl
-  others_open ss key (w ∷ ws) none = by_test (same_bytes w.key key) refl (sym (written_first w ws key) ∙ none) (others_open ss key ws)
-    where
-      by_test : (b : Bool) → same_bytes w.key key ≡ b → (b || is_some (written ws key)) ≡ false → (is_some (written ws key) ≡ false → newly_opened_keys (settles key ss) ws ≡ newly_opened_keys ss ws) → newly_opened_key (settles key ss) w.key ++ newly_opened_keys (settles key ss) ws ≡ newly_opened_key ss w.key ++ newly_opened_keys ss ws
-      by_test true same none rest = no (sym none)
-      by_test false other none rest = ap (λ ks. ks ++ newly_opened_keys (settles key ss) ws) (other_opens ss key w.key other) ∙ ap (λ ks. newly_opened_key ss w.key ++ ks) (rest none)
+  others_open ss key (w ∷ ws) none = grind (arith, others_open ss key ws, other_opens ss key w.key, written_first w ws key)
 
   distinct_drop : (i : ℕ) (ws : List Write) → AreDistinct ws → AreDistinct (drop i ws)
   distinct_drop zero ws d = d

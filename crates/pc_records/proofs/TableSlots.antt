@@ -1,5 +1,6 @@
 -- The slots in the rows of a table.
 use Rattle.std.proofs.Common.{◌≡◌, ℕ, zero, suc, ◌+◌, ◌<◌, ◌≤◌, List, [], ◌∷◌, map, Option, Some, None, option_map, is_some, refl, sym, ap, ◌∙◌, arith, cond, Bool, true, false, eqb, eqb-true, subst}
+use Rattle.std.proofs.lemmas.Bool.Decides.{nat_tests}
 use Rattle.std.specs.Prelude.{insert}
 use Rattle.std.specs.declared.cmp.Ordering.{Ordering}
 use Rattle.std.specs.declared.cmp.Ordering.TheVariants.{Less, Equal, Greater}
@@ -10,7 +11,7 @@ use Rattle.pc_model.specs.Database.{key_cmp, KeysRise, same_bytes}
 use Rattle.pc_model.proofs.JoinLaws.{one_key}
 use Rattle.pc_model.proofs.RisingLaws.{both, none_below, Rise}
 use Rattle.pc_table.specs.Rows.{TableRow, Contents, slot_of as table_slot, in_slot, with_record_in, HasRow, AreInSlots, with_row}
-use Rattle.pc_table.proofs.RowLaws.{no_row, same_some, slot_found, one_place}
+use Rattle.pc_table.proofs.RowLaws.{no_row, slot_found, one_place}
 use Rattle.pc_slots.specs.declared.cells.Cell.{Cell}
 use Rattle.pc_slots.specs.Slots.{Slot, slot_with, base_cell, new_slot}
 use Rattle.pc_records.specs.Slots.{no_queues, slot_in, slots_in, rows_of, numbers_of, times, at_number}
@@ -58,27 +59,15 @@ module _ (side : Side) where
   -- a number that has a row is that of a slot
   pub no_number : (rows : List (TableRow Cell)) (n : ℕ) → in_slot rows n ≡ None → times n (numbers_of (slots_in side rows)) ≡ 0
   no_number [] n e = refl
-  no_number (row ∷ rows) n e = by_test (eqb row.1.0 n) e (no_number rows n)
-    where
-      by_test : (b : Bool) → cond b (Some (row.0, row.1.1)) (in_slot rows n) ≡ None → (in_slot rows n ≡ None → times n (numbers_of (slots_in side rows)) ≡ 0) → cond b (times n (numbers_of (slots_in side rows)) + 1) (times n (numbers_of (slots_in side rows))) ≡ 0
-      by_test true e rest = absurd (no_row (sym e))
-      by_test false e rest = rest e
+  no_number (row ∷ rows) n e = grind (arith, nat_tests, no_number rows n)
 
   pub number_has : (rows : List (TableRow Cell)) (n : ℕ) → HasRow rows n → 0 < times n (numbers_of (slots_in side rows))
   number_has [] n e = absurd cc
-  number_has (row ∷ rows) n e = by_test (eqb row.1.0 n) e (number_has rows n)
-    where
-      by_test : (b : Bool) → is_some (cond b (Some (row.0, row.1.1)) (in_slot rows n)) ≡ true → (HasRow rows n → 0 < times n (numbers_of (slots_in side rows))) → 0 < cond b (times n (numbers_of (slots_in side rows)) + 1) (times n (numbers_of (slots_in side rows)))
-      by_test true e rest = omega arith
-      by_test false e rest = rest e
+  number_has (row ∷ rows) n e = grind (arith, nat_tests, number_has rows n)
 
   pub has_number : (rows : List (TableRow Cell)) (n : ℕ) → 0 < times n (numbers_of (slots_in side rows)) → HasRow rows n
   has_number [] n e = absurd (omega (arith, e))
-  has_number (row ∷ rows) n e = by_test (eqb row.1.0 n) e (has_number rows n)
-    where
-      by_test : (b : Bool) → 0 < cond b (times n (numbers_of (slots_in side rows)) + 1) (times n (numbers_of (slots_in side rows))) → (0 < times n (numbers_of (slots_in side rows)) → HasRow rows n) → is_some (cond b (Some (row.0, row.1.1)) (in_slot rows n)) ≡ true
-      by_test true e rest = refl
-      by_test false e rest = rest e
+  has_number (row ∷ rows) n e = grind (arith, nat_tests, has_number rows n)
 
   -- no two slots have one number
   once_rows : (rows : List (TableRow Cell)) → Rise rows → ((key other : List ℕ) (n : ℕ) (x y : Cell) → find key_cmp key rows ≡ Some (n, x) → find key_cmp other rows ≡ Some (n, y) → key ≡ other) → (n : ℕ) → times n (numbers_of (slots_in side rows)) ≤ 1
@@ -129,26 +118,12 @@ module _ (side : Side) where
   -- a slot that gets another record
   same_others : (rows : List (TableRow Cell)) (n : ℕ) (y : Cell) (f : Slot → Slot) → times n (numbers_of (slots_in side rows)) ≡ 0 → slots_in side (map (with_record_in n y) rows) ≡ map (at_number f n) (slots_in side rows)
   same_others [] n y f none = refl
-  same_others (row ∷ rows) n y f none = by_test (eqb row.1.0 n) none (same_others rows n y f)
-    where
-      by_test : (b : Bool) → cond b (times n (numbers_of (slots_in side rows)) + 1) (times n (numbers_of (slots_in side rows))) ≡ 0 → (times n (numbers_of (slots_in side rows)) ≡ 0 → slots_in side (map (with_record_in n y) rows) ≡ map (at_number f n) (slots_in side rows)) →
-          slot_with side row.1.0 row.0 (cond b y row.1.1) ∷ slots_in side (map (with_record_in n y) rows) ≡ cond b (f (slot_in side row)) (slot_in side row) ∷ map (at_number f n) (slots_in side rows)
-      by_test true none rest = absurd (omega (arith, none))
-      by_test false none rest = ap (λ (ss : List Slot). slot_in side row ∷ ss) (rest none)
+  same_others (row ∷ rows) n y f none = grind (arith, nat_tests, same_others rows n y f)
 
   changed_rows : (rows : List (TableRow Cell)) (n : ℕ) (x y : Cell) (f : Slot → Slot) → times n (numbers_of (slots_in side rows)) ≤ 1 → option_map (λ pair. pair.1) (in_slot rows n) ≡ Some x → ((number : ℕ) (key : List ℕ) → slot_with side number key y ≡ f (slot_with side number key x)) →
       slots_in side (map (with_record_in n y) rows) ≡ map (at_number f n) (slots_in side rows)
   changed_rows [] n x y f once e turns = refl
-  changed_rows (row ∷ rows) n x y f once e turns = by_test (eqb row.1.0 n) once e (λ one found. changed_rows rows n x y f one found turns)
-    where
-      by_test : (b : Bool) → cond b (times n (numbers_of (slots_in side rows)) + 1) (times n (numbers_of (slots_in side rows))) ≤ 1 → option_map (λ pair. pair.1) (cond b (Some (row.0, row.1.1)) (in_slot rows n)) ≡ Some x →
-          (times n (numbers_of (slots_in side rows)) ≤ 1 → option_map (λ pair. pair.1) (in_slot rows n) ≡ Some x → slots_in side (map (with_record_in n y) rows) ≡ map (at_number f n) (slots_in side rows)) →
-          slot_with side row.1.0 row.0 (cond b y row.1.1) ∷ slots_in side (map (with_record_in n y) rows) ≡ cond b (f (slot_in side row)) (slot_in side row) ∷ map (at_number f n) (slots_in side rows)
-      by_test true once e rest =
-          let same : row.1.1 ≡ x = same_some e in
-          ap (λ (s : Slot). s ∷ slots_in side (map (with_record_in n y) rows)) (turns row.1.0 row.0 ∙ ap (λ c. f (slot_with side row.1.0 row.0 c)) (sym same))
-          ∙ ap (λ (ss : List Slot). f (slot_in side row) ∷ ss) (same_others rows n y f (omega (arith, once)))
-      by_test false once e rest = ap (λ (ss : List Slot). slot_in side row ∷ ss) (rest once e)
+  changed_rows (row ∷ rows) n x y f once e turns = grind (arith, nat_tests, changed_rows rows n x y f, same_others rows n y f, turns row.1.0 row.0)
 
   pub changed_slots : (table : Contents Cell) (n : ℕ) (x y : Cell) (f : Slot → Slot) → AreInSlots table → option_map (λ pair. pair.1) (in_slot table.rows n) ≡ Some x → ((number : ℕ) (key : List ℕ) → slot_with side number key y ≡ f (slot_with side number key x)) →
       slots_in side (map (with_record_in n y) table.rows) ≡ map (at_number f n) (slots_in side table.rows)

@@ -1,5 +1,6 @@
 -- A link that is set in a row, and all that stays.
-use Rattle.std.proofs.Common.{◌≡◌, ◌≢◌, ℕ, ◌+◌, ◌≤◌, arith, List, [], ◌∷◌, map, Option, Some, None, option_map, is_some, refl, sym, ap, ◌∙◌, cond, Bool, true, false, eqb}
+use Rattle.std.proofs.Common.{◌≡◌, ◌≢◌, ℕ, ◌≤◌, arith, List, [], ◌∷◌, map, Option, Some, None, option_map, is_some, refl, sym, ap, ◌∙◌, cond, Bool, true, false, eqb}
+use Rattle.std.proofs.lemmas.Bool.Decides.{nat_tests}
 use Rattle.std.proofs.lemmas.Bool.{eqb-true, eq-eqb}
 use Rattle.pc_dirty.specs.declared.side.SideSlot.{SideSlot}
 use Rattle.pc_dirty.specs.declared.side.Side.{Side}
@@ -21,11 +22,7 @@ unlinked_in o = option_map (λ p. (p.0, unlinked p.1)) o
 
 in_unlinked : (rows : List (TableRow Cell)) (n : ℕ) → in_slot (map unlinked_row rows) n ≡ unlinked_in (in_slot rows n)
 in_unlinked [] n = refl
-in_unlinked (row ∷ rows) n = by_test (eqb row.1.0 n) (in_unlinked rows n)
-  where
-    by_test : (b : Bool) → in_slot (map unlinked_row rows) n ≡ unlinked_in (in_slot rows n) → cond b (Some (row.0, unlinked row.1.1)) (in_slot (map unlinked_row rows) n) ≡ unlinked_in (cond b (Some (row.0, row.1.1)) (in_slot rows n))
-    by_test true rest = refl
-    by_test false rest = rest
+in_unlinked (row ∷ rows) n = grind (arith, nat_tests, in_unlinked rows n)
 
 -- if all but the links stays, so do the slots, whichever side the open set is on
 pub slots_unlinked : (side : Side) (rows : List (TableRow Cell)) → slots_in side (map unlinked_row rows) ≡ slots_in side rows
@@ -42,10 +39,7 @@ module _ (old new : Contents Cell) (keep : KeepRecords old new) where
   in_keep n = sym (in_unlinked new.rows n) ∙ (ap (λ (rs : List (TableRow Cell)). in_slot rs n) keep.rows ∙ in_unlinked old.rows n)
 
   mark_of : (side : Side) (o : Option (List ℕ × Cell)) → marked_in side (unlinked_in o) ≡ marked_in side o
-  mark_of First None = refl
-  mark_of Second None = refl
-  mark_of First (Some p) = refl
-  mark_of Second (Some p) = refl
+  mark_of side o = grind arith
 
   key_of : (o : Option (List ℕ × Cell)) → key_in (unlinked_in o) ≡ key_in o
   key_of None = refl
@@ -73,44 +67,22 @@ module _ (old new : Contents Cell) (keep : KeepRecords old new) where
 
 -- the link that was set, and the others of the cell
 link_here : (side : Side) (link : Option SideSlot) (x : Cell) → link_of side (with_link side link x) ≡ link
-link_here First None x = refl
-link_here First (Some p) x = refl
-link_here Second None x = refl
-link_here Second (Some p) x = refl
+link_here side link x = grind arith
 
 link_there : (side other : Side) (link : Option SideSlot) (x : Cell) → other ≢ side → link_of other (with_link side link x) ≡ link_of other x
-link_there First First link x n = absurd (n refl)
-link_there First Second link x n = refl
-link_there Second First link x n = refl
-link_there Second Second link x n = absurd (n refl)
+link_there side other link x n = grind arith
 
 unlinked_same : (side : Side) (link : Option SideSlot) (x : Cell) → unlinked (with_link side link x) ≡ unlinked x
-unlinked_same First None x = refl
-unlinked_same First (Some p) x = refl
-unlinked_same Second None x = refl
-unlinked_same Second (Some p) x = refl
+unlinked_same side link x = grind arith
 
 -- no row but that of the slot changes
 rows_away : (n : ℕ) (y : Cell) (rows : List (TableRow Cell)) → times n (numbers_of (slots_in First rows)) ≡ 0 → map unlinked_row (map (with_record_in n y) rows) ≡ map unlinked_row rows
 rows_away n y [] none = refl
-rows_away n y (row ∷ rows) none = by_test (eqb row.1.0 n) none (rows_away n y rows)
-  where
-    by_test : (b : Bool) → cond b (times n (numbers_of (slots_in First rows)) + 1) (times n (numbers_of (slots_in First rows))) ≡ 0 → (times n (numbers_of (slots_in First rows)) ≡ 0 → map unlinked_row (map (with_record_in n y) rows) ≡ map unlinked_row rows) →
-        (row.0, (row.1.0, unlinked (cond b y row.1.1))) ∷ map unlinked_row (map (with_record_in n y) rows) ≡ unlinked_row row ∷ map unlinked_row rows
-    by_test true none rest = absurd (omega (arith, none))
-    by_test false none rest = ap (λ (rs : List (TableRow Cell)). unlinked_row row ∷ rs) (rest none)
+rows_away n y (row ∷ rows) none = grind (arith, nat_tests, rows_away n y rows)
 
 rows_there : (n : ℕ) (x y : Cell) (rows : List (TableRow Cell)) → times n (numbers_of (slots_in First rows)) ≤ 1 → option_map (λ pair. pair.1) (in_slot rows n) ≡ Some x → unlinked y ≡ unlinked x → map unlinked_row (map (with_record_in n y) rows) ≡ map unlinked_row rows
 rows_there n x y [] once e same = refl
-rows_there n x y (row ∷ rows) once e same = by_test (eqb row.1.0 n) once e (λ one found. rows_there n x y rows one found same)
-  where
-    by_test : (b : Bool) → cond b (times n (numbers_of (slots_in First rows)) + 1) (times n (numbers_of (slots_in First rows))) ≤ 1 → option_map (λ pair. pair.1) (cond b (Some (row.0, row.1.1)) (in_slot rows n)) ≡ Some x →
-        (times n (numbers_of (slots_in First rows)) ≤ 1 → option_map (λ pair. pair.1) (in_slot rows n) ≡ Some x → map unlinked_row (map (with_record_in n y) rows) ≡ map unlinked_row rows) →
-        (row.0, (row.1.0, unlinked (cond b y row.1.1))) ∷ map unlinked_row (map (with_record_in n y) rows) ≡ unlinked_row row ∷ map unlinked_row rows
-    by_test true once e rest =
-        ap (λ (c : Cell). (row.0, (row.1.0, c)) ∷ map unlinked_row (map (with_record_in n y) rows)) (same ∙ ap unlinked (sym (same_some e)))
-        ∙ ap (λ (rs : List (TableRow Cell)). unlinked_row row ∷ rs) (rows_away n y rows (omega (arith, once)))
-    by_test false once e rest = ap (λ (rs : List (TableRow Cell)). unlinked_row row ∷ rs) (rest once e)
+rows_there n x y (row ∷ rows) once e same = grind (arith, nat_tests, rows_there n x y rows, rows_away n y rows)
 
 module _ (table : Contents Cell) (a : AreInSlots table) (place : SideSlot) (next : Option SideSlot) (x : Cell) (has : option_map (λ pair. pair.1) (in_slot table.rows place.slot) ≡ Some x) where
   abbrev linked : List (TableRow Cell)

@@ -1,5 +1,5 @@
 -- The rows say whether a transaction waits, and its writes are under its locks.
-use Rattle.std.proofs.Common.{◌≡◌, ℕ, List, [], ◌∷◌, Option, Some, None, is_some, refl, sym, ap, ◌∙◌, cond, true, false, Bool, ◌||◌}
+use Rattle.std.proofs.Common.{◌≡◌, ℕ, List, [], ◌∷◌, Option, Some, None, is_some, refl, sym, ap, ◌∙◌, cond, true, false, Bool, ◌||◌, arith}
 use Rattle.std.specs.FinMap.{is_sorted}
 use Rattle.std.specs.FinMap.Entries.{is_some-find, below_all}
 use Rattle.std.proofs.lemmas.Cmp.{eq_by_cmp_equiv}
@@ -29,16 +29,7 @@ record WaitsAt (rows : List Row) (t : ℕ) : Type 0 where
 -- if a key's record has a request that waits, so do the rows
 waits_there : (rows : List Row) (key : List ℕ) (t : ℕ) → is_ungranted (request_in (requests_on (record_of rows key)) t) ≡ true → is_waiting_in_rows rows t ≡ true
 waits_there [] key t waits = cc
-waits_there (row ∷ rows) key t waits = by_key (same_bytes key row.0) waits (waits_there rows key t)
-  where
-    or_second : (a b : Bool) → b ≡ true → (a || b) ≡ true
-    or_second true b e = refl
-    or_second false b e = e
-
-    by_key : (b : Bool) → is_ungranted (request_in (requests_on (cond b (Some row.1) (record_of rows key))) t) ≡ true → (is_ungranted (request_in (requests_on (record_of rows key)) t) ≡ true → is_waiting_in_rows rows t ≡ true) →
-        (is_ungranted (request_in row.1.requests t) || is_waiting_in_rows rows t) ≡ true
-    by_key true waits later = ap (λ b. b || is_waiting_in_rows rows t) waits
-    by_key false waits later = or_second (is_ungranted (request_in row.1.requests t)) (is_waiting_in_rows rows t) (later waits)
+waits_there (row ∷ rows) key t waits = grind (arith, waits_there rows key t)
 
 -- a key's record is the only row of the key, so what waits in a row waits in its key's record
 waits_somewhere : (rows : List Row) (t : ℕ) → is_sorted key_cmp rows ≡ true → is_waiting_in_rows rows t ≡ true → WaitsAt rows t

@@ -1,5 +1,5 @@
 -- What acts add to the counts of a log.
-use Rattle.std.proofs.Common.{◌≡◌, ℕ, zero, suc, ◌+◌, ◌-◌, ◌^◌, ◌≤◌, ◌<◌, ◌⊎◌, inl, inr, min, cond, Bool, true, false, List, [], ◌∷◌, ◌++◌, length, append-nil, append_assoc, refl, sym, ap, subst, ◌∙◌, arith}
+use Rattle.std.proofs.Common.{◌≡◌, ℕ, ◌+◌, ◌-◌, ◌^◌, ◌≤◌, ◌<◌, ◌⊎◌, inl, inr, min, cond, Bool, true, false, List, [], ◌∷◌, ◌++◌, length, append-nil, refl, sym, ap, subst, ◌∙◌, arith}
 use Rattle.std.specs.Prelude.{Some, None, slice_get}
 use Rattle.std.specs.List.{flat_map}
 use Rattle.std.proofs.lemmas.List.{length-append}
@@ -21,7 +21,7 @@ use Rattle.pc_log.proofs.EntriesAgain.{header_length}
 use Rattle.pc_serving.specs.Points.{is_checkpoint}
 use Rattle.pc_serving.specs.Serving.{is_of_client}
 use Rattle.pc_serving.specs.declared.request.Request.{Request}
-use Rattle.pc_server.specs.Acts.{AnswersRequest, commits_in, is_commit, log_size}
+use Rattle.pc_server.specs.Acts.{AnswersRequest, commits_in, is_commit}
 use Rattle.pc_server.specs.Turns.{AreCounts}
 use Rattle.pc_server.specs.declared.counts.Counts.{Counts}
 use Rattle.pc_server.proofs.FileLaws.{get_last, request_steps}

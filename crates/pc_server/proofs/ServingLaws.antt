@@ -1,5 +1,5 @@
 -- How far the input was read and answered, call by call.
-use Rattle.std.proofs.Common.{◌≡◌, ℕ, ◌⊎◌, inl, inr, Bool, true, false, not, List, [], ◌∷◌, ◌++◌, append-nil, append_assoc, map, refl, sym, ap, subst, ◌∙◌}
+use Rattle.std.proofs.Common.{◌≡◌, ℕ, ◌⊎◌, inl, inr, Bool, true, false, not, List, [], ◌∷◌, ◌++◌, append-nil, append_assoc, refl, sym, ap, subst, ◌∙◌}
 use Rattle.std.specs.Prelude.{Option, Some, None, Result, Ok, Err, MatchResult, MatchBool, IfOk, IfSome, OnOk}
 use Rattle.pc_io.specs.Tallies.{inner_of}
 use Rattle.pc_types.specs.declared.Step.{Step}
@@ -15,7 +15,7 @@ use Rattle.pc_serving.specs.declared.pace.Turned.TheVariants as turned
 use Rattle.pc_server.specs.Acts.{Act, AnswersRequest, is_quit, lines_of}
 use Rattle.pc_server.specs.Acts.Act.{Answered, WentOn}
 use Rattle.pc_server.specs.Files.{AreOfPoints, HasAllFiles, HasOnlyFiles, WithFiles, WithSomeFiles}
-use Rattle.pc_server.specs.Inputs.{AreAllLines, AreFirstLines, EndsServed, EndsWithin, HasSent, HasServed, HasStopped, IsEnd, IsInputRead, ServesLine, ServesOn, Serving, StopsAt}
+use Rattle.pc_server.specs.Inputs.{AreAllLines, AreFirstLines, EndsServed, EndsWithin, HasSent, HasServed, HasStopped, IsInputRead, ServesLine, ServesOn, Serving, StopsAt}
 use Rattle.pc_server.specs.Services.{Holds, IsCutOff}
 use Rattle.pc_server.specs.declared.serve.ServeFault.{ServeFault}
 use Rattle.pc_server.specs.declared.serve.Stopped.{Stopped}

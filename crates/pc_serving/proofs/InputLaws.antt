@@ -6,7 +6,7 @@ use Rattle.std.specs.Io.BufRead.{take_through, drop_through, DropsThrough, ends_
 use Rattle.bstr.specs.Text.{line_len, without_terminator}
 use Rattle.bstr.proofs.lemmas.LineLemmas.{lines-nil, lines-step}
 use Rattle.pc_lines.specs.Lines.{lines_in}
-use Rattle.pc_serving.specs.Inputs.{IsNextLine, has_feed, whole_lines, whole_part}
+use Rattle.pc_serving.specs.Inputs.{IsNextLine, has_feed, whole_part}
 
 -- a line with its end is the text up to the first line feed
 through_is_taken : (text : List ℕ) → take (line_len text) text ≡ take_through 10 text

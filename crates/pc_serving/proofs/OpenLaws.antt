@@ -4,7 +4,6 @@ use Rattle.pc_types.specs.declared.limits.TheConstants.{MOST_SESSIONS}
 use Rattle.pc_model.specs.History.{History}
 use Rattle.pc_model.specs.Replies.{Setting}
 use Rattle.pc_engine.specs.Store.{Store, setting_of}
-use Rattle.pc_engine.specs.Stands.{Stands}
 use Rattle.pc_engine.specs.Waiting.{opens_after}
 use Rattle.pc_engine.proofs.WaitingLaws.{opens_told}
 use Rattle.pc_serving.specs.OpenSessions.{counted_to, open_after, open_now, opens_now}

@@ -7,7 +7,7 @@ use Rattle.pc_types.specs.declared.Receipt.{Receipt}
 use Rattle.pc_model.specs.Database.{Database}
 use Rattle.pc_model.specs.History.{History, log_of}
 use Rattle.pc_model.specs.Replies.{Setting}
-use Rattle.pc_model.specs.Receipts.{Read, IsReceipt, AreExact}
+use Rattle.pc_model.specs.Receipts.{Read, IsReceipt}
 use Rattle.pc_txn.specs.Commits.{CommitNote, commit_note, notes_of, reads_in, reads_at}
 use Rattle.pc_kept_log.specs.Logs.{writes_of_entry}
 use Rattle.pc_shared.specs.Lent.{entry_writes, AreLentBy}

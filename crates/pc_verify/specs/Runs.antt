@@ -1,5 +1,5 @@
 -- The output of a file's line.
-use Rattle.std.specs.Prelude.{◌≡◌, ◌⊎◌, ℕ, Bool, List, Option, Ok, Err, IfErr, IsOk}
+use Rattle.std.specs.Prelude.{◌≡◌, ◌⊎◌, ℕ, Bool, List, Option, Ok, Err}
 use Rattle.std.specs.declared.result.Result.{Result}
 use Rattle.pc_io.specs.Tallies.{Puts}
 use Rattle.pc_types.specs.declared.refusal.Refusal.{Refusal}

@@ -1,6 +1,6 @@
 -- What the definitions of parts, joins and layings come to of each key. They go over lists of entries, in order; these are the same
 -- sentences key by key.
-use Rattle.std.specs.Prelude.{◌≡◌, ℕ, List, Option, Some, None, if◌then◌else◌}
+use Rattle.std.specs.Prelude.{◌≡◌, ℕ, List, Some, None, if◌then◌else◌}
 use Rattle.pc_model.specs.Maps.{get}
 use Rattle.pc_model.specs.Database.{Database}
 use Rattle.pc_model.specs.Points.{Triples, is_among, triples_at_point, later, joined, laid_at, laid}

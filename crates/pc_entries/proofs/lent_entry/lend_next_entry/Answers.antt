@@ -1,4 +1,4 @@
-use Rattle.std.proofs.Common.{◌≡◌, ℕ, List, Option, Some, Ok, Result, arith, rules}
+use Rattle.std.proofs.Common.{◌≡◌, ℕ, Some, Ok, arith, rules}
 use Rattle.std.specs.Option.{option_map}
 use Rattle.pc_io.specs.Fields.{key_behind}
 use Rattle.pc_types.specs.declared.Triple.{Triple}

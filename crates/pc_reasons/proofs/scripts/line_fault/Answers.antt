@@ -1,4 +1,4 @@
-use Rattle.std.proofs.Common.{map, rules, ap, sym, ◌∙◌}
+use Rattle.std.proofs.Common.{map, rules, ap, ◌∙◌}
 use Rattle.pc_reasons.specs.LineFaults.{reported_fault}
 use Rattle.pc_reasons.proofs.FirstWords.{fault_of_first}
 use Rattle.pc_reasons.proofs.scripts.line_fault.Goals as goal

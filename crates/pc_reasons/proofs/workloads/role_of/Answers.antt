@@ -1,4 +1,4 @@
-use Rattle.std.proofs.Common.{map, rules, ap, sym, ◌∙◌}
+use Rattle.std.proofs.Common.{map, rules, ap, ◌∙◌}
 use Rattle.pc_reasons.specs.Workloads.{told_role}
 use Rattle.pc_reasons.proofs.FirstWords.{role_of_first}
 use Rattle.pc_reasons.proofs.workloads.role_of.Goals as goal

@@ -1,7 +1,6 @@
-use Rattle.std.proofs.Common.{◌≡◌, ℕ, List, Some, sym, ap, ◌∙◌, subst}
+use Rattle.std.proofs.Common.{◌≡◌, ℕ, List, Some, sym, ap, ◌∙◌}
 use Rattle.std.specs.Prelude.{option_map, slice_get}
 use Rattle.pc_txn.specs.Commits.{CommitNote, notes_of, reads_at}
-use Rattle.pc_model.specs.Receipts.{own_of}
 use Rattle.pc_kept_log.specs.Logs.{entries_of}
 use Rattle.pc_shared.specs.Lent.{entry_writes}
 use Rattle.pc_shared.specs.Sitters.{Sitter}
