@@ -41,13 +41,13 @@ HasBegunFiles holds contents blank base None None = ⊤
 HasBegunFiles holds contents blank base (Some folder) (Some log) = holds folder Base (base_text base) × (contents (inner_of log) ≡ blank)
 HasBegunFiles holds contents blank base folder log = ⊥
 
--- the base's file was lost, or that of the log can't be made
-abbrev pub IsBeginLost : {T : Type 0} → FileFault T → Type 0
-IsBeginLost lost = IsFileLost Base 0 lost ⊎ ((why : Refusal) × (lost ≡ Unmade Log why))
+-- the base's file was lost; or that of the log can't be made, and the folder refuses it for this reason
+abbrev pub IsBeginLost : {T : Type 0} → (FileName → Refusal → Type 0) → FileFault T → Type 0
+IsBeginLost refuses lost = IsFileLost refuses Base 0 lost ⊎ ((why : Refusal) × (lost ≡ Unmade Log why) × refuses Log why)
 
 -- there is a folder, and the log's file was lost, of which as many calls had failed as the tally says
 abbrev pub IsLogLost : {D T : Type 0} → Option D → Option (Tally T) → FileFault T → Type 0
-IsLogLost (Some folder) (Some log) lost = IsFileLost Log log.failures lost
+IsLogLost (Some folder) (Some log) lost = IsFileLost (λ file why. ⊤) Log log.failures lost
 IsLogLost folder log lost = ⊥
 
 -- After the text that was written to the log's file the rest was, and the file is whole; the other files stay.

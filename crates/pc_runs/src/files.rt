@@ -52,7 +52,7 @@ fn write_base<F: Write + Drop, D: NewFiles<F>>(
     base: &Base,
 ) -> Result<(), FileFault<F>>
     ensures whole { OnOk result (D.holds folder.new file.Base (base_text base.now)) }
-    ensures lost { IfErr result (IsFileLost file.Base 0) }
+    ensures lost { IfErr result (IsFileLost (D.refuses folder.new) file.Base 0) }
 {
     let mut file = make_file(folder, FileName::Base)?;
     match base.encode(&mut file) {
@@ -62,14 +62,14 @@ fn write_base<F: Write + Drop, D: NewFiles<F>>(
 }
 
 /// Writes the file of the base, and makes that of the log, to which nothing is written yet. It fails only if one of them can't be
-/// made, or the device failed in a call of the base's file, which is then returned.
+/// made, for a reason that the folder gives, or the device failed in a call of the base's file, which is then returned.
 pub fn begin_files<F: Write + Drop, D: NewFiles<F>>(
     folder: &mut D,
     base: &Base,
 ) -> Result<Tally<F>, FileFault<F>>
     ensures base { OnOk result (D.holds folder.new file.Base (base_text base.now)) }
     ensures log { IfOk result (λ log. F.contents (inner_of log) ≡ D.blank) }
-    ensures lost { IfErr result IsBeginLost }
+    ensures lost { IfErr result (IsBeginLost (D.refuses folder.new)) }
 {
     write_base(folder, base)?;
     make_file(folder, FileName::Log)

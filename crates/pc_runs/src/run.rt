@@ -1,5 +1,5 @@
 //! A run of a workload, from its reader to the status.
-ghost use Rattle.std.specs.Prelude.{◌≡◌, ◌⊎◌, ◌≤◌, is_some, IsOk, IsTrue, IfOk, IfErr, OnOk};
+ghost use Rattle.std.specs.Prelude.{◌≡◌, ◌⊎◌, ◌≤◌, ⊤, is_some, IsOk, IsTrue, IfOk, IfErr, OnOk};
 ghost use Rattle.pc_types.specs.declared.limits.TheConstants.{MOST_KEYS, MOST_SESSIONS};
 ghost use Rattle.pc_shared.specs.Sitters.{new_sitters};
 ghost use Rattle.pc_threads.specs.Clients.{HaveSeats};
@@ -199,7 +199,7 @@ fn begin<F: Write + Drop, D: NewFiles<F> + Drop>(
 ) -> Result<(Option<D>, Option<Tally<F>>), FileFault<F>>
     ensures there { IfOk result (λ r. is_some r.0 ≡ is_some folder) }
     ensures begun { IfOk result (λ r. HasBegunFiles D.holds F.contents D.blank base.now r.0 r.1) }
-    ensures lost { IfErr result (λ lost. IsTrue (is_some folder) × IsBeginLost lost) }
+    ensures lost { IfErr result (λ lost. IsTrue (is_some folder) × IsBeginLost (λ _ _. ⊤) lost) }
 {
     match folder {
         Some(mut folder) => {

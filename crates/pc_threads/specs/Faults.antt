@@ -25,11 +25,11 @@ use Rattle.pc_threads.specs.declared.stop.ThreadsStop.{ThreadsStop}
 use Rattle.pc_threads.specs.declared.stop.ThreadsStop.TheVariants as stop
 use Rattle.pc_threads.specs.declared.threads.LogFault.{LogFault}
 
--- The file of this name can't be made; or the device failed in a call of the file, which is returned: more of its calls have failed
--- than these.
-abbrev pub IsFileLost : {T : Type 0} → FileName → ℕ → FileFault T → Type 0
-IsFileLost name failures (lost.Unmade file why) = file ≡ name
-IsFileLost name failures (lost.Failed file) = HasRisen failures file.failures
+-- The file of this name can't be made, and the folder refuses it for this reason; or the device failed in a call of the file, which
+-- is returned: more of its calls have failed than these.
+abbrev pub IsFileLost : {T : Type 0} → (FileName → Refusal → Type 0) → FileName → ℕ → FileFault T → Type 0
+IsFileLost refuses name failures (lost.Unmade file why) = (file ≡ name) × refuses name why
+IsFileLost refuses name failures (lost.Failed file) = HasRisen failures file.failures
 
 -- the fault of the run that a lost file is
 abbrev pub lost_file_fault : {T : Type 0} → FileFault T → ThreadsFault

@@ -21,13 +21,17 @@ use std::io::Write;
 /// Makes the files of a folder. Contracts see the texts that the folder has under its names; of a folder whose texts aren't known
 /// each text counts as there.
 pub trait NewFiles<F: Write> {
-    ghost use Rattle.std.specs.Prelude.{◌≡◌, ℕ, List, Option, IfOk, OnOk};
+    ghost use Rattle.std.specs.Prelude.{◌≡◌, ℕ, List, Option, IfErr, IfOk, OnOk};
     ghost use Rattle.std.specs.Io.KnownBytes.{Appends};
+    ghost use Rattle.pc_types.specs.declared.refusal.Refusal.{Refusal};
     ghost use Rattle.pc_texts.specs.declared.file_names.FileName.{FileName};
     ghost use Rattle.pc_threads.specs.Files.{KeepsOtherFiles};
 
     // The folder has this text under this name.
     ghost holds: { Self → FileName → List ℕ → Type 0 };
+
+    // The folder refuses the file of this name for this reason, as it is made or as it becomes whole.
+    ghost refuses: { Self → FileName → Refusal → Type 0 };
 
     // The known bytes of a file that was just made.
     ghost blank: { Option (List ℕ) };
@@ -36,12 +40,14 @@ pub trait NewFiles<F: Write> {
     /// cause that prevents this.
     fn make(&mut self, name: &FileName) -> Result<F, Refusal>
         ensures blank { IfOk result (λ file. F.contents file ≡ blank) }
+        ensures refused { IfErr result (refuses self.new name.now) }
         ensures others { KeepsOtherFiles (holds self.old) (holds self.new) name.now };
 
     /// All bytes of the file were written and flushed: from now on it is whole, if it wasn't before. The other files stay. Its
     /// error is the cause that prevents this.
     fn finish(&mut self, name: &FileName, file: F) -> Result<(), Refusal>
         ensures whole { OnOk result ((text : List ℕ) → Appends blank (F.contents file) text → holds self.new name.now text) }
+        ensures refused { IfErr result (refuses self.new name.now) }
         ensures others { KeepsOtherFiles (holds self.old) (holds self.new) name.now };
 }
 
@@ -68,7 +74,7 @@ impl<F: Drop> From<FileFault<F>> for ThreadsFault {
     }
 }
 
-/// Makes the file. Its only error is that the file can't be made.
+/// Makes the file. Its only error is that the file can't be made, for a reason that the folder gives.
 pub fn make_file<F: Write, D: NewFiles<F>>(
     folder: &mut D,
     name: FileName,
@@ -76,7 +82,7 @@ pub fn make_file<F: Write, D: NewFiles<F>>(
     ensures blank { IfOk result (λ file. F.contents (inner_of file) ≡ D.blank) }
     ensures fresh { IfOk result (λ file. failures_of file ≡ 0) }
     ensures others { KeepsOtherFiles (D.holds folder.old) (D.holds folder.new) name }
-    ensures unmade { IfErr result (λ lost. (why : Refusal) × (lost ≡ FileFault.Unmade name why)) }
+    ensures unmade { IfErr result (λ lost. (why : Refusal) × (lost ≡ FileFault.Unmade name why) × D.refuses folder.new name why) }
 {
     match folder.make(&name) {
         Ok(file) => Ok(Tally::new(file)),
@@ -102,7 +108,7 @@ pub fn finish_file<F: Write + Drop, D: NewFiles<F>>(
 ) -> Result<(), FileFault<F>>
     ensures whole { OnOk result ((text : List ℕ) → Appends D.blank (F.contents (inner_of file)) text → D.holds folder.new name text) }
     ensures others { KeepsOtherFiles (D.holds folder.old) (D.holds folder.new) name }
-    ensures lost { IfErr result (IsFileLost name (failures_of file)) }
+    ensures lost { IfErr result (IsFileLost (D.refuses folder.new) name (failures_of file)) }
 {
     let mut file = file;
     if !flush_file(&mut file) {
@@ -124,7 +130,7 @@ pub fn write_part<F: Write + Drop, D: NewFiles<F>>(
     requires { part.now.points ≡ set.insert set.empty point }
     ensures whole { OnOk result (D.holds folder.new (file.Part point) (part_text part.now)) }
     ensures others { KeepsOtherFiles (D.holds folder.old) (D.holds folder.new) (file.Part point) }
-    ensures lost { IfErr result (IsFileLost (file.Part point) 0) }
+    ensures lost { IfErr result (IsFileLost (D.refuses folder.new) (file.Part point) 0) }
 {
     let mut file = make_file(folder, FileName::Part(point))?;
     match part.encode(&mut file) {

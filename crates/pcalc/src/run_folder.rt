@@ -199,6 +199,8 @@ impl<'a> NewFiles<RunFile<'a>> for NewFolder<'a> {
 
     ghost holds = { λ folder name text. ⊤ };
 
+    ghost refuses = { λ folder name why. ⊤ };
+
     ghost blank = { None };
 
     fn make(&mut self, name: &FileName) -> Result<RunFile<'a>, Refusal> {
