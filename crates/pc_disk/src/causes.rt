@@ -1,6 +1,7 @@
 //! The system's error for a file that couldn't be opened or read, kept until it is printed.
 use pc_io::Tally;
 use pc_texts::put_name;
+use pc_types::Refusal;
 use std::alloc::{AllocError, Global};
 use std::fs::File;
 use std::io;
@@ -83,6 +84,23 @@ impl Causes {
         }
     }
 
+    /// Keeps the failure of a file that can't be opened or read, or of a folder that can't be listed; returns how the program reports
+    /// it.
+    pub fn note_unread(&self, doing: Doing, path: &str, error: Error) -> Refusal {
+        self.note(doing, path, error);
+        match error.kind() {
+            ErrorKind::NotFound => Refusal::NoFile,
+            ErrorKind::OutOfMemory => Refusal::OutOfMemory,
+            _ => Refusal::Device,
+        }
+    }
+
+    /// Keeps the failure of a file that can't be made, named or locked; returns how the program reports it.
+    pub fn note_unmade(&self, doing: Doing, path: &str, error: Error) -> Refusal {
+        self.note(doing, path, error);
+        why_unmade(&error)
+    }
+
     /// The first failure of this path.
     pub fn of_path(&self, path: &str) -> Option<&Cause> {
         for place in &self.kept {
@@ -118,6 +136,14 @@ impl Causes {
         }
         None
     }
+}
+
+// Why a file can't be made, named or locked, as the program reports it.
+pub(crate) fn why_unmade(e: &Error) -> Refusal {
+    if e.kind() == ErrorKind::OutOfMemory {
+        return Refusal::OutOfMemory;
+    }
+    Refusal::Device
 }
 
 // Whether the failure is of a file whose path ends with this name, as names are printed.

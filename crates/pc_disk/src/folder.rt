@@ -6,11 +6,11 @@ use pc_restore::Folder;
 use pc_texts::{NamedFile, report};
 use pc_types::Refusal;
 use std::alloc::{AllocError, Global};
+use std::fs;
 use std::fs::{FileType, Files};
-use std::io::{ErrorKind, Write};
+use std::io::Write;
 use std::os::unix::fs::FileTypeExt;
 use std::string::String;
-use std::{fs, io};
 
 /// The name of the base in a folder.
 pub const BASE: &str = "base.pcb";
@@ -76,21 +76,10 @@ fn open_named<'a>(
     match fs::open(dir.rt, path.as_str()) {
         Ok(file) => Ok(Ok(LateFile::of_open(dir.rt, dir.causes, path, file))),
         Err(e) => {
-            dir.causes.note(Doing::Opening, path.as_str(), e);
-            Ok(Err(why_not(&e)))
+            let why = dir.causes.note_unread(Doing::Opening, path.as_str(), e);
+            Ok(Err(why))
         }
     }
-}
-
-/// Why a file can't be opened or a folder can't be listed, as the program reports it.
-pub fn why_not(e: &io::Error) -> Refusal {
-    if e.kind() == ErrorKind::NotFound {
-        return Refusal::NoFile;
-    }
-    if e.kind() == ErrorKind::OutOfMemory {
-        return Refusal::OutOfMemory;
-    }
-    Refusal::Device
 }
 
 /// The names of what the folder has, each ended by a NUL. They are bytes, since a name need not be UTF-8.
@@ -99,10 +88,7 @@ pub fn names_in(dir: ReadFolder<'_>) -> Result<Vec<u8>, Refusal> {
     let path = path_in(alloc, dir.path, "")?;
     match dir.rt.open_dir(path.as_str()) {
         Ok(names) => read_all(alloc, &mut Tally::new(names)),
-        Err(e) => {
-            dir.causes.note(Doing::Listing, dir.path, e);
-            Err(why_not(&e))
-        }
+        Err(e) => Err(dir.causes.note_unread(Doing::Listing, dir.path, e)),
     }
 }
 

@@ -1,5 +1,5 @@
 //! How a file is made so that nothing is lost: under another name, and renamed once it is whole.
-use crate::causes::{Causes, Doing, Noted};
+use crate::causes::{Causes, Doing, Noted, why_unmade};
 use pc_types::Refusal;
 use std::alloc::AllocError;
 use std::fs::{File, Metadata};
@@ -49,9 +49,10 @@ impl<'a> Target<'a> {
             Ok(found) if is_stream(&found, self.path.as_str()) => self.open_stream(),
             found => self.make_apart(found.ok()),
         };
+        let causes = self.causes;
         match opened {
-            Ok(file) => Ok(Noted::new(file, path, self.causes)),
-            Err(e) => Err(self.failed(Doing::Making, e)),
+            Ok(file) => Ok(Noted::new(file, path, causes)),
+            Err(e) => Err(causes.note_unmade(Doing::Making, self.path.as_str(), e)),
         }
     }
 
@@ -100,16 +101,17 @@ impl<'a> Target<'a> {
                 return Err(why_unmade(&e));
             }
         }
-        if let Err(e) = fs::rename(self.rt, apart.as_str(), self.path.as_str()) {
-            return Err(self.failed(Doing::Naming, e));
+        let (causes, path) = (self.causes, self.path.as_str());
+        if let Err(e) = fs::rename(self.rt, apart.as_str(), path) {
+            return Err(causes.note_unmade(Doing::Naming, path, e));
         }
         self.apart = None;
         if !is_synced {
             return Ok(());
         }
-        match sync_folder(self.rt, folder_of(self.path.as_str())) {
+        match sync_folder(self.rt, folder_of(path)) {
             Ok(()) => Ok(()),
-            Err(e) => Err(self.failed(Doing::Syncing, e)),
+            Err(e) => Err(causes.note_unmade(Doing::Syncing, path, e)),
         }
     }
 
@@ -119,11 +121,6 @@ impl<'a> Target<'a> {
             let _ = fs::remove_file(self.rt, apart.as_str());
             self.apart = None;
         }
-    }
-
-    fn failed(&self, doing: Doing, e: io::Error) -> Refusal {
-        self.causes.note(doing, self.path.as_str(), e);
-        why_unmade(&e)
     }
 }
 
@@ -145,12 +142,4 @@ pub fn folder_of(path: &str) -> &str {
 /// The names that the folder has reach its device.
 pub fn sync_folder(rt: &HostRuntime, path: &str) -> io::Result<()> {
     File::open(rt, path)?.sync_all()
-}
-
-/// Why a file can't be made or get its name, as the program reports it.
-pub fn why_unmade(e: &io::Error) -> Refusal {
-    if e.kind() == ErrorKind::OutOfMemory {
-        return Refusal::OutOfMemory;
-    }
-    Refusal::Device
 }

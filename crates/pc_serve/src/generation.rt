@@ -2,11 +2,10 @@
 ghost use Rattle.std.specs.Prelude.{[], IfOk};
 ghost use Rattle.pc_engine.specs.Stands.{Stands};
 
-use crate::generations::generation_path;
 use crate::log_file::LogFile;
 use crate::points::DiskPoints;
 use crate::serving::{Store, open};
-use pc_disk::{LOG, path_in};
+use pc_disk::{LOG, generation_path, path_in};
 use pc_engine::World;
 use pc_io::Tally;
 use pc_opening::{OpenedStore, next_base};

@@ -2,13 +2,10 @@
 #![tactic(auto)]
 
 mod generation;
-mod generations;
 mod log_file;
 mod owner;
 mod points;
-mod recovered;
 mod serving;
 mod terminal;
 
-pub use recovered::RecoveredFolder;
 pub use serving::serve_folder;

@@ -1,5 +1,5 @@
 //! The log of a store that is served, on the disk.
-use pc_disk::{Doing, Noted, ReadFolder, why_unmade};
+use pc_disk::{Doing, Noted, ReadFolder};
 use pc_turn::LogDevice;
 use pc_types::Refusal;
 use std::fs::File;
@@ -23,10 +23,7 @@ impl<'a> LogFile<'a> {
                 file: Noted::new(file, named, dir.causes),
                 is_synced,
             }),
-            Err(e) => {
-                dir.causes.note(Doing::Opening, path, e);
-                Err(why_unmade(&e))
-            }
+            Err(e) => Err(dir.causes.note_unmade(Doing::Opening, path, e)),
         }
     }
 }

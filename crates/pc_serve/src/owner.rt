@@ -1,7 +1,6 @@
 //! A folder of generations is one process's own.
-use crate::generations::GenerationFolders;
 use pc_disk::{
-    Doing, ReadFolder, folder_of, is_run_file, names_in, path_in, sync_folder, why_unmade,
+    Doing, GenerationFolders, ReadFolder, folder_of, is_run_file, names_in, path_in, sync_folder,
 };
 use pc_generations::latest_generation;
 use pc_types::Refusal;
@@ -78,8 +77,8 @@ fn make_folder(dir: ReadFolder<'_>) -> Result<(), Unowned> {
         Ok(()) => Ok(()),
         Err(e) if e.kind() == ErrorKind::AlreadyExists => look(dir),
         Err(e) => {
-            dir.causes.note(Doing::Making, dir.path, e);
-            Err(Unowned::Unusable(why_unmade(&e)))
+            let why = dir.causes.note_unmade(Doing::Making, dir.path, e);
+            Err(Unowned::Unusable(why))
         }
     }
 }
@@ -116,6 +115,8 @@ fn lock_folder(dir: ReadFolder<'_>) -> Result<File, Unowned> {
         },
         Err(e) => e,
     };
-    dir.causes.note(Doing::Locking, path.as_str(), failed);
-    Err(Unowned::Unusable(why_unmade(&failed)))
+    let why = dir
+        .causes
+        .note_unmade(Doing::Locking, path.as_str(), failed);
+    Err(Unowned::Unusable(why))
 }

@@ -3,15 +3,13 @@ ghost use Rattle.std.specs.Prelude.{◌≡◌, ◌≤◌, [], IfOk};
 ghost use Rattle.pc_engine.specs.Stands.{Stands};
 
 use crate::generation::{Failure, Generation, serve_generations};
-use crate::generations::{GenerationFolders, generation_path};
 use crate::owner::{Unowned, own};
-use crate::recovered::RecoveredFolder;
 use crate::terminal::Typed;
 use itoa::Buffer;
 use pc_bases::Base;
 use pc_disk::{
-    Causes, FoundFolder, INPUT, LOG, LateFile, Noted, ReadFolder, open_folder, output_before,
-    path_in, tell_unopened,
+    Causes, FoundFolder, GenerationFolders, INPUT, LOG, LateFile, Noted, ReadFolder,
+    RecoveredFolder, generation_path, open_folder, output_before, path_in, tell_unopened,
 };
 use pc_engine::World;
 use pc_explanations::{About, Explained, Explainer, explain_output, is_explained};

@@ -1,9 +1,8 @@
 //! A folder that is made of lines of pairs.
-use crate::dumping::form_of;
-use crate::parts::open_named;
 use crate::run_folder::{Claim, NewFolder};
 use itoa::Buffer;
 use pc_bases::Base;
+use pc_commands::{form_of, open_named};
 use pc_disk::{BASE, Causes, LOG, ReadFolder};
 use pc_explanations::{About, Explained, Explainer, explain_output, is_explained};
 use pc_io::Tally;

@@ -1,37 +1,24 @@
-//! The program `pcalc`: it runs scripts and workloads, joins, recovers, checks and prints files, dumps and loads pairs, and serves
-//! stores.
+//! The program `pcalc`: it runs workloads, loads pairs, and hands all other commands to their crates.
 #![tactic(auto)]
 
-mod dumping;
 mod gate;
-mod joining;
 mod loading;
-mod logging;
-mod parts;
-mod recovering;
 mod run_folder;
 mod running;
 mod showing;
-mod stepping;
-mod verifying;
 
 use clap::Error;
 use clap::error::ErrorKind;
-use dumping::dump_folder;
-use joining::join_parts;
 use loading::load_folder;
-use logging::show_log;
+use pc_commands::{dump_folder, join_parts, recover_folder, show_log, step_script, verify_paths};
 use pc_disk::fill_places;
 use pc_options::{Task, task_of, unreadable};
 use pc_serve::serve_folder;
-use recovering::recover_folder;
 use running::run_clients;
 use std::process::ExitCode;
 use std::sync::Wait;
 use std::thread::Threads;
 use std::{env, io};
-use stepping::step_script;
-use verifying::verify_paths;
 
 fn main(rt: HostRuntime) -> ExitCode {
     match run_command(&rt, &rt) {

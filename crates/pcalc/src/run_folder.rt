@@ -1,7 +1,7 @@
 //! The folder in which a run makes its files: it is claimed before anything else is done, and no other process can claim it.
 use pc_disk::{
     BASE, Causes, Doing, LOG, Noted, ReadFolder, Target, is_run_file, names_in, path_in,
-    sync_folder, why_unmade,
+    sync_folder,
 };
 use pc_runs::{NewFiles, RunFolder, Unusable};
 use pc_texts::{FileName, part_name};
@@ -84,8 +84,8 @@ fn claim_folder(dir: ReadFolder<'_>) -> Result<Result<File, Unmade>, AllocError>
             return Ok(Err(Unmade::Unusable(Unusable::NotEmpty)));
         }
         Err(e) => {
-            dir.causes.note(Doing::Making, path.as_str(), e);
-            return Ok(Err(Unmade::Failed(why_unmade(&e))));
+            let why = dir.causes.note_unmade(Doing::Making, path.as_str(), e);
+            return Ok(Err(Unmade::Failed(why)));
         }
     };
     // A file system may have no locks: the file's name is a hold too.
@@ -177,8 +177,8 @@ impl<'a> NewFolder<'a> {
         match self.claimed_log() {
             Ok(file) => Ok(Noted::new(file, path, claim.dir.causes)),
             Err(e) => {
-                claim.dir.causes.note(Doing::Making, path.as_str(), e);
-                Err(why_unmade(&e))
+                let causes = claim.dir.causes;
+                Err(causes.note_unmade(Doing::Making, path.as_str(), e))
             }
         }
     }

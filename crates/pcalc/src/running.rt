@@ -1,11 +1,11 @@
 //! A run of a workload: its files, its progress, and its final report.
 use crate::gate::RunGate;
-use crate::parts::open_named;
 use crate::run_folder::Claim;
 use crate::showing::run_shown;
+use pc_commands::open_named;
 use pc_disk::{
-    Causes, FoundFolder, LateFile, Noted, ReadFolder, Target, folder_of, open_folder,
-    output_before, tell_unopened,
+    Causes, FoundFolder, LateFile, Noted, ReadFolder, RecoveredFolder, Target, folder_of,
+    open_folder, output_before, tell_unopened,
 };
 use pc_explanations::{About, Explained, Explainer, explain_output, is_explained};
 use pc_io::Tally;
@@ -14,7 +14,6 @@ use pc_options::RunOptions;
 use pc_progress::{Asked, Behind, Progress};
 use pc_reasons::{put_workload_fault, workload_fault};
 use pc_runs::{Crew, NamedFolder, Origin, RunContext, Start, run_workload};
-use pc_serve::RecoveredFolder;
 use pc_texts::{NamedFile, read_opened, report, report_words};
 use pc_types::Refusal;
 use std::alloc::{AllocError, Global};

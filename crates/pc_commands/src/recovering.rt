@@ -1,10 +1,11 @@
 //! Prints the state recovered from a folder's files, or from those of the generation that counts.
-use pc_disk::{Causes, FoundFolder, ReadFolder, open_folder, output_before, tell_unopened};
+use pc_disk::{
+    Causes, FoundFolder, ReadFolder, RecoveredFolder, open_folder, output_before, tell_unopened,
+};
 use pc_explanations::{About, Explained, Explainer, Lacking, explain_output, is_explained};
 use pc_io::Tally;
 use pc_options::RecoverOptions;
 use pc_restore::{EndedRecovery, run_recover};
-use pc_serve::RecoveredFolder;
 use std::io;
 use std::io::Write;
 

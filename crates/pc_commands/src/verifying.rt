@@ -1,11 +1,12 @@
 //! Files that are read by their own readers, and what recovery makes of a folder of them.
 use crate::parts::open_named;
-use pc_disk::{Causes, FoundFolder, ReadFolder, open_folder, output_before, tell_unopened};
+use pc_disk::{
+    Causes, FoundFolder, ReadFolder, RecoveredFolder, open_folder, output_before, tell_unopened,
+};
 use pc_explanations::{About, Explained, Explainer, explain_output, is_explained};
 use pc_io::Tally;
 use pc_options::VerifyOptions;
 use pc_restore::{Folder, run_recover};
-use pc_serve::RecoveredFolder;
 use pc_texts::{NamedFile, end_output, report};
 use pc_types::Refusal;
 use pc_verify::{FileKind, verify_file};

@@ -1,7 +1,7 @@
 //! The folder whose files are recovered if a folder is named: its own, or one in it.
+use crate::folder::{BASE, ReadFolder, path_in};
 use crate::generations::{GenerationFolders, generation_path};
 use itoa::Buffer;
-use pc_disk::{BASE, ReadFolder, path_in};
 use pc_generations::latest_generation;
 use pc_io::Tally;
 use pc_types::Refusal;

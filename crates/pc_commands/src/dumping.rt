@@ -1,12 +1,15 @@
 //! The pairs recovered from a folder's files, a line for each.
-use pc_disk::{Causes, FoundFolder, ReadFolder, open_folder, output_before, tell_unopened};
+ghost use Rattle.std.specs.Prelude.{◌≡◌, if◌then◌else◌};
+
+use pc_disk::{
+    Causes, FoundFolder, ReadFolder, RecoveredFolder, open_folder, output_before, tell_unopened,
+};
 use pc_explanations::{About, Explained, Explainer, explain_output, is_explained};
 use pc_io::Tally;
 use pc_lines::text_of;
 use pc_options::DumpOptions;
 use pc_pairs::{Choice, Form, Undumped, run_dump};
 use pc_restore::{tell_lost, tell_reason};
-use pc_serve::RecoveredFolder;
 use pc_texts::report_words;
 use pc_types::Point;
 use std::borrow::CowSlice;
@@ -81,7 +84,9 @@ fn dump<E: Write>(
 }
 
 /// The form of lines, JSON or not.
-pub fn form_of(is_json: bool) -> Form {
+pub fn form_of(is_json: bool) -> Form
+    ensures { result ≡ (if is_json then Form.Json else Form.Words) }
+{
     if is_json { Form::Json } else { Form::Words }
 }
 

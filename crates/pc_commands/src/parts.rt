@@ -1,6 +1,6 @@
 //! Files by their paths: the part files that a collapse reads, and the one that it makes.
 use pc_collapse_files::Maker;
-use pc_disk::{Causes, Doing, LateFile, Noted, Target, why_not};
+use pc_disk::{Causes, Doing, LateFile, Noted, Target};
 use pc_texts::NamedFile;
 use pc_types::Refusal;
 use std::fs::File;
@@ -72,10 +72,7 @@ impl<'a> Inputs<'a> {
         };
         let opened = match tried {
             None => Ok(LateFile::new(self.rt, self.causes, String::from_str(alloc, path)?)),
-            Some(e) => {
-                self.causes.note(Doing::Opening, path, e);
-                Err(why_not(&e))
-            }
+            Some(e) => Err(self.causes.note_unread(Doing::Opening, path, e)),
         };
         let file = NamedFile { name, opened };
         Ok(Input { file, is_plain })
@@ -101,10 +98,7 @@ pub fn open_named<'a>(
     let named = String::from_str(rt.alloc(), path)?;
     match fs::open(rt, path) {
         Ok(file) => Ok(Noted::new(file, named, causes)),
-        Err(e) => {
-            causes.note(Doing::Opening, path, e);
-            Err(why_not(&e))
-        }
+        Err(e) => Err(causes.note_unread(Doing::Opening, path, e)),
     }
 }
 
@@ -117,10 +111,7 @@ pub fn is_other_file(rt: &HostRuntime, causes: &Causes, path: &str) -> Result<bo
     }
     match magic_of(rt, path) {
         Ok(magic) => Ok(!PART_MAGICS.contains(&magic.as_slice())),
-        Err(e) => {
-            causes.note(Doing::Reading, path, e);
-            Err(why_not(&e))
-        }
+        Err(e) => Err(causes.note_unread(Doing::Reading, path, e)),
     }
 }
 

@@ -1,5 +1,7 @@
 //! The generations of a folder on the disk.
-use pc_disk::{Doing, ReadFolder, Target, names_in, path_in, sync_folder, why_not, why_unmade};
+use crate::causes::Doing;
+use crate::folder::{ReadFolder, names_in, path_in};
+use crate::making::{Target, sync_folder};
 use pc_generations::{BASE_NAME, Generations, generation_name, number_in};
 use pc_types::Refusal;
 use std::alloc::{AllocError, Global};
@@ -48,12 +50,6 @@ impl<'a> GenerationFolders<'a> {
         fs::create_dir(self.dir.rt, path)?;
         sync_folder(self.dir.rt, self.dir.path)
     }
-
-    // The cause of a failed call, which is noted.
-    fn failed(&self, doing: Doing, path: &str, e: io::Error) -> Refusal {
-        self.dir.causes.note(doing, path, e);
-        why_unmade(&e)
-    }
 }
 
 // No contract knows the contents of a disk.
@@ -77,8 +73,8 @@ impl<'a> Generations for GenerationFolders<'a> {
         match fs::exists(self.dir.rt, path.as_str()) {
             Ok(is_there) => Ok(is_there),
             Err(e) => {
-                self.dir.causes.note(Doing::Opening, path.as_str(), e);
-                Err(why_not(&e))
+                let causes = self.dir.causes;
+                Err(causes.note_unread(Doing::Opening, path.as_str(), e))
             }
         }
     }
@@ -87,7 +83,10 @@ impl<'a> Generations for GenerationFolders<'a> {
         let path = generation_path(self.dir, number)?;
         match self.make_anew(path.as_str()) {
             Ok(()) => Ok(()),
-            Err(e) => Err(self.failed(Doing::Making, path.as_str(), e)),
+            Err(e) => {
+                let causes = self.dir.causes;
+                Err(causes.note_unmade(Doing::Making, path.as_str(), e))
+            }
         }
     }
 
@@ -103,7 +102,10 @@ impl<'a> Generations for GenerationFolders<'a> {
         let path = generation_path(self.dir, number)?;
         match self.clear(path.as_str()) {
             Ok(()) => Ok(()),
-            Err(e) => Err(self.failed(Doing::Removing, path.as_str(), e)),
+            Err(e) => {
+                let causes = self.dir.causes;
+                Err(causes.note_unmade(Doing::Removing, path.as_str(), e))
+            }
         }
     }
 }
