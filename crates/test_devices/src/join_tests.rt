@@ -156,7 +156,7 @@ fn a_reader_that_fails_at_each_place(rt: HostRuntime) -> Result<(), Fail> {
 // A writer takes each number of bytes in turn, and then fails: just these went out, and `Device` is returned if they aren't
 // all.
 #[test]
-fn a_writer_that_takes_so_many_bytes(rt: HostRuntime) -> Result<(), Fail> {
+fn a_writer_that_takes_each_number_of_bytes(rt: HostRuntime) -> Result<(), Fail> {
     let alloc = rt.alloc();
     for first in FIRSTS {
         let text = wanted(alloc, first, &SECOND)?;

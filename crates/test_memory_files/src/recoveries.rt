@@ -301,7 +301,7 @@ fn wrong_of(alloc: Global, row: &RecoveryRow) -> Result<&'static str, Refusal> {
 
 // Whichever growth is refused, asked again the recovered state is the same.
 #[test]
-fn files_are_worth_the_same_at_each_refused_growth(rt: HostRuntime) -> Result<(), Fail> {
+fn files_recover_the_same_at_each_refused_growth(rt: HostRuntime) -> Result<(), Fail> {
     for (i, row) in ROWS.iter().enumerate() {
         assert_eq!(rt; wrong_of(rt.alloc(), row)?, "nothing", "row {i}");
     }

@@ -130,15 +130,15 @@ fn push_lacks(alloc: Global, text: &mut Vec<u8>, lacks: &Lacks) -> Result<(), Re
         Some(count) => format!(in alloc; "{count}")?,
         None => String::from_str(alloc, "none")?,
     };
-    let (skipped, worth) = (lacks.skipped, worth_of(lacks));
+    let (skipped, verdict) = (lacks.skipped, verdict_of(lacks));
     let line = format!(in alloc;
-        "lacks header {header} fault {fault} unused {unused} skipped {skipped}: {worth}\n"
+        "lacks header {header} fault {fault} unused {unused} skipped {skipped}: {verdict}\n"
     )?;
     text.extend_from_slice(line.as_bytes())?;
     Ok(())
 }
 
-fn worth_of(lacks: &Lacks) -> &'static str {
+fn verdict_of(lacks: &Lacks) -> &'static str {
     match (lacks.is_whole(), lacks.is_damaged()) {
         (true, false) => "whole",
         (false, false) => "cut off",
