@@ -1,13 +1,22 @@
 -- What the rules of a recovery come to.
-use Rattle.std.proofs.Common.{◌≡◌, ℕ, zero, suc, ◌+◌, ◌<◌, ◌≤◌, ◌==◌, nat_le, Bool, true, false, List, [], ◌∷◌, Option, Some, None, Result, cond, refl, sym, ap, ◌∙◌, arith}
+use Rattle.std.proofs.Common.{◌≡◌, ◌⊎◌, inl, inr, ℕ, zero, suc, ◌+◌, ◌<◌, ◌≤◌, ◌==◌, nat_le, Bool, true, false, List, [], ◌∷◌, Option, Some, None, Result, cond, refl, sym, ap, ◌∙◌, arith}
 use Rattle.std.proofs.lemmas.Bool.Decides.{nat_tests}
 use Rattle.pc_types.specs.declared.limits.TheConstants.{MOST_POINTS}
 use Rattle.pc_types.specs.declared.refusal.Refusal.{Refusal}
 use Rattle.pc_model.specs.Files.{File}
 use Rattle.pc_recover.specs.declared.recovered.Skipped.{Skipped}
 use Rattle.pc_recover.specs.Recovery.{reaches, last_reached, why_unused, with_reason, unused_from}
-use Rattle.pc_recover.proofs.RecoveredPoints.{last_is_reached, last_from_base}
 use Rattle.pc_restarts.specs.Rules.{RecoveriesReachFurthest, RecoveriesSkipUnusedParts, AscendFrom, reason_for, why_unused_at}
+
+-- the last point that is reached is reached, or none is and it is the base's
+last_reached_is : (base : ℕ) (files : List File) (k : ℕ) → (last_reached base files k ≡ base) ⊎ (reaches base files (last_reached base files k) ≡ true)
+last_reached_is base files zero = inl refl
+last_reached_is base files (suc k) = by (reaches base files (suc k)) refl (last_reached_is base files k)
+  where
+    by : (t : Bool) → reaches base files (suc k) ≡ t → (last_reached base files k ≡ base) ⊎ (reaches base files (last_reached base files k) ≡ true)
+        → (cond t (suc k) (last_reached base files k) ≡ base) ⊎ (reaches base files (cond t (suc k) (last_reached base files k)) ≡ true)
+    by true is before = inr is
+    by false is before = before
 
 -- no point up to this one and after the last one that is reached is reached
 none_later : (base : ℕ) (files : List File) (k later : ℕ) → last_reached base files k < later → later ≤ k → reaches base files later ≡ false
@@ -26,8 +35,7 @@ none_later base files (suc k) later low high = by (reaches base files (suc k)) r
 
 pub reach_furthest : RecoveriesReachFurthest
 reach_furthest base files = record {
-  reached = last_is_reached base files MOST_POINTS;
-  from_base = last_from_base base files MOST_POINTS;
+  reached = last_reached_is base files MOST_POINTS;
   greatest = none_later base files MOST_POINTS;
 }
 
@@ -60,14 +68,12 @@ module _ (point : ℕ) (gap : Option ℕ) where
       by : (why : Option Refusal) → reason_for (start + 0) (with_reason start why (unused_from (start + 1) point gap parts)) ≡ why
       by None = none_before (start + 0) (start + 1) (unused_from (start + 1) point gap parts) (omega arith) (ascending (start + 1) parts)
       by (Some why) = let same : (start == (start + 0)) ≡ true = grind (arith, nat_tests) in ap (λ t. cond t (Some why) (reason_for (start + 0) (unused_from (start + 1) point gap parts))) same
-  reasons start (suc place) (part ∷ parts) = by (why_unused point gap part)
+  reasons start (suc place) (part ∷ parts) = by (why_unused point gap part) (let one : start + suc place ≡ (start + 1) + place = omega arith in ap (λ p. reason_for p (unused_from (start + 1) point gap parts)) one ∙ reasons (start + 1) place parts)
     where
-      next : reason_for (start + suc place) (unused_from (start + 1) point gap parts) ≡ why_unused_at point gap parts place
-      next = let one : start + suc place ≡ (start + 1) + place = omega arith in ap (λ p. reason_for p (unused_from (start + 1) point gap parts)) one ∙ reasons (start + 1) place parts
-
-      by : (why : Option Refusal) → reason_for (start + suc place) (with_reason start why (unused_from (start + 1) point gap parts)) ≡ why_unused_at point gap parts place
-      by None = next
-      by (Some why) = let apart : (start == (start + suc place)) ≡ false = grind (arith, nat_tests) in ap (λ t. cond t (Some why) (reason_for (start + suc place) (unused_from (start + 1) point gap parts))) apart ∙ next
+      by : (why : Option Refusal) → reason_for (start + suc place) (unused_from (start + 1) point gap parts) ≡ why_unused_at point gap parts place
+          → reason_for (start + suc place) (with_reason start why (unused_from (start + 1) point gap parts)) ≡ why_unused_at point gap parts place
+      by None next = next
+      by (Some why) next = let apart : (start == (start + suc place)) ≡ false = grind (arith, nat_tests) in ap (λ t. cond t (Some why) (reason_for (start + suc place) (unused_from (start + 1) point gap parts))) apart ∙ next
 
 pub skip_unused : RecoveriesSkipUnusedParts
-skip_unused point gap parts = ((λ place. reasons point gap 0 place parts), ascending point gap 0 parts)
+skip_unused point gap parts = ((λ place. let from : 0 + place ≡ place = omega arith in ap (λ p. reason_for p (unused_from 0 point gap parts)) (sym from) ∙ reasons point gap 0 place parts), ascending point gap 0 parts)

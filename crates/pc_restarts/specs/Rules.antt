@@ -1,16 +1,15 @@
 -- What the rules of a recovery come to: which point it reaches, and which parts it passes over. The rules go over points and parts in
 -- order; these are the same sentences of any point and any part.
-use Rattle.std.specs.Prelude.{◌≡◌, ◌≤◌, ◌<◌, ◌+◌, ◌==◌, ⊤, ℕ, zero, suc, true, false, List, [], ◌∷◌, Option, Some, None, Result, if◌then◌else◌}
+use Rattle.std.specs.Prelude.{◌≡◌, ◌⊎◌, ◌≤◌, ◌<◌, ◌+◌, ◌==◌, ⊤, ℕ, zero, suc, true, false, List, [], ◌∷◌, Option, Some, None, Result, if◌then◌else◌}
 use Rattle.pc_types.specs.declared.limits.TheConstants.{MOST_POINTS}
 use Rattle.pc_types.specs.declared.refusal.Refusal.{Refusal}
 use Rattle.pc_model.specs.Files.{File}
 use Rattle.pc_recover.specs.declared.recovered.Skipped.{Skipped}
 use Rattle.pc_recover.specs.Recovery.{reaches, recovered_point, why_unused, unused_from}
 
--- The recovered point is reached by the files from the base's, isn't before that, and no later point is reached.
+-- The recovered point is the base's, or the files reach it from there; and they reach no later one.
 pub record IsGreatestReached (base : ℕ) (files : List File) (point : ℕ) : Type 0 where
-  pub reached : reaches base files point ≡ true
-  pub from_base : base ≤ MOST_POINTS → base ≤ point
+  pub reached : (point ≡ base) ⊎ (reaches base files point ≡ true)
   pub greatest : (later : ℕ) → point < later → later ≤ MOST_POINTS → reaches base files later ≡ false
 
 abbrev pub RecoveriesReachFurthest : Type 0
