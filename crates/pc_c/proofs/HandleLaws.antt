@@ -1,4 +1,4 @@
--- A handle that has nothing, if an allocation failed for a store after it.
+-- A handle that has nothing, if an allocation failed for its store.
 use Rattle.std.proofs.Common.{◌≡◌, inr, ℕ, Option, None, refl, sym, subst}
 use Rattle.pc_types.specs.declared.refusal.Refusal.TheVariants.{OutOfMemory}
 use Rattle.pc_wire.specs.Answers.{refusal_number, refusal_told}

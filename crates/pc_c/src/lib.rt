@@ -140,7 +140,7 @@ pub extern "C" fn pcalc_copy(
     }
 }
 
-/// Ends the store after the handle, which then has nothing.
+/// Ends the store of the handle, which then has nothing.
 #[unsafe(no_mangle)]
 pub extern "C" fn pcalc_close(alloc: Global, handle: &mut Handle)
     ensures { handle.new.value ≡ None }
