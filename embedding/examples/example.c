@@ -1,4 +1,4 @@
-/* Two transactions, a point, the texts that are to be kept, and a store that is recovered from them. */
+/* Two transactions, a point, the texts to keep, and a store that is recovered from them. */
 #include "pcalc.h"
 
 #include <stdio.h>
@@ -15,7 +15,7 @@ static void must(uint32_t told, uint32_t wanted, int line)
 
 #define MUST(call, wanted) must(call, wanted, __LINE__)
 
-/* What is shown, in memory of its own. */
+/* A copy of a text that the store shows. */
 static uint8_t *shown(pcalc *store, uint32_t what, uint32_t number, pcalc_answer *answer)
 {
     uint8_t none = 0;
@@ -37,12 +37,12 @@ static void commits_and_dies(pcalc *store)
     MUST(pcalc_add(store, 1, 0, "sold", 4, 5, &answer), PCALC_SUM);
     printf("sum %lld\n", (long long)answer.sum);
     MUST(pcalc_begin(store, 2, &answer), PCALC_BEGUN);
-    MUST(pcalc_get(store, 2, 0, "fig", 3, room, sizeof room, &answer), PCALC_DIED); /* the younger one of two dies */
+    MUST(pcalc_get(store, 2, 0, "fig", 3, room, sizeof room, &answer), PCALC_DIED); /* the younger of two dies */
     MUST(pcalc_abort(store, 2, &answer), PCALC_ABORTED);
     MUST(pcalc_commit(store, 1, &answer), PCALC_COMMITTED);
     printf("committed %llu\n", (unsigned long long)answer.number);
     MUST(pcalc_begin(store, 2, &answer), PCALC_BEGUN);
-    MUST(pcalc_get(store, 2, 0, "fig", 3, room, sizeof room, &answer), PCALC_FOUND); /* a room that is too short */
+    MUST(pcalc_get(store, 2, 0, "fig", 3, room, sizeof room, &answer), PCALC_FOUND); /* a buffer that is too short */
     printf("found %.2s of %llu bytes\n", room, (unsigned long long)answer.value_bytes);
     MUST(pcalc_get(store, 2, 0, "pear", 4, NULL, 0, &answer), PCALC_ABSENT);
     MUST(pcalc_get(store, 2, 65536, "fig", 3, NULL, 0, &answer), PCALC_REFUSED);
@@ -65,12 +65,12 @@ static void takes_a_point(pcalc *store)
     MUST(pcalc_phase(store, PCALC_REST, &answer), PCALC_PHASE);
 }
 
-/* Opens a store over the base, the part and the log of another one. */
+/* Opens a store over the base and the part of another one. */
 static void goes_on(pcalc *from, const pcalc_options *options)
 {
     pcalc store = PCALC_NONE;
     pcalc_answer answer;
-    pcalc_worth worth;
+    pcalc_recovered recovered;
     char room[8];
     const uint32_t texts[][2] = { { PCALC_BASE, 0 }, { PCALC_PART, 1 } };
     for (int i = 0; i < 2; i++) {
@@ -78,8 +78,9 @@ static void goes_on(pcalc *from, const pcalc_options *options)
         MUST(pcalc_give(&store, texts[i][0], text, answer.value_bytes, &answer), PCALC_GIVEN);
         free(text);
     }
-    MUST(pcalc_recover(&store, &worth), 0);
-    printf("worth: point %u pairs %llu of run %llu\n", (unsigned)worth.point, (unsigned long long)worth.pairs, (unsigned long long)worth.run);
+    MUST(pcalc_recover(&store, &recovered), 0);
+    printf("recovered: point %u pairs %llu of run %llu\n", (unsigned)recovered.point, (unsigned long long)recovered.pairs,
+           (unsigned long long)recovered.run);
     MUST(pcalc_open(&store, options, &answer), PCALC_OPENED);
     MUST(pcalc_open(&store, options, &answer), PCALC_OPEN);
     MUST(pcalc_begin(&store, 1, &answer), PCALC_BEGUN);

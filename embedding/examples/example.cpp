@@ -1,4 +1,4 @@
-// Transactions that are committed and undone, and a store that goes on from the texts of another one.
+// Transactions that are committed and undone, and a store that starts from the texts of another one.
 #include "pcalc.hpp"
 
 #include <iostream>

@@ -1,4 +1,4 @@
-"""Transactions that are committed and undone, threads, and a store that goes on from the texts of another one."""
+"""Transactions that are committed and undone, threads, and a store that starts from the texts of another one."""
 import threading
 
 import pcalc_embedded

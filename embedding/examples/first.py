@@ -1,4 +1,4 @@
-"""Two transactions, and a store that goes on from what was kept of the first one."""
+"""Two transactions, and a store that starts from what was kept of the first one."""
 import pcalc_embedded
 with pcalc_embedded.Store() as store:
     with store.transaction() as t:              # committed at the end of the block, aborted if it raises

@@ -1,5 +1,5 @@
-/* Four threads add to shared keys while a fifth one takes points. With a folder, `threads DIR` leaves there what `pcalc recover DIR` reads;
- * with a second one, `threads DIR OLD`, the store begins with what OLD is worth. */
+/* Four threads add to shared keys while a fifth one takes points. `threads DIR` also writes the folder DIR, which `pcalc recover DIR` reads;
+ * with `threads DIR OLD` the store starts with the state recovered from the folder OLD. */
 #include "pcalc_threads.h"
 
 enum { THREADS = 4, ADDS = 250, POINTS = 3, KEYS = 10 };
@@ -9,7 +9,7 @@ struct worker {
     uint32_t session;
 };
 
-/* One transaction; false where it died, and then it is undone. */
+/* One transaction; returns false if it died, and then it is undone. */
 static bool adds_once(pcalc_shared *shared, uint32_t session, int turn)
 {
     pcalc_answer answer;
@@ -70,7 +70,7 @@ int main(int count, char **words)
     struct worker workers[THREADS];
     int fault = old ? pcalc_give_folder(&store, old) : 0;
     if (fault) {
-        return failed("what is there", fault);
+        return failed("the folder OLD", fault);
     }
     if (pcalc_open(&store, &options, &answer) != PCALC_OPENED) {
         return failed("the store", answer.refusal == PCALC_OUT_OF_MEMORY ? ENOMEM : EINVAL);
@@ -78,7 +78,7 @@ int main(int count, char **words)
     fault = pcalc_share(&shared, &store, dir, 0, false);
     if (fault) {
         pcalc_close(&store);
-        return failed("the folder", fault);
+        return failed("the folder DIR", fault);
     }
     for (uint32_t i = 0; i < THREADS; i++) {
         workers[i] = (struct worker){ &shared, i + 1 };

@@ -9,18 +9,18 @@
  *     pcalc_commit(&store, 1, &answer);                          PCALC_COMMITTED
  *     pcalc_close(&store);
  *
- * Link libpc_c.a. What a call answers is proved for each caller that keeps this, which nothing checks:
+ * Link libpcalc.a. The answers are proved for every caller that obeys these rules, which nothing checks:
  *
- *   - A `pcalc` begins as PCALC_NONE and is changed by these functions alone. It may be moved; a copy must not be used beside it.
- *     One that is not closed keeps its memory.
- *   - There is one call at a time on one `pcalc`. It may come from any thread, if a lock or the start or the end of a thread orders the
- *     calls (pcalc_threads.h does that).
- *   - A pointer is not null, but for those of bytes and rooms of length 0 in the short forms. Bytes and rooms have the lengths that are
- *     told, and no two of the places that a call is given overlap.
+ *   - A `pcalc` starts as PCALC_NONE, and only these functions change it. It may be moved; its old copy must not be used any more. One that
+ *     is not closed leaks its memory.
+ *   - Calls on one `pcalc` don't overlap in time. They may come from several threads, if a lock, or the start or end of a thread, orders
+ *     them (pcalc_threads.h does that).
+ *   - No pointer is null, except to bytes or buffers of length 0 in the short forms. Bytes and buffers have the lengths that are passed,
+ *     and no two of the objects that are passed to a call overlap.
  *   - The program's malloc, realloc and free belong together, and align a block to each power of two up to 16 that divides its size.
- *   - No call comes from a signal handler, or from a forked child of a program with threads.
+ *   - No call is made in a signal handler, or in a forked child of a multithreaded program.
  *
- * A refused call changes nothing, so it may be made again. Each function with an `answer` answers its kind.
+ * A refused call changes nothing, so it may be made again. Each function with an `answer` returns the answer's kind.
  */
 #ifndef PCALC_H
 #define PCALC_H
@@ -32,23 +32,23 @@
 extern "C" {
 #endif
 
-/* A store, or nothing. */
+/* A handle: of a store, or of nothing. */
 typedef struct pcalc {
     void *at;
 } pcalc;
 
 #define PCALC_NONE { 0 }
 
-/* What a store is opened with. */
+/* The options of a store. */
 typedef struct pcalc_options {
-    uint64_t run;         /* the number of the run, where nothing was given; else the run is the one behind that of the base */
-    uint64_t first_word;  /* two words by chance, so that nobody can pick keys whose hashes are the same */
+    uint64_t run;         /* number of the run if nothing was given; otherwise that of the base plus 1 */
+    uint64_t first_word;  /* two random words, so that nobody can choose keys with equal hashes */
     uint64_t second_word;
-    uint32_t sessions;    /* how many transactions may be open at once: 1 to 64 */
-    uint32_t capacity;    /* for how many keys there is room: 1 to 1,048,576 */
+    uint32_t sessions;    /* number of sessions, each with one open transaction at most: 1 to 64 */
+    uint32_t capacity;    /* room for this number of keys: 1 to 1,048,576 */
 } pcalc_options;
 
-/* What a call asks. */
+/* The events that a call may ask. */
 enum pcalc_event {
     PCALC_BEGIN = 1,
     PCALC_GET,
@@ -66,36 +66,36 @@ enum pcalc_event {
     PCALC_JOIN
 };
 
-/* What is answered. */
+/* The kinds of answers. */
 enum pcalc_kind {
     PCALC_CLOSED,      /* the store isn't open */
-    PCALC_BEGUN,       /* number: that of the transaction; the smaller is the older */
-    PCALC_FOUND,       /* value_bytes: how many bytes the value has; pcalc_copy has them */
+    PCALC_BEGUN,       /* number: the transaction's; the smaller, the older */
+    PCALC_FOUND,       /* value_bytes: the value's length; pcalc_copy copies the value */
     PCALC_ABSENT,      /* the key has no value */
-    PCALC_MADE,        /* the write is made */
-    PCALC_SUM,         /* sum: the number that the key has now */
-    PCALC_WAIT,        /* another transaction has the lock: ask the same again once one has ended, or abort */
+    PCALC_MADE,        /* the write was made */
+    PCALC_SUM,         /* sum: the key's number now */
+    PCALC_WAIT,        /* another transaction has the lock: make the same call again once one has ended, or abort */
     PCALC_DIED,        /* an older transaction has the lock: only an abort is accepted now */
-    PCALC_COMMITTED,   /* number: that of the commit's entry in the log */
+    PCALC_COMMITTED,   /* number: the commit's entry in the log */
     PCALC_ABORTED,
     PCALC_PHASE,       /* phase; number: the point */
-    PCALC_NOT_YET,     /* number: how many transactions, or keys, are waited for */
-    PCALC_TOOK,        /* space, key_bytes, value_bytes: of the key that was taken; pcalc_copy has its bytes and its value */
-    PCALC_TOOK_ABSENT, /* space, key_bytes: the key had no value at the point */
+    PCALC_NOT_YET,     /* number: of open transactions to wait for, or of keys left to take */
+    PCALC_TOOK,        /* space, key_bytes, value_bytes: of the taken key; pcalc_copy copies its bytes and its value */
+    PCALC_TOOK_ABSENT, /* space, key_bytes: of the taken key, which had no value at the point */
     PCALC_NONE_LEFT,   /* all keys of the point are taken */
-    PCALC_PART_DONE,   /* number: the point; file: that of its part; entries: how many it has */
-    PCALC_JOINED,      /* file: that of the join; number: how many points it has; entries */
+    PCALC_PART_DONE,   /* number: the point; file: its part's number; entries: how many the part has */
+    PCALC_JOINED,      /* file: the join's number; number: how many points it has; entries: how many entries */
     PCALC_REFUSED,     /* refusal; number: the point of a gap */
-    PCALC_TEXT,        /* value_bytes: how many bytes the text has; entries: of how many entries; pcalc_copy has it */
+    PCALC_TEXT,        /* value_bytes: the text's length; entries: how many of the log it has; pcalc_copy copies the text */
     PCALC_GIVEN,       /* the text is kept for pcalc_open */
     PCALC_OPENED,      /* the store is open now */
-    PCALC_OPEN         /* the store is open already */
+    PCALC_OPEN         /* the store was open already */
 };
 
 /* Why a call was refused. */
 enum pcalc_refusal {
     PCALC_OUT_OF_MEMORY = 1,
-    PCALC_FULL = 2,            /* no room for a further key, for so many pairs, or for a further run */
+    PCALC_FULL = 2,            /* no room for another key, more pairs than room, or no next run number */
     PCALC_KEY_LENGTH = 3,      /* a key has 1 to 255 bytes */
     PCALC_VALUE_LENGTH = 4,    /* a value has at most 65,535 bytes */
     PCALC_NO_TRANSACTION = 5,
@@ -105,36 +105,36 @@ enum pcalc_refusal {
     PCALC_TOO_MANY_WRITES = 9, /* a transaction writes at most 256 keys */
     PCALC_LOG_FULL = 10,       /* the log has 16,777,216 entries */
     PCALC_POINTS_FULL = 11,    /* 65,535 points were taken */
-    PCALC_NO_SESSION = 12,     /* sessions are numbered from 1 to how many there are */
+    PCALC_NO_SESSION = 12,     /* session 0, or one past the number of sessions */
     PCALC_NO_FILE = 13,
     PCALC_OTHER_RUN = 14,
     PCALC_CONFLICT = 15,
     PCALC_GAP = 16,
     PCALC_SHELF_FULL = 17,     /* 65,536 files are on the shelf */
     PCALC_STILL_WAITING = 18,  /* the transaction's request still waits */
-    PCALC_NOT_NUMBER = 19,     /* the value has not 8 bytes */
-    PCALC_SHORT = 20,          /* 20 to 28: faults of a text that was given */
+    PCALC_NOT_NUMBER = 19,     /* the value isn't 8 bytes long */
+    PCALC_SHORT = 20,          /* 20 to 28: faults of a given text */
     PCALC_BAD_MAGIC = 21,
     PCALC_BAD_RANGES = 22,
     PCALC_KEY_ORDER = 23,
     PCALC_BAD_KIND = 24,       /* also: no such event, or no such text */
-    PCALC_BAD_LENGTH = 25,     /* also: a space past 65,535, or a capacity past its limits */
+    PCALC_BAD_LENGTH = 25,     /* also: a space past 65,535, or a capacity out of range */
     PCALC_TRAILING = 26,
     PCALC_NOT_COVERED = 27,
     PCALC_TOKEN_ORDER = 28,
     PCALC_DEVICE = 30,
-    PCALC_OUT_OF_RANGE = 31    /* the sum leaves 64 bits */
+    PCALC_OUT_OF_RANGE = 31    /* the sum leaves 64 signed bits */
 };
 
-/* What a text is of. */
+/* Texts: the bytes of a folder's files. */
 enum pcalc_text {
-    PCALC_BASE = 1,    /* the base from which the store started: base.pcb of a folder */
-    PCALC_PART = 2,    /* a part: given, one behind the other; shown, the file of the shelf with this number: part-NNNNN.pcp of a folder */
-    PCALC_LOG = 3,     /* given, a log: log.pcl of a folder; shown, what stands before its entries */
-    PCALC_ENTRIES = 4  /* shown, some entries of the log behind the first `number` ones; `entries` tells of how many */
+    PCALC_BASE = 1,    /* base.pcb: the base from which the store starts */
+    PCALC_PART = 2,    /* part-NNNNN.pcp: given, a further part; shown, file `number` of the shelf */
+    PCALC_LOG = 3,     /* log.pcl: given, the log; shown, its header */
+    PCALC_ENTRIES = 4  /* shown, entries of the log after the first `number`; the answer's `entries` is how many */
 };
 
-/* A call as numbers. What its event has no use for is not looked at. */
+/* A call as numbers. Fields that its event doesn't use are ignored. */
 typedef struct pcalc_ask {
     uint32_t kind;
     uint32_t session;
@@ -144,7 +144,7 @@ typedef struct pcalc_ask {
     int64_t delta;
 } pcalc_ask;
 
-/* An answer as numbers; what its kind has no use for is 0. */
+/* An answer as numbers; fields that its kind doesn't use are 0. */
 typedef struct pcalc_answer {
     uint32_t kind;
     uint32_t refusal;
@@ -155,50 +155,52 @@ typedef struct pcalc_answer {
     int64_t sum;
     uint32_t space;
     uint32_t key_bytes;
-    uint64_t value_bytes; /* also where a room is too short for them */
+    uint64_t value_bytes; /* the whole length, even if the buffer is shorter */
 } pcalc_answer;
 
-/* What a recovery would give. */
-typedef struct pcalc_worth {
+/* The state recovered from the given texts, in numbers. */
+typedef struct pcalc_recovered {
     uint64_t run;
     uint64_t pairs;
     uint64_t entries; /* whole entries of the log */
     uint64_t skipped; /* parts that are not used */
     uint32_t point;   /* the point up to which parts are used */
-    uint32_t fault;   /* of what is behind the log's whole entries: a refusal, or 0 */
-} pcalc_worth;
+    uint32_t fault;   /* of the rest of the log, after its whole entries: a refusal, or 0 */
+} pcalc_recovered;
 
-/* ---- what the archive has */
+#define pcalc_worth pcalc_recovered /* its earlier name */
 
-/* Gives a text to what the store will be opened over: a base or a log in place of one given before, a part behind those before. It is
- * copied. PCALC_GIVEN; PCALC_OPEN, if the store is open; or PCALC_REFUSED, with PCALC_BAD_KIND or PCALC_OUT_OF_MEMORY. */
+/* ---- functions of the archive */
+
+/* Adds a copy of a text to what the store will be recovered from: a base or log replaces the one before, a part comes after those before.
+ * Returns PCALC_GIVEN; PCALC_OPEN if the store is open; or PCALC_REFUSED with PCALC_BAD_KIND or PCALC_OUT_OF_MEMORY. */
 uint32_t pcalc_give(pcalc *store, uint32_t what, const uint8_t *bytes, size_t length, pcalc_answer *answer);
 
-/* Tells what the texts are worth, and opens nothing: 0, or a refusal, and then `worth` stays. */
-uint32_t pcalc_recover(pcalc *store, pcalc_worth *worth);
+/* Reports the state recovered from the texts, and opens nothing. Returns 0, or a refusal; `recovered` is then unchanged. */
+uint32_t pcalc_recover(pcalc *store, pcalc_recovered *recovered);
 
-/* Opens the store: one without pairs where nothing was given, else over what was given. PCALC_OPENED; PCALC_OPEN, if it is open; or
- * PCALC_REFUSED, and then what was given stays. It has PCALC_NO_SESSION and PCALC_BAD_LENGTH for options past their limits, PCALC_FULL for
- * more pairs than room, and otherwise a fault of a text or PCALC_OUT_OF_MEMORY. */
+/* Opens the store: without pairs if nothing was given, otherwise with the recovered state. Returns PCALC_OPENED; PCALC_OPEN if it was open
+ * already; or PCALC_REFUSED, and what was given is kept: with PCALC_NO_SESSION or PCALC_BAD_LENGTH if an option is out of range, PCALC_FULL
+ * for more pairs than room, and otherwise a fault of a text or PCALC_OUT_OF_MEMORY. */
 uint32_t pcalc_open(pcalc *store, const pcalc_options *options, pcalc_answer *answer);
 
-/* Asks an event, with the bytes of its key and of its value, if it has them. */
+/* Asks an event, with the bytes of its key and value, if it has them. */
 uint32_t pcalc_call(pcalc *store, const pcalc_ask *ask, const uint8_t *key, size_t key_length, const uint8_t *value, size_t value_length,
                     pcalc_answer *answer);
 
-/* Shows a text: PCALC_TEXT, or PCALC_REFUSED with PCALC_BAD_KIND, PCALC_NO_FILE or PCALC_OUT_OF_MEMORY. */
+/* Shows a text, for pcalc_copy. Returns PCALC_TEXT, or PCALC_REFUSED with PCALC_BAD_KIND, PCALC_NO_FILE or PCALC_OUT_OF_MEMORY. */
 uint32_t pcalc_show(pcalc *store, uint32_t what, uint32_t number, pcalc_answer *answer);
 
-/* Copies what the latest answered call has: of the key, and of the value or the text from the byte `from` on (counted from 0), as many
- * bytes as there is room for. What is behind them in a room stays. It may be called again, with larger rooms or further bytes. */
+/* Copies the key of the latest answered call, and its value or text from byte `from` on (counted from 0), as far as they fit. The rest of
+ * a buffer is unchanged. It may be called again, with larger buffers or for further bytes. */
 void pcalc_copy(pcalc *store, size_t from, uint8_t *key_room, size_t key_room_length, uint8_t *value_room, size_t value_room_length);
 
-/* Ends the store, with all its memory; what is not kept elsewhere is lost. The handle is PCALC_NONE again. */
+/* Closes the store and frees its memory; what was not saved elsewhere is lost. The handle is PCALC_NONE again. */
 void pcalc_close(pcalc *store);
 
 /* ---- short forms */
 
-/* Where bytes stand; a place of no bytes for none. */
+/* The address of the bytes; `none` in place of null. */
 static inline const uint8_t *pcalc_at(const void *bytes, const uint8_t *none)
 {
     return bytes ? (const uint8_t *)bytes : none;
@@ -217,7 +219,7 @@ static inline uint32_t pcalc_begin(pcalc *store, uint32_t session, pcalc_answer 
     return pcalc_plainly(store, PCALC_BEGIN, session, answer);
 }
 
-/* Commits it; it is in the log from then on, whose text is the caller's to write. */
+/* Commits it. It is then in the log in memory, whose text the caller has to write. */
 static inline uint32_t pcalc_commit(pcalc *store, uint32_t session, pcalc_answer *answer)
 {
     return pcalc_plainly(store, PCALC_COMMIT, session, answer);
@@ -229,7 +231,7 @@ static inline uint32_t pcalc_abort(pcalc *store, uint32_t session, pcalc_answer 
     return pcalc_plainly(store, PCALC_ABORT, session, answer);
 }
 
-/* Reads a key of a space, 0 to 65,535, and copies as much of its value as there is room for. */
+/* Reads a key of a space, 0 to 65,535, and copies as much of its value as fits into `room`. */
 static inline uint32_t pcalc_get(pcalc *store, uint32_t session, uint32_t space, const void *key, size_t key_length, void *room,
                                  size_t room_length, pcalc_answer *answer)
 {
@@ -251,7 +253,7 @@ static inline uint32_t pcalc_put(pcalc *store, uint32_t session, uint32_t space,
     return pcalc_call(store, &ask, pcalc_at(key, &none), key_length, pcalc_at(value, &none), value_length, answer);
 }
 
-/* Removes a key; PCALC_MADE also where it has no value. */
+/* Removes a key; returns PCALC_MADE even if it has no value. */
 static inline uint32_t pcalc_del(pcalc *store, uint32_t session, uint32_t space, const void *key, size_t key_length, pcalc_answer *answer)
 {
     const pcalc_ask ask = { PCALC_DEL, session, space, 0, 0, 0 };
@@ -259,7 +261,7 @@ static inline uint32_t pcalc_del(pcalc *store, uint32_t session, uint32_t space,
     return pcalc_call(store, &ask, pcalc_at(key, &none), key_length, &none, 0, answer);
 }
 
-/* Adds to the number that a key has as its value, 8 bytes with the highest first, or to 0 where it has none. */
+/* Adds to the number that is a key's value, 8 bytes in big-endian order, or to 0 if it has no value. */
 static inline uint32_t pcalc_add(pcalc *store, uint32_t session, uint32_t space, const void *key, size_t key_length, int64_t delta,
                                  pcalc_answer *answer)
 {
@@ -274,7 +276,7 @@ static inline uint32_t pcalc_phase(pcalc *store, uint32_t kind, pcalc_answer *an
     return pcalc_plainly(store, kind, 0, answer);
 }
 
-/* Takes a key of the point, and copies its bytes and its value as far as there is room. */
+/* Takes a key of the point, and copies its bytes and its value as far as they fit. */
 static inline uint32_t pcalc_take(pcalc *store, void *key_room, size_t key_room_length, void *value_room, size_t value_room_length,
                                   pcalc_answer *answer)
 {

@@ -1,4 +1,4 @@
-// pcalc for C++17: a store that ends with its scope, and transactions that are undone where they aren't committed.
+// pcalc for C++17: a store that ends with its scope, and transactions that are undone unless committed.
 //
 //     pcalc_store store;                                   // 8 sessions, room for 65,536 keys
 //     auto t = store.begin(1);
@@ -7,8 +7,8 @@
 //     t.commit();
 //     std::optional<std::string> fig = store.begin(1).get("fig");
 //
-// A refusal is thrown as pcalc_refused. A lock that can't be had at once is thrown as pcalc_waits, behind which the same is asked again
-// once another transaction has ended, or as pcalc_died, behind which only an abort is accepted.
+// A refusal is thrown as pcalc_refused. If a lock can't be granted immediately, pcalc_waits is thrown (make the same call again once
+// another transaction has ended) or pcalc_died (only an abort is accepted then).
 #ifndef PCALC_HPP
 #define PCALC_HPP
 
@@ -24,7 +24,7 @@
 #include <string_view>
 #include <utility>
 
-// Why a call was refused, by its number in pcalc_refusal.
+// A refused call, with the reason's number in pcalc_refusal.
 struct pcalc_refused : std::runtime_error {
     explicit pcalc_refused(const pcalc_answer &answer) : std::runtime_error("pcalc refused, number " + std::to_string(answer.refusal)), refusal(answer.refusal) {}
     std::uint32_t refusal;
@@ -40,7 +40,7 @@ struct pcalc_died : std::runtime_error {
 
 class pcalc_store;
 
-// A transaction of a session; the store outlives it.
+// A transaction of a session; the store must outlive it.
 class pcalc_transaction {
 public:
     pcalc_transaction(pcalc_transaction &&other) noexcept : store(std::exchange(other.store, nullptr)), session(other.session) {}
@@ -53,7 +53,7 @@ public:
     inline void put(std::string_view key, std::string_view value, std::uint16_t space = 0);
     inline void del(std::string_view key, std::uint16_t space = 0);
     inline std::int64_t add(std::string_view key, std::int64_t delta, std::uint16_t space = 0);
-    inline std::uint64_t commit(); // the number of its entry in the log
+    inline std::uint64_t commit(); // returns the number of its entry in the log
     inline void abort();
 
 private:
@@ -64,7 +64,7 @@ private:
     std::uint32_t session;
 };
 
-// A store. One thread uses it at a time, with its transactions.
+// A store. Only one thread at a time may use it and its transactions.
 class pcalc_store {
 public:
     // A store without pairs.
@@ -73,7 +73,7 @@ public:
         open(sessions, capacity, run);
     }
 
-    // A store over what these texts are worth, which the files of a folder have; the run is the one behind that of the base.
+    // A store with the state recovered from these texts, the contents of a folder's files; its run is the one after the base's.
     pcalc_store(std::string_view base, const std::initializer_list<std::string_view> &parts, std::string_view log, std::uint32_t sessions = 8,
                 std::uint32_t capacity = 65536)
         : pcalc_store(unopened())
@@ -96,14 +96,14 @@ public:
         return pcalc_transaction(this, session);
     }
 
-    // A step of a point's cycle; the answer tells of it.
+    // A step of a point's cycle; returns its answer.
     const pcalc_answer &phase(std::uint32_t kind)
     {
         must(pcalc_phase(&handle, kind, &answer));
         return answer;
     }
 
-    // The text of the base, of a file, of what stands before the log's entries, or of some entries behind the first so many.
+    // The text of the base, of a file, of the log's header, or of entries of the log after the first `number`.
     std::string text(std::uint32_t what, std::uint32_t number = 0)
     {
         must(pcalc_show(&handle, what, number, &answer));
@@ -126,7 +126,7 @@ private:
     friend class pcalc_transaction;
 
     struct unopened {};
-    explicit pcalc_store(unopened) {} // once it is made, its end frees what it has, also where one of the others fails
+    explicit pcalc_store(unopened) {} // delegated to first, so that the destructor runs even if a public constructor throws
 
     void must(std::uint32_t kind) const { return kind == PCALC_REFUSED ? throw pcalc_refused(answer) : void(); }
 
@@ -139,7 +139,7 @@ private:
         must(pcalc_open(&handle, &options, &answer));
     }
 
-    // What is shown, of as many bytes as the answer has told.
+    // The value or text of the latest answer.
     std::string copied()
     {
         std::string bytes(static_cast<std::size_t>(answer.value_bytes), '\0');

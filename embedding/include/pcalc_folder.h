@@ -1,5 +1,5 @@
-/* The folders of pcalc's stores: their files are given to a store that will be opened, and made. For C11 and C++17 on POSIX; include this
- * before the system's headers. Tested; nothing of it is proved. */
+/* Folders of pcalc's stores: gives their files to a store before it is opened, and makes such files. For C11 and C++17 on POSIX; include
+ * this before the system's headers. Tested; nothing of it is proved. */
 #ifndef PCALC_FOLDER_H
 #define PCALC_FOLDER_H
 
@@ -44,7 +44,7 @@ static inline int pcalc_write_all(int file, const uint8_t *bytes, size_t length)
     return 0;
 }
 
-/* The text that the store shows, in memory of its own; null where there is none for it. */
+/* A copy of the text that the store shows, for the caller to free; null after an allocation failure. */
 static inline uint8_t *pcalc_shown(pcalc *store, const pcalc_answer *answer)
 {
     uint8_t none = 0;
@@ -55,7 +55,8 @@ static inline uint8_t *pcalc_shown(pcalc *store, const pcalc_answer *answer)
     return text;
 }
 
-/* Makes a file apart, brings it to the disk, and names it: 0, or an error number, and then what had the name stays. */
+/* Writes a file under another name, flushes it to the disk, and renames it: until then an existing file of the name stays. Returns 0 or an
+ * error number. */
 static inline int pcalc_make_file(const char *dir, const char *name, const uint8_t *bytes, size_t length)
 {
     int failed = ENOMEM;
@@ -87,7 +88,7 @@ static inline int pcalc_make_file(const char *dir, const char *name, const uint8
     return failed;
 }
 
-/* Gives a file of a folder to what a store will be opened over: 0, or an error number; ENOENT where it isn't there. */
+/* Gives a file of a folder to a store that isn't open yet. Returns 0 or an error number; ENOENT if it doesn't exist. */
 static inline int pcalc_give_file(pcalc *store, uint32_t what, const char *dir, const char *name)
 {
     pcalc_answer answer;
@@ -125,8 +126,8 @@ static inline int pcalc_by_bytes(const struct dirent **first, const struct diren
     return strcmp((*first)->d_name, (*second)->d_name);
 }
 
-/* Gives a folder of a run, or a generation of a served store, to what a store will be opened over: its base, its parts by their names, and
- * its log, which may be missing. 0, or an error number. */
+/* Gives the folder of a run, or a generation of a served store, to a store that isn't open yet: its base, its parts in the order of their
+ * names, and its log, if it has one. Returns 0 or an error number. */
 static inline int pcalc_give_folder(pcalc *store, const char *dir)
 {
     struct dirent **names = NULL;

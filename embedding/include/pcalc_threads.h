@@ -1,13 +1,13 @@
-/* pcalc on threads: sessions on the caller's threads over one store, whose folder a logger writes behind them. For C11 and C++17 on POSIX;
- * link with -pthread, and include this before the system's headers.
+/* pcalc on threads: the caller's threads share a store, each with its session, and a logger thread writes its folder. For C11 and C++17 on
+ * POSIX; link with -pthread, and include this before the system's headers.
  *
- * This header is tested, and nothing of it is proved: the store beneath answers legally whatever it is asked, and a folder is worth what
- * `pcalc recover` gives; that threads wait for the right thing, and that a commit is in the file when it is answered, is this header's own.
+ * This header is tested, and nothing of it is proved. The store's answers are legal whatever is asked, and a folder's state is what
+ * `pcalc recover` prints; but only tests show that threads wait for the right event, and that a commit is in the file when it is answered.
  *
- * A commit is answered once at most `lag` of the log's entries up to its own are not written. Written means that they have left the program,
- * so with a lag of 0 no answered commit is lost where the process is killed; with `sync` they are on the disk too.
+ * A commit is answered once at most `lag` of the log's entries up to its own are unwritten. A written entry has left the program, and with
+ * `sync` it is on the disk; so with a lag of 0 no answered commit is lost if the process is killed.
  *
- * Each session, 1 to options.sessions, is used by one thread at a time.
+ * Each session, 1 to options.sessions, may be used by one thread at a time.
  */
 #ifndef PCALC_THREADS_H
 #define PCALC_THREADS_H
@@ -17,20 +17,20 @@
 #include <pthread.h>
 #include <stdbool.h>
 
-/* A store that threads share. Its fields are this header's own. */
+/* A store that threads share. Its fields are private. */
 typedef struct pcalc_shared {
     pthread_mutex_t latch;
     pthread_cond_t changed; /* a transaction has ended, the phase has changed, or the log was written */
     pthread_t logger;
     pcalc store;
-    char *dir; /* null where no folder is kept */
+    char *dir; /* null if no folder is written */
     int log;
-    uint32_t written; /* how many entries of the log have left the program */
+    uint32_t written; /* how many entries of the log were written */
     uint32_t lag;
     bool sync;
-    bool grown; /* the log may have entries that are not written */
+    bool grown; /* the log may have unwritten entries */
     bool ending;
-    int failed; /* the error number of the logger, which then has ended */
+    int failed; /* 0, or the error number of the logger, which has ended then */
 } pcalc_shared;
 
 /* ---- the logger */
@@ -73,7 +73,7 @@ static inline void *pcalc_log_behind(void *of)
 
 /* ---- the store */
 
-/* Makes log.pcl, which nothing may have been before, and base.pcb in the folder. */
+/* Makes log.pcl, which must not exist yet, and base.pcb in the folder. Returns 0 or an error number. */
 static inline int pcalc_begin_folder(pcalc_shared *shared)
 {
     pcalc_answer answer;
@@ -93,9 +93,9 @@ static inline int pcalc_begin_folder(pcalc_shared *shared)
     return failed;
 }
 
-/* Shares a store that is open, and of which nothing was asked yet; it is `shared`'s from then on, and `store` is PCALC_NONE. With a folder,
- * which is there and has no files of a run, it makes its base and its log there, and begins to write the log. 0, or an error number; then
- * the store stays with the caller. */
+/* Shares an open store of which no event was asked yet: it moves to `shared`, and `store` is PCALC_NONE. `dir` is null, or a folder that
+ * exists and has no files of a run; the base and the log are made there, and the log is written from then on. Returns 0, or an error
+ * number; then the caller keeps the store. */
 static inline int pcalc_share(pcalc_shared *shared, pcalc *store, const char *dir, uint32_t lag, bool sync)
 {
     memset(shared, 0, sizeof *shared);
@@ -120,9 +120,8 @@ static inline int pcalc_share(pcalc_shared *shared, pcalc *store, const char *di
     return 0;
 }
 
-/* Asks an event on the caller's thread, waits while its lock is waited for, and behind a commit until the log is written up to the lag. The
- * value that is found, or the key and the value that are taken, are copied as far as there is room. PCALC_COMMITTED is answered also where
- * the logger has failed: shared->failed tells. */
+/* Asks an event on the caller's thread, waits for its lock, and after a commit until the log is written up to the lag. A found value is
+ * copied as far as it fits into `room`. PCALC_COMMITTED is returned even if the logger has failed; shared->failed is then its error. */
 static inline uint32_t pcalc_ask_shared(pcalc_shared *shared, const pcalc_ask *ask, const void *key, size_t key_length, const void *value,
                                         size_t value_length, void *room, size_t room_length, pcalc_answer *answer)
 {
@@ -148,7 +147,7 @@ static inline uint32_t pcalc_ask_shared(pcalc_shared *shared, const pcalc_ask *a
     return kind;
 }
 
-/* Asks a step of a point's cycle, and waits as long as transactions are waited for. */
+/* Asks a step of a point's cycle, once the transactions that it waits for have ended. */
 static inline uint32_t pcalc_phase_shared(pcalc_shared *shared, uint32_t kind, pcalc_answer *answer)
 {
     const pcalc_ask ask = { kind, 0, 0, 0, 0, 0 };
@@ -166,8 +165,8 @@ static inline uint32_t pcalc_phase_shared(pcalc_shared *shared, uint32_t kind, p
     return told;
 }
 
-/* Takes a point on the caller's thread, of which there is one at a time, and makes the file of its part; the others go on meanwhile. It
- * waits for the transactions that were open when it began. 0, an error number, or ECANCELED where the store refused, which `answer` tells. */
+/* Takes a point, on one thread at a time, and makes the file of its part; other threads continue meanwhile. It waits for the transactions
+ * that were open when it began. Returns 0, an error number, or ECANCELED if the store refused, with the refusal in `answer`. */
 static inline int pcalc_take_point(pcalc_shared *shared, pcalc_answer *answer)
 {
     const uint32_t steps[] = { PCALC_POINT, PCALC_SEAL, PCALC_CAPTURE };
@@ -193,8 +192,8 @@ static inline int pcalc_take_point(pcalc_shared *shared, pcalc_answer *answer)
     return pcalc_phase_shared(shared, PCALC_REST, answer) == PCALC_PHASE ? failed : ECANCELED;
 }
 
-/* Ends the store once no thread uses it any more: the rest of the log is written first. 0, or an error number of what could not be written;
- * the memory is given back in each case. */
+/* Writes the rest of the log and closes the store, which no thread may use any more. Returns 0, or the error number if the log can't be
+ * written; the memory is freed in any case. */
 static inline int pcalc_unshare(pcalc_shared *shared)
 {
     if (shared->dir) {

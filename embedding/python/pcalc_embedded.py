@@ -1,4 +1,4 @@
-"""pcalc inside a Python program, by ctypes: the transactions of `clients/python/pcalc.py`, without a process to ask.
+"""pcalc inside a Python program, by ctypes: transactions as in `clients/python/pcalc.py`, without another process.
 
     import pcalc_embedded
 
@@ -7,15 +7,15 @@
             t[b"fig"] = b"7"
             t.add(b"sold", 1)
         store.run(lambda t: t.add(b"sold", 1))  # begun again if it dies
-        base, log = store.base(), store.log()   # what to keep: nothing is written to a file here
+        base, log = store.base(), store.log()   # what to keep: no file is written here
 
     again = pcalc_embedded.Store(base=base, log=log)
 
-A key is bytes, or a pair of a space (0 to 65,535) and bytes; a value is bytes. A store may be used from any number of threads: each
-transaction has a session of its own, and one that has to wait lets the others go on.
+A key is bytes, or a pair of a space (0 to 65,535) and bytes; a value is bytes. Any number of threads may use a store: each transaction has
+its own session, and while one waits for a lock, the others continue.
 
-The shared object is `libpcalc.so` beside this file, or where PCALC_SO says; `make -C embedding` makes it. This module needs Python 3.8. It is
-tested; nothing of it is proved.
+The shared object is `libpcalc.so` in the folder of this file, or the path in PCALC_SO; `make -C embedding` makes it. This module needs
+Python 3.8. It is tested; nothing of it is proved.
 """
 
 import contextlib
@@ -38,7 +38,7 @@ LONGEST_PAUSE = 0.05
 
 
 class Refused(Exception):
-    """A call was refused, and has changed nothing. `word` is the name of the refusal, as "Full" or "NotNumber"."""
+    """A call was refused, and has changed nothing. `word` is the name of the refusal, such as "Full" or "NotNumber"."""
 
     def __init__(self, word):
         super().__init__(word)
@@ -46,7 +46,7 @@ class Refused(Exception):
 
 
 class Died(Exception):
-    """The transaction has died, since another one is in its way; nothing of it is kept. `Store.run` begins it again."""
+    """The transaction has died, since another one has the lock; nothing of it is kept. `Store.run` begins it again."""
 
 
 class _Handle(ctypes.Structure):
@@ -64,16 +64,19 @@ class _Ask(ctypes.Structure):
 
 
 class Answer(ctypes.Structure):
-    """An answer as numbers, as `pcalc.h` has it."""
+    """An answer as numbers: `pcalc_answer` of `pcalc.h`."""
     _fields_ = [("kind", ctypes.c_uint32), ("refusal", ctypes.c_uint32), ("number", ctypes.c_uint64), ("entries", ctypes.c_uint64),
                 ("file", ctypes.c_uint32), ("phase", ctypes.c_uint32), ("sum", ctypes.c_int64), ("space", ctypes.c_uint32),
                 ("key_bytes", ctypes.c_uint32), ("value_bytes", ctypes.c_uint64)]
 
 
-class Worth(ctypes.Structure):
-    """What texts are worth, as `pcalc.h` has it."""
+class Recovered(ctypes.Structure):
+    """The recovered state in numbers: `pcalc_recovered` of `pcalc.h`."""
     _fields_ = [("run", ctypes.c_uint64), ("pairs", ctypes.c_uint64), ("entries", ctypes.c_uint64), ("skipped", ctypes.c_uint64),
                 ("point", ctypes.c_uint32), ("fault", ctypes.c_uint32)]
+
+
+Worth = Recovered  # its earlier name
 
 
 def _library():
@@ -94,7 +97,7 @@ def _library():
 
 
 class Handle:
-    """The functions of `pcalc.h` over one handle, for one thread at a time. `answer` is the latest answer."""
+    """The functions of `pcalc.h` on one handle, for one thread at a time. `answer` is the latest answer."""
 
     def __init__(self):
         self._library, self._handle, self._ask, self.answer = _library(), _Handle(), _Ask(), Answer()
@@ -104,9 +107,9 @@ class Handle:
         return self._library.pcalc_give(self._at, what, text, len(text), self._told)
 
     def recover(self):
-        """What was given is worth, or the number of the refusal."""
-        worth = Worth()
-        return self._library.pcalc_recover(self._at, ctypes.addressof(worth)) or worth
+        """Returns the state recovered from what was given, as `Recovered`, or the number of the refusal."""
+        recovered = Recovered()
+        return self._library.pcalc_recover(self._at, ctypes.addressof(recovered)) or recovered
 
     def open(self, sessions=64, capacity=65_536, run=1):
         options = _Options(run, random.getrandbits(64), random.getrandbits(64), sessions, capacity)
@@ -121,7 +124,7 @@ class Handle:
         return self._library.pcalc_show(self._at, what, number, self._told)
 
     def copied(self, key_length=None, value_length=None, start=0):
-        """The key and the value, or the text, that the latest answer tells of; of so many bytes, if lengths are given."""
+        """The key and the value, or the text from byte `start` on, of the latest answer; of these lengths in bytes, if they are given."""
         keys = self.answer.key_bytes if key_length is None else key_length
         values = self.answer.value_bytes if value_length is None else value_length
         key, value = ctypes.create_string_buffer(keys + 1), ctypes.create_string_buffer(values + 1)
@@ -133,7 +136,7 @@ class Handle:
 
 
 class Store:
-    """A store in this process. Without texts it has no pairs; else it has what the texts of a base, of parts and of a log are worth."""
+    """A store in this process: without pairs, or with the state recovered from the texts of a base, of parts and of a log."""
 
     def __init__(self, sessions=64, capacity=65_536, run=1, base=b"", parts=(), log=b""):
         self._handle, self._changed = Handle(), threading.Condition()
@@ -153,7 +156,7 @@ class Store:
         self.close()
 
     def close(self):
-        """Ends the store. May be called twice."""
+        """Closes the store. May be called twice."""
         with self._changed:
             self._handle.close()
 
@@ -165,7 +168,7 @@ class Store:
         return told
 
     def _ask(self, kind, session=0, key=b"", value=b"", delta=0):
-        """The kind of the answer, its number or sum, and its value. It waits as long as the answer is to wait."""
+        """Returns the answer's kind, its number or sum, and a found value, after waiting for the lock."""
         space, own = key if isinstance(key, tuple) else (0, key)
         handle, has_waited = self._handle, False
         with self._changed:
@@ -184,8 +187,8 @@ class Store:
 
     @contextlib.contextmanager
     def transaction(self):
-        """A transaction, for a `with` block: it is begun with the block, committed at its end, and aborted where the block raises. Raises `Died`
-        where it dies, in the block or at its end."""
+        """A transaction, for a `with` block: it is begun with the block, committed at its end, and aborted if the block raises. Raises `Died`
+        if it dies, in the block or at its end."""
         with self._changed:
             while not self._free:
                 self._changed.wait()
@@ -205,8 +208,8 @@ class Store:
                 self._changed.notify_all()
 
     def run(self, body):
-        """Calls `body` with a transaction, commits it, and gives what `body` gave. Where the transaction dies, `body` is called anew with another
-        one; so `body` is to do nothing else that can't be done twice."""
+        """Calls `body` with a transaction, commits it, and returns what `body` returned. If the transaction dies, `body` is called again with
+        another one; so it must do nothing else that can't be repeated."""
         pause = 0.0001
         while True:
             try:
@@ -232,7 +235,7 @@ class Store:
             return self._text(PART, number)
 
     def log(self):
-        """The text of the log: what stands before its entries, and all entries."""
+        """The text of the log: its header and all entries."""
         with self._changed:
             pieces, behind = [self._text(LOG)], 0
             while True:
@@ -242,7 +245,7 @@ class Store:
                 behind += self._handle.answer.entries
 
     def checkpoint(self):
-        """Takes a point, and gives the number of the file of its part. It waits for the transactions that were open when it began."""
+        """Takes a point, and returns the number of its part's file. It waits for the transactions that were open when it began."""
         with self._changed:
             for kind in (POINT, SEAL, CAPTURE):
                 self._phase(kind)
@@ -259,8 +262,8 @@ class Store:
 
 
 class Transaction:
-    """An open transaction. `number` counts the transactions in the order of their begins, and `entry`, once it is committed, is the number of
-    its entry in the log."""
+    """An open transaction. `number` is its own, from 1 in the order of begins; `entry`, once it is committed, the number of its entry in the
+    log."""
 
     def __init__(self, store, session):
         self._store, self._session, self.has_died, self.number, self.entry = store, session, False, None, None
@@ -273,7 +276,7 @@ class Transaction:
         return number if told == SUM else found
 
     def get(self, key, default=None):
-        """The key's value, or `default` where it has none."""
+        """The key's value, or `default` if it has none."""
         value = self._ask(GET, key)
         return default if value is None else value
 
@@ -282,11 +285,11 @@ class Transaction:
         self._ask(PUT, key, value)
 
     def delete(self, key):
-        """Removes the key, which need not be there."""
+        """Removes the key, which need not exist."""
         self._ask(DEL, key)
 
     def add(self, key, delta):
-        """Adds to the number that the key has, where no value counts as 0, and gives the sum."""
+        """Adds to the key's number, 0 if it has no value, and returns the sum."""
         return self._ask(ADD, key, delta=delta)
 
     def __getitem__(self, key):

@@ -1,5 +1,5 @@
-/* Asks the same of a store again and again, the Nth growth of memory refused, N = 1, 2, .. until none is. A call that is refused for it is made
- * again at once, and then answers what it answers where memory suffices; so do all later ones. Linked with --wrap=malloc,realloc. */
+/* Makes the same calls again and again, with the Nth growth of memory refused, N = 1, 2, .. until none is. A call that is refused for it is
+ * made again immediately; its answer and all later ones are then those of a run with ample memory. Linked with --wrap=malloc,realloc. */
 #include "pcalc.h"
 
 #include <stdio.h>
@@ -40,7 +40,7 @@ struct told {
 
 static pcalc_answer answer;
 
-/* Makes the call again where memory ran out, and notes its answer. */
+/* Makes the call, again if memory ran out, and records its answer. */
 #define ASK(told, call) \
     do { \
         uint32_t kind = (call); \

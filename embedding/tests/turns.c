@@ -1,5 +1,5 @@
-/* Two threads make the calls on one handle in turn, which goes from one to the other by value. Each call is answered as where one thread makes
- * them all. */
+/* Two threads make the calls on one handle in turn, and pass it to each other by value. Each call is answered as if one thread made them
+ * all. */
 #include "pcalc.h"
 
 #include <pthread.h>
@@ -19,7 +19,7 @@ struct table {
     pthread_mutex_t mutex;
     pthread_cond_t moved;
     pcalc store;
-    int next; /* the call that is made next */
+    int next; /* the number of the next call */
     struct told told;
 };
 
@@ -30,7 +30,7 @@ static uint32_t mixed(uint32_t number)
     return number ^ number >> 13;
 }
 
-/* The call of this number, by chance that is the same in each run: of sessions 1 and 2, of a checkpoint, or of a text. */
+/* The call of this number, drawn at random but the same in each run: of sessions 1 and 2, of a checkpoint, or of a text. */
 static uint32_t asked(pcalc *store, int number, char *room, size_t room_length, pcalc_answer *answer)
 {
     const uint32_t phases[] = { PCALC_POINT, PCALC_SEAL, PCALC_CAPTURE, PCALC_TAKE, PCALC_DONE, PCALC_REST };
@@ -73,7 +73,7 @@ static void tell(struct told *told, pcalc *store, int number)
     }
 }
 
-/* Makes each second call. */
+/* Makes every second call, from `first` on. */
 static void *take_turns(struct table *table, int first)
 {
     for (int number = first; number < CALLS; number += 2) {
@@ -143,6 +143,6 @@ int main(void)
         }
     }
     bool is_same = wanted.length == table.told.length && memcmp(wanted.text, table.told.text, wanted.length) == 0;
-    printf("%s\n", is_same ? "ok" : "two threads are answered otherwise than one");
+    printf("%s\n", is_same ? "ok" : "two threads are answered differently from one");
     return !is_same;
 }

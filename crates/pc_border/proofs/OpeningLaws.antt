@@ -17,7 +17,7 @@ use Rattle.pc_border.specs.declared.sources.Sources.{Sources}
 -- the state recovered from what was given, as a base
 pub base_given : (given : Bool) (sources : Sources) (run last : ℕ) (found : Recovery) (base : BaseFile) → given ≡ true
     → IsRecoveredFrom sources last found → base ≡ record { run = last + 1; point = 0; pairs = found.pairs } → IsBaseOf given sources run base
-base_given given sources run last found base is worth same = subst (λ (g : Bool). IsBaseOf g sources run base) (sym is) (last, found, worth, same)
+base_given given sources run last found base is recovered same = subst (λ (g : Bool). IsBaseOf g sources run base) (sym is) (last, found, recovered, same)
 
 -- what keeps something from being a base, said of its pairs as a database
 pub too_much : (run : ℕ) (items : List (List ℕ × List ℕ)) → KeysRise items → (2 ^ 64 ≤ run + 1) ⊎ (MOST_FILE_ENTRIES < length items)

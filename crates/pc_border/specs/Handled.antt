@@ -6,7 +6,7 @@ use Rattle.pc_engine.specs.Store.{setting_of}
 use Rattle.pc_engine.specs.Stands.{Stands}
 use Rattle.pc_wire.specs.Answers.{plain, refusal_told}
 use Rattle.pc_wire.specs.Shown.{key_shown, value_shown, filled}
-use Rattle.pc_border.specs.Sources.{with_source, is_source, IsWorthOf}
+use Rattle.pc_border.specs.Sources.{with_source, is_source, IsSummaryOf}
 use Rattle.pc_border.specs.Openings.{option_fault, IsStart, IsUnopened}
 use Rattle.pc_border.specs.Stores.{IsReplyShown, IsText}
 use Rattle.pc_wire.specs.declared.answers.Answer.{Answer}
@@ -14,7 +14,7 @@ use Rattle.pc_wire.specs.declared.calls.Call.{Call}
 use Rattle.pc_wire.specs.declared.codes.TheConstants.{CLOSED, GIVEN, OPEN, OPENED}
 use Rattle.pc_border.specs.declared.open_store.OpenStore.{OpenStore}
 use Rattle.pc_border.specs.declared.opening.Options.{Options}
-use Rattle.pc_border.specs.declared.sources.Worth.{Worth}
+use Rattle.pc_border.specs.declared.sources.RecoverySummary.{RecoverySummary}
 use Rattle.pc_border.specs.declared.store.Store.{Store}
 use Rattle.pc_border.specs.declared.store.Store.TheVariants.{Gathering, Open}
 
@@ -50,6 +50,6 @@ IsOpenedBy (Gathering sources) options answer new =
 IsOpenedBy (Open opened) options answer new = (answer ≡ plain OPEN) × (new ≡ Open opened)
 
 -- this is recovered from what was given; a store that is open has nothing to recover from
-abbrev pub IsWorth : Store → Result Worth Refusal → Type 0
-IsWorth (Gathering sources) result = IsWorthOf sources result
-IsWorth (Open opened) result = result ≡ Err WrongPhase
+abbrev pub IsRecoverySummary : Store → Result RecoverySummary Refusal → Type 0
+IsRecoverySummary (Gathering sources) result = IsSummaryOf sources result
+IsRecoverySummary (Open opened) result = result ≡ Err WrongPhase

@@ -5,7 +5,7 @@ use Rattle.pc_types.specs.declared.refusal.Refusal.TheVariants.{OutOfMemory}
 use Rattle.pc_model.specs.Maps.{len}
 use Rattle.pc_recover.specs.Recovery.{Recovery, IsOfRun, recovery}
 use Rattle.pc_wire.specs.Answers.{refusal_number}
-use Rattle.pc_border.specs.declared.sources.Worth.{Worth}
+use Rattle.pc_border.specs.declared.sources.RecoverySummary.{RecoverySummary}
 use Rattle.pc_wire.specs.declared.codes.TheConstants.{BASE, PART, LOG}
 use Rattle.pc_border.specs.declared.sources.Sources.{Sources}
 
@@ -35,10 +35,10 @@ fault_number None = 0
 fault_number (Some why) = refusal_number why
 
 -- what was recovered of a run, in numbers, when it has that many pairs
-abbrev pub worth_of : ℕ → Recovery → ℕ → Worth
-worth_of run found pairs = record { run = run; pairs = pairs; entries = found.entries; skipped = length found.skipped; point = found.point; fault = fault_number found.fault }
+abbrev pub summary_of_recovery : ℕ → Recovery → ℕ → RecoverySummary
+summary_of_recovery run found pairs = record { run = run; pairs = pairs; entries = found.entries; skipped = length found.skipped; point = found.point; fault = fault_number found.fault }
 
 -- a recovery of what was given returns its result in numbers, or is refused by the rules, or for an allocation failure
-abbrev pub IsWorthOf : Sources → Result Worth Refusal → Type 0
-IsWorthOf sources (Ok worth) = (run : ℕ) × (found : Recovery) × IsRecoveredFrom sources run found × (worth ≡ worth_of run found (len found.pairs))
-IsWorthOf sources (Err why) = (recovery sources.base sources.parts sources.log ≡ Err why) ⊎ (why ≡ OutOfMemory)
+abbrev pub IsSummaryOf : Sources → Result RecoverySummary Refusal → Type 0
+IsSummaryOf sources (Ok summary) = (run : ℕ) × (found : Recovery) × IsRecoveredFrom sources run found × (summary ≡ summary_of_recovery run found (len found.pairs))
+IsSummaryOf sources (Err why) = (recovery sources.base sources.parts sources.log ≡ Err why) ⊎ (why ≡ OutOfMemory)

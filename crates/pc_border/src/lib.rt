@@ -10,5 +10,5 @@ mod store;
 
 pub use open_store::OpenStore;
 pub use opening::{Options, open_world};
-pub use sources::{Sources, Worth, worth_of};
+pub use sources::{RecoverySummary, Sources, summary_of_recovery};
 pub use store::Store;

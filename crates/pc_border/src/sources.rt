@@ -4,7 +4,7 @@ ghost use Rattle.pc_types.specs.declared.refusal.Refusal.TheVariants.{OutOfMemor
 ghost use Rattle.pc_io.specs.Fields.{Gives};
 ghost use Rattle.pc_model.specs.Database.{KeysRise};
 ghost use Rattle.pc_recover.specs.Recovery.{IsOfRun, recovery, recovery_of};
-ghost use Rattle.pc_border.specs.Sources.{is_given, is_source, with_source, worth_of, fault_number};
+ghost use Rattle.pc_border.specs.Sources.{is_given, is_source, with_source, summary_of_recovery, fault_number};
 
 use pc_recover::{Recovered, recover};
 use pc_types::{Items, Refusal};
@@ -15,7 +15,7 @@ use std::alloc::{AllocError, Global};
 /// The result of a recovery, in numbers.
 #[repr(C)]
 #[derive(Clone, Copy)]
-pub struct Worth {
+pub struct RecoverySummary {
     /// The number of the run.
     pub run: u64,
     /// The number of pairs.
@@ -118,11 +118,11 @@ pub(crate) fn copied(alloc: Global, bytes: &[u8]) -> Option<Items<u8>>
 }
 
 /// The result of a recovery, in numbers.
-pub fn worth_of(found: &Recovered) -> Worth
-    ensures { result ≡ worth_of found.now.run (recovery_of found.now) (length found.now.pairs.items) }
+pub fn summary_of_recovery(found: &Recovered) -> RecoverySummary
+    ensures { result ≡ summary_of_recovery found.now.run (recovery_of found.now) (length found.now.pairs.items) }
 {
     let fault = fault_number(&found.fault);
-    Worth {
+    RecoverySummary {
         run: found.run,
         pairs: found.pairs.len() as u64,
         entries: found.entries as u64,

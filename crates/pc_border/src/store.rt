@@ -1,11 +1,11 @@
 //! A store at the border: open, or what it will be recovered from.
 ghost use Rattle.std.specs.Prelude.{◌≡◌, []};
-ghost use Rattle.pc_border.specs.Handled.{IsCallAnswered, IsTextShown, IsCopied, IsGivenTo, IsOpenedBy, IsWorth};
+ghost use Rattle.pc_border.specs.Handled.{IsCallAnswered, IsTextShown, IsCopied, IsGivenTo, IsOpenedBy, IsRecoverySummary};
 ghost use Rattle.pc_border.specs.declared.store.Store.TheVariants.{Gathering};
 
 use crate::open_store::OpenStore;
 use crate::opening::{Options, open_world};
-use crate::sources::{Sources, Worth, worth_of};
+use crate::sources::{RecoverySummary, Sources, summary_of_recovery};
 use pc_types::Refusal;
 use pc_wire::codes::{CLOSED, GIVEN, OPEN, OPENED};
 use pc_wire::{Answer, Call, plain, refused};
@@ -43,11 +43,11 @@ impl Store {
     }
 
     /// The state recovered from what was given, by `Sources::recover`, or its refusal. For an open store it returns `WrongPhase`.
-    pub fn recover(&self, alloc: Global) -> Result<Worth, Refusal>
-        ensures { IsWorth self.now result }
+    pub fn recover(&self, alloc: Global) -> Result<RecoverySummary, Refusal>
+        ensures { IsRecoverySummary self.now result }
     {
         match self {
-            Store::Gathering(sources) => Ok(worth_of(&sources.recover(alloc)?)),
+            Store::Gathering(sources) => Ok(summary_of_recovery(&sources.recover(alloc)?)),
             Store::Open(_) => Err(Refusal::WrongPhase),
         }
     }

@@ -3,13 +3,13 @@
 
 ghost use Rattle.std.specs.Prelude.{◌≡◌, None};
 ghost use Rattle.pc_border.specs.Handled.{IsCallAnswered, IsTextShown, IsCopied, IsGivenTo, IsOpenedBy};
-ghost use Rattle.pc_c.specs.Handles.{store_of, IsWorthTold};
+ghost use Rattle.pc_c.specs.Handles.{store_of, IsSummaryReturned};
 
 mod handle;
 mod unboxed;
 
 use handle::{Handle, put, take, take_or_new};
-use pc_border::{Options, Worth};
+use pc_border::{Options, RecoverySummary};
 use pc_types::Refusal;
 use pc_wire::{Answer, Call, codes, plain, refusal_number, refused};
 use std::alloc::Global;
@@ -37,8 +37,12 @@ pub extern "C" fn pcalc_give(
 
 /// Recovers the state from what was given, as `Store::recover`: it returns 0, or the number of the refusal.
 #[unsafe(no_mangle)]
-pub extern "C" fn pcalc_recover(alloc: Global, handle: &mut Handle, worth: &mut Worth) -> u32
-    ensures worth { IsWorthTold (store_of handle.old.value) result worth.old worth.new }
+pub extern "C" fn pcalc_recover(
+    alloc: Global,
+    handle: &mut Handle,
+    summary: &mut RecoverySummary,
+) -> u32
+    ensures summary { IsSummaryReturned (store_of handle.old.value) result summary.old summary.new }
     ensures kept { store_of handle.new.value ≡ store_of handle.old.value }
 {
     let Some(store) = take_or_new(handle, alloc) else {
@@ -48,7 +52,7 @@ pub extern "C" fn pcalc_recover(alloc: Global, handle: &mut Handle, worth: &mut 
     put(handle, alloc, store);
     match found {
         Ok(found) => {
-            *worth = found;
+            *summary = found;
             0
         }
         Err(why) => refusal_number(&why),
@@ -136,7 +140,7 @@ pub extern "C" fn pcalc_copy(
     }
 }
 
-/// Ends the store after the handle, which then has nothing.
+/// Ends the store of the handle, which then has nothing.
 #[unsafe(no_mangle)]
 pub extern "C" fn pcalc_close(alloc: Global, handle: &mut Handle)
     ensures { handle.new.value ≡ None }

@@ -1,7 +1,7 @@
 use Rattle.std.proofs.Common.{◌∙◌, ℕ, ap}
 use Rattle.pc_model.proofs.PairMapLaws.{len_of}
 use Rattle.pc_recover.specs.Recovery.{recovery_of}
-use Rattle.pc_border.specs.Sources.{worth_of}
+use Rattle.pc_border.specs.Sources.{summary_of_recovery}
 use Rattle.pc_border.proofs.store.Store.recover.Goals as goal
 
 pub returns-in_ok-recover-in-Gathering : goal.returns-in_ok-recover-in-Gathering
@@ -12,5 +12,5 @@ returns-in_ok-recover-in-Gathering c =
       recovered.run,
       recovery_of recovered,
       record { recovered = told.rules; of_run = told.run },
-      c.worth_of.ensures ∙ ap (λ (pairs : ℕ). worth_of recovered.run (recovery_of recovered) pairs) (len_of recovered.pairs.items told.rise),
+      c.summary_of_recovery.ensures ∙ ap (λ (pairs : ℕ). summary_of_recovery recovered.run (recovery_of recovered) pairs) (len_of recovered.pairs.items told.rise),
     )
