@@ -1,7 +1,7 @@
 # Builds pcalc without proofs, and installs a built one with its man page and the shells' completions. The gate is .ci/run.
 #
 #   make                        out/pcalc, by tools/build: not proved
-#   make install PREFIX=FOLDER  crates/pcalc/out/pcalc, the proved program, where the gate has built it, else out/pcalc
+#   make install PREFIX=FOLDER  crates/pcalc/out/pcalc, the proved program, if the gate has built it, otherwise out/pcalc
 
 PREFIX ?= /usr/local
 PROVED := crates/pcalc/out/pcalc

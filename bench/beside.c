@@ -1,5 +1,5 @@
 /* Commits of one put over 1,000 keys by another store in the program, in memory or without syncs: `beside FOLDER COUNT THREADS`, each thread with
- * keys of its own. It prints how many nanoseconds a transaction took. Which store it is says a macro: BESIDE_SQLITE, one thread alone, over
+ * keys of its own. It prints how many nanoseconds a transaction took. A macro selects the store: BESIDE_SQLITE, only one thread, over
  * ":memory:"; BESIDE_LMDB, MDB_NOSYNC in the folder; BESIDE_BDB, pages and the log in memory. */
 #include <pthread.h>
 #include <stdbool.h>
@@ -35,7 +35,7 @@ static sqlite3_stmt *prepared(const char *text)
 static void opens(const char *folder, long threads)
 {
     (void)folder;
-    must(threads == 1, "more threads than one");
+    must(threads == 1, "more than one thread");
     must(sqlite3_open(":memory:", &store) == SQLITE_OK, "sqlite3_open");
     must(sqlite3_exec(store, "create table pairs (key blob primary key, value blob) without rowid", NULL, NULL, NULL) == SQLITE_OK, "create table");
     begin = prepared("begin"), put = prepared("insert or replace into pairs values (?, ?)"), commit = prepared("commit");
@@ -108,17 +108,17 @@ static void commits(uint32_t key, long value)
         DB_TXN *transaction;
         DBT of = { .data = &key, .size = sizeof key }, to = { .data = &value, .size = sizeof value };
         must(store->txn_begin(store, NULL, &transaction, DB_TXN_NOSYNC) == 0, "txn_begin");
-        int told = pairs->put(pairs, transaction, &of, &to, 0);
-        if (told == 0) {
+        int result = pairs->put(pairs, transaction, &of, &to, 0);
+        if (result == 0) {
             must(transaction->commit(transaction, DB_TXN_NOSYNC) == 0, "commit");
             return;
         }
-        must(told == DB_LOCK_DEADLOCK && transaction->abort(transaction) == 0, "put");
+        must(result == DB_LOCK_DEADLOCK && transaction->abort(transaction) == 0, "put");
     }
 }
 
 #else
-#error "BESIDE_SQLITE, BESIDE_LMDB or BESIDE_BDB is to be defined"
+#error "define BESIDE_SQLITE, BESIDE_LMDB or BESIDE_BDB"
 #endif
 
 struct worker {

@@ -4,11 +4,11 @@
     bench/beside.py measure TIMES [--keys N] [--commits N] [--points N] [--program FILE] [--redis FILE]
     bench/beside.py draw TIMES SVG [--title TEXT]
 
-`measure` puts keys in turn, one put a transaction, over a pipe to `pcalc serve --every ..` and over a Unix socket to `redis-server --appendonly yes
---appendfsync no`, one server after the other, with up to 2,000 transactions under way. Each has all keys before time begins. Points and saves begin after
-the same numbers of commits. TIMES has a line `NAME T COMMITS BUSY` for each tenth of a second from 0: the commits answered in it, and 1 where a point or a
-save was under way in it, else 0. `draw` makes one picture of both, with one scale. Points are found in the log of the store by `pcalc log`, saves are asked
-of Redis ten times a second. FILE is the program, and else the one that `rt run` has built, or the `redis-server` on the path.
+`measure` puts keys in turn, one put a transaction, over a pipe to `pcalc serve --every ..` and then over a Unix socket to `redis-server --appendonly yes
+--appendfsync no`, with up to 2,000 transactions under way. Each server has all keys before time is taken. Points and saves begin after the same numbers of
+commits. TIMES has a line `NAME T COMMITS BUSY` for each tenth of a second from 0: the commits answered in it, and 1 if a point or a save was under way in
+it, otherwise 0. `draw` makes one picture of both, with one scale. Points are found in the log of the store by `pcalc log`; Redis is asked ten times a
+second whether a save is under way. FILE is the program, by default the one that `rt run` has built, or the `redis-server` on the path.
 """
 
 import argparse
@@ -35,7 +35,7 @@ BARS, BUSY = "#3b6ea8", "#7fc487"
 
 
 class Pcalc:
-    """How the lines of a served store are spelled, and which bytes of its answers stand for a commit."""
+    """How the lines of a served store are spelled, and which bytes of its answers mark a commit."""
 
     mark = b"committed "
 
@@ -45,7 +45,7 @@ class Pcalc:
 
 
 class Redis:
-    """The same of Redis, whose EXEC answers with a list of one reply."""
+    """The same for Redis, whose EXEC is answered with a list of one reply."""
 
     mark = b"*1\r\n"
 
@@ -56,10 +56,10 @@ class Redis:
 
 
 class Asker:
-    """Keeps blocks of transactions under way, and notes when each was answered."""
+    """Keeps blocks of transactions under way, and records when each was answered."""
 
-    def __init__(self, speaks, source, target, blocks):
-        self.speaks, self.source, self.target, self.blocks = speaks, source, target, blocks
+    def __init__(self, protocol, source, target, blocks):
+        self.protocol, self.source, self.target, self.blocks = protocol, source, target, blocks
         self.room = threading.Semaphore(AHEAD)
 
     def send(self, count):
@@ -70,7 +70,7 @@ class Asker:
                 rest = rest[self.target(rest) :]
 
     def run(self, count, after=lambda commits: None):
-        """The times at which so many blocks were answered; `after` is called behind each with the commits so far."""
+        """The times at which `count` blocks were answered; after each, `after` is called with the commits so far."""
         sender = threading.Thread(target=self.send, args=(count,))
         sender.start()
         times, answered, carried = [], 0, b""
@@ -79,8 +79,8 @@ class Asker:
             if not some:
                 sys.exit("a server has ended")
             carried += some
-            answered += carried.count(self.speaks.mark)
-            carried = carried[-len(self.speaks.mark) + 1 :]
+            answered += carried.count(self.protocol.mark)
+            carried = carried[-len(self.protocol.mark) + 1 :]
             while answered >= (len(times) + 1) * BLOCK and len(times) < count:
                 times.append(time.monotonic())
                 self.room.release()
@@ -89,12 +89,12 @@ class Asker:
         return times
 
 
-def blocks_of(speaks, keys):
-    return [speaks.spelled(range(first, first + BLOCK)) for first in range(0, keys, BLOCK)]
+def blocks_of(protocol, keys):
+    return [protocol.spelled(range(first, first + BLOCK)) for first in range(0, keys, BLOCK)]
 
 
 def counted(times, began, spans):
-    """By tenth of a second the commits, and whether it lies in one of the spans."""
+    """For each tenth of a second the commits, and whether one of the spans overlaps it."""
     tenths = [0] * (int((times[-1] - began) / TENTH) + 1)
     for at in times:
         tenths[int((at - began) / TENTH)] += BLOCK
@@ -102,7 +102,7 @@ def counted(times, began, spans):
 
 
 def spans_in(log, times):
-    """The times between the begin and the end of each point of a log, whose commits are those of the blocks."""
+    """The times of the beginning and the end of each point of a log, whose commits are those of the blocks."""
     commits, opened, spans = 0, None, []
     for words in map(bytes.split, log):
         if words[1] == b"commit":
@@ -127,8 +127,8 @@ def pcalc_run(program, keys, commits, points):
         with serve.pcalc_server(program, folder, *words, "--every", str(every_of(commits, points))) as (_, source, target):
             began = time.monotonic()
             times = Asker(Pcalc, source.read, target.write, blocks).run(commits // BLOCK)
-        with subprocess.Popen([program, "log", os.path.join(folder, "store", "gen-0000002", "log.pcl")], stdout=subprocess.PIPE) as told:
-            spans = spans_in(told.stdout, times)
+        with subprocess.Popen([program, "log", os.path.join(folder, "store", "gen-0000002", "log.pcl")], stdout=subprocess.PIPE) as ran:
+            spans = spans_in(ran.stdout, times)
     return counted(times, began, spans)
 
 
@@ -137,7 +137,7 @@ def every_of(commits, points):
 
 
 class Saves:
-    """The saves of a Redis server, asked of it by a connection of its own."""
+    """The saves of a Redis server, seen by a connection of its own."""
 
     def __init__(self, path, every):
         self.path, self.every, self.done, self.seen, self.ended = path, every, 0, [], False
@@ -158,7 +158,7 @@ class Saves:
 
 
 def redis_run(program, keys, commits, points):
-    """The same of Redis."""
+    """The same for Redis."""
     blocks = blocks_of(Redis, keys)
     with tempfile.TemporaryDirectory() as folder, serve.redis_server(program, folder, *NO_MORE_SAVES) as (_, sock, _):
         asker = Asker(Redis, sock.recv, sock.send, blocks)
@@ -173,19 +173,19 @@ def redis_run(program, keys, commits, points):
     return counted(times, began, saves.seen)
 
 
-def measure(said):
-    redis = said.redis or shutil.which("redis-server")
+def measure(given):
+    redis = given.redis or shutil.which("redis-server")
     if redis is None or shutil.which("redis-cli") is None:
         sys.exit("redis-server and redis-cli have to be on the path")
-    ways = (("pcalc", pcalc_run, said.program), ("redis", redis_run, redis))
-    runs = {name: run(program, said.keys, said.commits, said.points) for name, run, program in ways}
-    with open(said.times, "w", encoding="ascii") as out:
-        out.write(f"# server, tenth of a second, commits, point or save under way; {said.keys} keys, {said.commits} commits, {said.points} points\n")
+    ways = (("pcalc", pcalc_run, given.program), ("redis", redis_run, redis))
+    runs = {name: run(program, given.keys, given.commits, given.points) for name, run, program in ways}
+    with open(given.times, "w", encoding="ascii") as out:
+        out.write(f"# server, tenth of a second, commits, point or save under way; {given.keys} keys, {given.commits} commits, {given.points} points\n")
         for name, run in runs.items():
             out.writelines(f"{name} {at} {count} {busy}\n" for at, (count, busy) in enumerate(run))
     for name, run in runs.items():
         rates = {busy: rate_of(run, busy) for busy in (0, 1)}
-        print(f"{name}: {rates[0]:.0f} commits a second, {rates[1]:.0f} where a point or a save was under way")
+        print(f"{name}: {rates[0]:.0f} commits a second, {rates[1]:.0f} while a point or a save was under way")
         for busy, what in ((0, "at rest"), (1, "in points or saves")):
             history.note(f"beside: {name}, {what}", rates[busy], "a second")
 
@@ -201,14 +201,14 @@ class NoTimes(Exception):
 
 
 def read(path):
-    """By server the commits of each tenth of a second, and whether it is busy."""
+    """For each server the commits of each tenth of a second, and whether it is busy."""
     runs = {}
     with open(path, encoding="ascii", errors="replace") as it:
         for number, words in enumerate(map(str.split, it), 1):
             if words and words[0].startswith("#"):
                 continue
             if len(words) != 4 or words[0] not in NAMES or words[1] != str(len(runs.get(words[0], ()))) or not words[2].isdecimal() or words[3] not in "01":
-                raise NoTimes(f"line {number} is none of `measure`")
+                raise NoTimes(f"line {number} isn't one of `measure`")
             runs.setdefault(words[0], []).append((int(words[2]), int(words[3])))
     if not runs:
         raise NoTimes("it has no times")
@@ -242,13 +242,13 @@ def drawn(runs, title):
 """
 
 
-def draw(said):
+def draw(given):
     try:
-        picture = drawn(read(said.times), said.title)
-        with open(said.picture, "w", encoding="utf-8") as out:
+        picture = drawn(read(given.times), given.title)
+        with open(given.picture, "w", encoding="utf-8") as out:
             out.write(picture)
     except (OSError, NoTimes) as fault:
-        sys.exit(f"{getattr(fault, 'filename', None) or said.times}: {getattr(fault, 'strerror', None) or fault}")
+        sys.exit(f"{getattr(fault, 'filename', None) or given.times}: {getattr(fault, 'strerror', None) or fault}")
 
 
 def main():
@@ -266,8 +266,8 @@ def main():
     way.add_argument("picture")
     way.add_argument("--title", default="Commits a second, with checkpoints and with background saves")
     way.set_defaults(way=draw)
-    said = ask.parse_args()
-    said.way(said)
+    given = ask.parse_args()
+    given.way(given)
 
 
 if __name__ == "__main__":

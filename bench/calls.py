@@ -1,8 +1,8 @@
 #!/usr/bin/env python3
 """Measures library calls by the program `bench_calls`: several runs, the least and the greatest time, and the peak of memory.
 
-    bench/calls.py points 100 1000        so many points over so many keys: the time for a key that is taken
-    bench/calls.py commits 500000 1000    so many transactions of one write each, over so many keys, without checkpoints and with
+    bench/calls.py points 100 1000        100 points over 1,000 keys: the time for a key that is taken
+    bench/calls.py commits 500000 1000    500,000 transactions of one write each, over 1,000 keys, without checkpoints and with
                                           checkpoints back to back: committed transactions a second, and the ratio
 
 Build the program first, by `rt run` in the folder crates/bench_calls.
@@ -33,10 +33,10 @@ def spread(text, numbers):
 
 
 def measure_points(words):
-    """The time for a key that is taken, by how many points were taken before; of each point the least of several runs."""
+    """The time for a key that is taken, by the number of earlier points; of each point the least of several runs."""
     runs = [[line.split() for line in run(["points", *words])[0]] for _ in range(RUNS)]
     points = len(runs[0])
-    least = [min(int(told[i][5]) / int(told[i][3]) for told in runs) for i in range(points)]
+    least = [min(int(lines[i][5]) / int(lines[i][3]) for lines in runs) for i in range(points)]
     print("%d points over %s keys, %d runs" % (points, words[1], RUNS))
     group = max(1, points // GROUPS)
     for first in range(0, points, group):
@@ -47,14 +47,14 @@ def measure_points(words):
 
 def measure_commits(words):
     """The rate of commits without checkpoints and with checkpoints, in turn, and the ratio of the best of each."""
-    told = {"without points": [], "with points": []}
+    results = {"without points": [], "with points": []}
     for _ in range(RUNS):
         for name, flags in (("without points", []), ("with points", ["--points"])):
-            told[name].append(dict(line.split() for line in run(["commits", *flags, *words])[0]))
-    for name, runs in told.items():
+            results[name].append(dict(line.split() for line in run(["commits", *flags, *words])[0]))
+    for name, runs in results.items():
         print("%s: %s, %d runs" % (name, ", ".join("%s %s" % count for count in runs[0].items() if count[0] != "commit_us"), RUNS))
         print(spread("committed a second, thousands:", [int(t["committed"]) * 1e3 / int(t["commit_us"]) for t in runs]))
-    least = {name: min(int(t["commit_us"]) for t in runs) for name, runs in told.items()}
+    least = {name: min(int(t["commit_us"]) for t in runs) for name, runs in results.items()}
     for name, time in least.items():
         history.note("commits %s over %s keys, %s" % (words[0], words[1], name), int(words[0]) * 1e6 / time, "a second")
     print("ratio of the greatest rates %.3f" % (least["without points"] / least["with points"]))

@@ -1,15 +1,15 @@
 #!/usr/bin/env python3
-"""Measures captures of `pcalc run`: how much commits beside the keys that a checkpointer takes.
+"""Measures captures of `pcalc run`: how many transactions commit while a checkpointer takes keys.
 
     bench/captures.py                          1,000, 60,000 and 1,000,000 keys, on one processor, on two, and on four
-    bench/captures.py KEYS PROCESSORS          so many keys, on so many processors
-    bench/captures.py --program FILE ..        of the program FILE, and else of the one that `rt run` has built
+    bench/captures.py KEYS PROCESSORS          KEYS keys, on PROCESSORS processors
+    bench/captures.py --program FILE ..        of the program FILE, by default the one that `rt run` has built
 
-Four clients fill a quarter of the keys each, over and over, beside a checkpointer with 20 points (4, where there are 1,000,000 keys). The run leaves
-its log and its parts in a folder of /dev/shm. Of each point the log tells how many transactions committed in its capture, and the part how many keys
-were taken; the least, the middle one and the greatest ratio of both are told, of captures that ended while clients ran, and how many these were of
-the points that were asked for. The clients' rate within captures is that of the hundredths of a second that begin and end in one (`--times`), beside
-the rate of those that begin and end in rest; it isn't told where either are fewer than five.
+Four clients fill a quarter of the keys each, over and over, while a checkpointer takes 20 points (4 if there are 1,000,000 keys). The run leaves its log and
+its parts in a folder of /dev/shm. The log has the number of transactions that committed in the capture of each point, and the part the number of
+keys taken. It prints the least, the median and the greatest ratio of both, of captures that ended while clients ran, and how many of the
+points these were. The clients' rate within captures is that of the hundredths of a second that begin and end in one (`--times`), divided by
+the rate of those that begin and end in rest; it isn't printed if there are fewer than five of either.
 """
 
 import argparse
@@ -35,7 +35,7 @@ LEAST_HUNDREDTHS = 5
 
 
 def workload(folder, keys, commits, points):
-    """The path of a workload of so many puts."""
+    """The path of a workload of `commits` puts."""
     own = keys // CLIENTS
     lines = [f"points {points}"]
     for number in range(CLIENTS):
@@ -48,7 +48,7 @@ def workload(folder, keys, commits, points):
 
 
 def captures(log):
-    """Of each point how many transactions committed before its capture, and how many in it; and how many in all."""
+    """For each point the number of transactions that committed before its capture, and in it; and the number of all."""
     found, count, begun, at = [], 0, 0, HEADER
     while at < len(log):
         length, kind, phase = struct.unpack_from(">IBB", log, at)
@@ -70,7 +70,7 @@ def taken(folder, point):
 
 
 def rates(times):
-    """The commits of a hundredth of a second that lies in a capture, and of one that lies in rest."""
+    """The mean commits of a hundredth of a second within a capture, and of one within rest."""
     commits, phases = plot.read(times)
     inside = {phase: [count for before, after, count in zip(phases, phases[1:], commits[1:]) if before == after == phase] for phase in ("capture", "rest")}
     if min(map(len, inside.values())) < LEAST_HUNDREDTHS:
@@ -89,25 +89,25 @@ def measure(program, keys, processors):
             sys.exit(f"{words} printed {ran.stdout!r}")
         with open(os.path.join(run, "log.pcl"), "rb") as log:
             found, all_commits = captures(log.read())
-        beside = [(count, taken(run, point)) for point, (begun, count) in enumerate(found, 1) if begun + count < all_commits]
-        return [count / keys_taken for count, keys_taken in beside if keys_taken], len(found), rates(times)
+        during = [(count, taken(run, point)) for point, (begun, count) in enumerate(found, 1) if begun + count < all_commits]
+        return [count / keys_taken for count, keys_taken in during if keys_taken], len(found), rates(times)
 
 
-def tell(program, keys, processors):
+def report(program, keys, processors):
     ratios, points, rate = measure(program, keys, processors)
     least, middle, most = (f"{it:.2f}" for it in (min(ratios), statistics.median(ratios), max(ratios))) if ratios else ("-",) * 3
     kept = f"{rate[0] / rate[1]:.2f}" if rate else "-"
-    print(f"{keys} keys, processors {processors}: {len(ratios)} of {points} beside clients, commits a key taken {least}, {middle}, {most}; rate within {kept}", flush=True)
+    print(f"{keys} keys, processors {processors}: {len(ratios)} of {points} while clients ran, commits a key taken {least}, {middle}, {most}; rate within {kept}", flush=True)
 
 
 def main():
     ask = argparse.ArgumentParser(description=__doc__, formatter_class=argparse.RawDescriptionHelpFormatter)
     ask.add_argument("--program", default=shared.program("pcalc"))
     ask.add_argument("keys", type=int, nargs="?"), ask.add_argument("processors", type=int, nargs="?")
-    said = ask.parse_args()
-    for keys in [said.keys] if said.keys else RUNS:
-        for processors in [said.processors] if said.processors else PROCESSORS:
-            tell(said.program, keys, processors)
+    given = ask.parse_args()
+    for keys in [given.keys] if given.keys else RUNS:
+        for processors in [given.processors] if given.processors else PROCESSORS:
+            report(given.program, keys, processors)
 
 
 if __name__ == "__main__":

@@ -1,12 +1,12 @@
 #!/usr/bin/env python3
-"""Measures `pcalc collapse` beside a program in C++ that joins the same files by a heap, and holds them in memory: processor time and peak of memory.
+"""Measures `pcalc collapse`, and a program in C++ that holds the same files in memory and joins them by a heap: processor time and peak of memory.
 
-    bench/collapse.py 64 20000       so many files, each of one point with so many entries, with keys of 8 bytes and values of 4, 16 and 1,000 in turn: half
-                                     of a file's keys are in its neighbour too
-    bench/collapse.py 64 20000 16    the same with values of 16 bytes alone
-    bench/collapse.py --first 64 20000    the same with files of format 01, of which one of 02 is made
+    bench/collapse.py 64 20000       64 files, each of one point with 20,000 entries, with keys of 8 bytes and values of 4, 16 and 1,000 in turn: half of a
+                                     file's keys are in the next one too
+    bench/collapse.py 64 20000 16    the same with values of 16 bytes only
+    bench/collapse.py --first 64 20000    the same with files of format 01, which are joined into one of 02
 
-Build the program first, by `rt run -- --version` in the folder crates/pcalc. The other one (`bench/merge.cpp`) is built here, by `c++`; without that only
+Build the program first, by `rt run -- --version` in the folder crates/pcalc. The other one (`bench/merge.cpp`) is built here, by `c++`; without `c++` only
 pcalc is measured. Both run in turn, and must write the same bytes.
 """
 
@@ -26,7 +26,7 @@ VALUES = (4, 16, 1000)
 
 
 def part(point, entries, size, is_first):
-    """The text of the part of a point, whose keys rise: their numbers begin half a file's keys behind those of the point before."""
+    """The text of a point's part, with ascending keys: the first one's number is half a file's keys above that of the point before."""
     magic, before = (b"PCALCP01", b"\0\x08") if is_first else (b"PCALCP02", b"\0\x08\0\0")
     head = magic + (1).to_bytes(8, "big") + (1).to_bytes(4, "big") + 2 * point.to_bytes(4, "big")
     first = point * (entries // 2)
@@ -36,7 +36,7 @@ def part(point, entries, size, is_first):
 
 
 def built(folder):
-    """The program in C++, where a compiler is."""
+    """The program in C++, if there is a compiler."""
     if shutil.which("c++") is None:
         return None
     program = os.path.join(folder, "merge")
@@ -45,7 +45,7 @@ def built(folder):
 
 
 def written(folder, files, entries, size, is_first):
-    """The names of the files, and how many bytes they have together."""
+    """Writes the files, and returns their names and their bytes together."""
     names, total = [], 0
     for point in range(1, files + 1):
         names.append(os.path.join(folder, "%05d.pcp" % point))
@@ -57,7 +57,7 @@ def written(folder, files, entries, size, is_first):
 
 
 def measured(folder, programs, files, entries, size, is_first):
-    """Runs the programs in turn over files with values of so many bytes, and prints what each took."""
+    """Runs the programs in turn over files with values of `size` bytes, and prints what each took."""
     names, total = written(folder, files, entries, size, is_first)
     what = "%d files%s of %d entries" % (files, " of format 01" if is_first else "", entries)
     print("%s with values of %d bytes, %.1f MB, %d runs" % (what, size, total / 1e6, RUNS))
@@ -84,8 +84,8 @@ def main():
     is_first = words[:1] == ["--first"]
     files, entries, *sizes = [int(some) for some in words[is_first:]]
     with tempfile.TemporaryDirectory() as folder:
-        beside = built(folder)
-        programs = [("collapse", [PROGRAM, "collapse"])] + ([("C++ heap", [beside])] if beside else [])
+        heap = built(folder)
+        programs = [("collapse", [PROGRAM, "collapse"])] + ([("C++ heap", [heap])] if heap else [])
         for size in sizes or VALUES:
             measured(folder, programs, files, entries, size, is_first)
 

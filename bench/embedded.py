@@ -4,10 +4,10 @@ of one, the least and the greatest of each; and the sizes of the archive and of 
 
     bench/embedded.py [--archive FILE] [COMMITS]
 
-By one thread of C and by four over `pcalc_threads.h` (`bench/embedded.c`), by C++ (`bench/embedded.cpp`) and by Python; beside them, in the same turns,
-SQLite in memory, LMDB without syncs and Berkeley DB with its log in memory, where their headers and libraries are installed (`bench/beside.c`), and
-Python's `sqlite3` in memory. LMDB's folder is in memory too. FILE is the archive of crates/pc_c that is measured: else the proved one where there is one,
-else one of `tools/build --library --unchecked`, of which nothing is proved, and which makes no checks, as what is proved makes none.
+By one thread of C and by four over `pcalc_threads.h` (`bench/embedded.c`), by C++ (`bench/embedded.cpp`) and by Python; in the same turns, for comparison,
+SQLite in memory, LMDB without syncs and Berkeley DB with its log in memory, if their headers and libraries are installed (`bench/beside.c`), and
+Python's `sqlite3` in memory. LMDB's folder is in memory too. FILE is the archive of crates/pc_c that is measured: by default the proved one if there is
+one, otherwise one of `tools/build --library --unchecked`, which isn't proved, and makes no checks, like the proved one.
 """
 
 import argparse
@@ -24,12 +24,12 @@ EMBEDDING, BENCH = os.path.join(ROOT, "embedding"), os.path.join(ROOT, "bench")
 PROVED = os.path.join(ROOT, "crates", "pc_c", "out", "libpc_c.a")
 RUNS, KEYS, THREADS, FEWER = 5, 1000, 4, 20
 IN_MEMORY = "/dev/shm"
-# By name the macro of `bench/beside.c`, the library, and by how many threads it is measured.
-BESIDE = {"SQLite in memory": ("SQLITE", "sqlite3", (1,)), "LMDB without syncs": ("LMDB", "lmdb", (1, THREADS)), "Berkeley DB in memory": ("BDB", "db", (1, THREADS))}
+# By name the macro of `bench/beside.c`, the library, and the numbers of threads.
+OTHERS = {"SQLite in memory": ("SQLITE", "sqlite3", (1,)), "LMDB without syncs": ("LMDB", "lmdb", (1, THREADS)), "Berkeley DB in memory": ("BDB", "db", (1, THREADS))}
 
 
 def archive_in(room):
-    """The archive that is measured where none is named."""
+    """The archive that is measured if none is named."""
     if os.path.exists(PROVED):
         return PROVED
     subprocess.run((os.path.join(ROOT, "tools", "build"), "--library", "--unchecked", f"{room}/libpc_c.a"), check=True)
@@ -43,15 +43,15 @@ def made(room, archive):
         subprocess.run((compiler, "-O2", "-pthread", "-I", os.path.join(EMBEDDING, "include"), os.path.join(BENCH, source), f"{room}/libpcalc.a", "-o", f"{room}/{name}"), check=True)
 
 
-def beside(room):
-    """The programs over other stores, by name, with the numbers of their threads: of those that are installed."""
-    for name, (macro, library, threads) in BESIDE.items():
+def others(room):
+    """The programs over other stores that are installed, by name, with the numbers of their threads."""
+    for name, (macro, library, threads) in OTHERS.items():
         program = os.path.join(room, macro)
-        told = subprocess.run(("cc", "-std=gnu11", "-O2", "-pthread", f"-DBESIDE_{macro}", os.path.join(BENCH, "beside.c"), f"-l{library}", "-o", program), capture_output=True)
-        if told.returncode == 0:
+        ran = subprocess.run(("cc", "-std=gnu11", "-O2", "-pthread", f"-DBESIDE_{macro}", os.path.join(BENCH, "beside.c"), f"-l{library}", "-o", program), capture_output=True)
+        if ran.returncode == 0:
             yield name, program, threads
         else:
-            print(f"{name}: not there")
+            print(f"{name}: not installed")
 
 
 def spent():
@@ -63,17 +63,17 @@ def spent():
 def rate(commits, *command):
     """The rate of the commits of a program that prints how many nanoseconds one took, and the processor time of one in microseconds."""
     before = spent()
-    told = float(subprocess.run(command, stdout=subprocess.PIPE, check=True).stdout)
-    return 1e9 / told, 1e6 * (spent() - before) / commits
+    nanoseconds = float(subprocess.run(command, stdout=subprocess.PIPE, check=True).stdout)
+    return 1e9 / nanoseconds, 1e6 * (spent() - before) / commits
 
 
-def rate_beside(program, commits, threads):
+def rate_of_other(program, commits, threads):
     with tempfile.TemporaryDirectory(dir=IN_MEMORY if os.path.isdir(IN_MEMORY) else None) as folder:
         return rate(commits, program, folder, str(commits), str(threads))
 
 
 def timed(commits, body):
-    """The same of commits by this program."""
+    """The same for commits by this program."""
     began, before = time.perf_counter(), time.process_time()
     for turn in range(commits):
         body(b"%d" % (turn % KEYS), b"%d" % turn)
@@ -108,9 +108,9 @@ def bodies(room, commits):
     yield "C++", lambda: rate(commits, f"{room}/embedded_cpp", str(commits))
     yield "Python", lambda: by_python(commits // FEWER)
     yield "Python, SQLite in memory", lambda: by_python_sqlite(commits // FEWER)
-    for name, program, counts in beside(room):
+    for name, program, counts in others(room):
         for threads in counts:
-            yield f"C, {threads} thread{'s' * (threads > 1)}, {name}", lambda program=program, threads=threads: rate_beside(program, commits // FEWER, threads)
+            yield f"C, {threads} thread{'s' * (threads > 1)}, {name}", lambda program=program, threads=threads: rate_of_other(program, commits // FEWER, threads)
 
 
 def main():

@@ -1,6 +1,6 @@
-"""Writes figures down where a script is run with `--note`: a row of bench/history.csv for each, with the date, the commit and the machine.
+"""Records figures if a script is run with `--note`: a row of bench/history.csv for each, with the date, the commit and the machine.
 
-The machine is told by how many processors it has and by their name. A commit with changes behind it has a `+`.
+The machine is the number and the name of its processors. A `+` marks uncommitted changes.
 """
 
 import csv
@@ -33,7 +33,7 @@ def machine():
 
 
 def note(figure, value, unit):
-    """Writes the figure down, with three digits behind the point at most, if it is to be."""
+    """Records the figure, with at most three decimals, if `--note` was given."""
     if not NOTES:
         return
     new = not os.path.exists(FILE)

@@ -1,4 +1,4 @@
-// Joins part files of either format as `pcalc collapse` does, by a heap over all inputs, which it holds in memory: what a program written by hand takes.
+// Joins part files of either format as `pcalc collapse` does, by a heap over all inputs, which it holds in memory: what a hand-written program takes.
 //
 //     merge OUT IN...
 #include <algorithm>
@@ -27,13 +27,13 @@ struct Range {
     std::exit(1);
 }
 
-// A part's text, and the entry at which it is.
+// A part's text, and its current entry.
 struct Input {
     std::string text;
     size_t at = 0;
     uint64_t run = 0;
     std::vector<Range> ranges;
-    // The key's own bytes, and what stands behind them.
+    // The key's own bytes, and what follows them.
     std::string_view own, entry;
     uint64_t head = 0;
     uint32_t space = 0, point = 0, count = 0;

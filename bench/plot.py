@@ -3,9 +3,9 @@
 
     bench/plot.py FILE SVG [--title TEXT]     reads the times from FILE and writes the picture to SVG
 
-TEXT stands above it: what was run, as its keys, its clients and the machine. A bar is a hundredth of a second, or, of a run of more than 7 seconds, the
-mean of as many as one bar must stand for. In the strip below the bars a phase has its colour where it stood at the end of a hundredth of a second, so that
-one which came and went within a hundredth isn't seen. What is wrong with FILE or SVG is told in a line, and the status is 1.
+TEXT is its title: what was run, as its keys, its clients and the machine. A bar is a hundredth of a second or, for a run of more than 7 seconds, the mean
+of several. The strip below the bars has the colour of the phase at the end of each hundredth of a second, so that a phase which begins and ends within
+one isn't shown. A fault of FILE or SVG is reported in a line, and the status is 1.
 """
 
 import argparse
@@ -43,7 +43,7 @@ def read(path):
                 continue
             words = line.split()
             if len(words) != 3 or words[0] != str(len(commits)) or not words[1].isdecimal() or words[2] not in COLOURS:
-                raise NoTimes(f"line {number} is none of --times")
+                raise NoTimes(f"line {number} isn't one of --times")
             commits.append(int(words[1]))
             phases.append(words[2])
     if not any(commits):
@@ -52,19 +52,19 @@ def read(path):
 
 
 def longest_pause(commits):
-    """How many hundredths on end have no commit, at most, between the first one that has some and the last."""
+    """The most hundredths in a row without a commit, between the first and the last that have some."""
     runs = [(has_some, sum(1 for _ in run)) for has_some, run in itertools.groupby(commits, bool)]
     return max((length for place, (has_some, length) in enumerate(runs) if not has_some and 0 < place < len(runs) - 1), default=0)
 
 
 def grouped(commits, size):
-    """The mean of each so many; the last ones may be fewer."""
+    """The mean of each `size` in a row; the last ones may be fewer."""
     groups = (commits[at : at + size] for at in range(0, len(commits), size))
     return [sum(group) / len(group) for group in groups]
 
 
 def nice(most):
-    """A step for about TICKS marks up to this: 1, 2 or 5 with zeros behind or before it."""
+    """A step for about TICKS marks up to this: 1, 2 or 5 times a power of ten."""
     least = most / TICKS
     step = 10.0 ** -2
     while True:
@@ -103,7 +103,7 @@ def strip(phases, across):
 
 
 def legend():
-    """What the colours stand for, in two columns."""
+    """What the colours mean, in two columns."""
     drawn = ""
     for place, (phase, meaning) in enumerate(MEANINGS.items()):
         x, y = LEFT + place // 2 * (WIDTH - LEFT) / 2, TOP - 46 + place % 2 * 18
@@ -112,7 +112,7 @@ def legend():
 
 
 def axes(seconds, most, size):
-    """Both axes with their marks, names and units, where a bar stands for so many hundredths of a second."""
+    """Both axes with their marks, names and units; a bar is the mean of `size` hundredths of a second."""
     bottom, up, across = HEIGHT - BOTTOM, HEIGHT - TOP - BOTTOM, (WIDTH - LEFT - RIGHT) / seconds
     drawn = line(LEFT, bottom, WIDTH - RIGHT, bottom) + line(LEFT, TOP, LEFT, bottom)
     for second in marks(seconds):
@@ -121,7 +121,7 @@ def axes(seconds, most, size):
     for count in marks(most):
         y = bottom - count * up / most
         drawn += line(LEFT - 4, y, LEFT, y) + text(LEFT - 7, y + 4, f"{count:g}", ' text-anchor="end"')
-    drawn += text((LEFT + WIDTH - RIGHT) / 2, HEIGHT - 18, "time since the begin of the run, in seconds", ' text-anchor="middle"')
+    drawn += text((LEFT + WIDTH - RIGHT) / 2, HEIGHT - 18, "time since the beginning of the run, in seconds", ' text-anchor="middle"')
     middle, mean = (TOP + bottom) / 2, "" if size == 1 else f", mean of {size}"
     return drawn + text(14, middle, f"commits in a hundredth of a second{mean}", f' text-anchor="middle" transform="rotate(-90 14 {middle:.1f})"')
 
@@ -133,8 +133,8 @@ def drawn(commits, phases, title):
     most, bottom, up = max(bars), HEIGHT - BOTTOM, HEIGHT - TOP - BOTTOM
     shown = "".join(box(LEFT + place * size * across, bottom - bar * up / most, max(size * across * 0.8, 0.5), bar * up / most, "#3b6ea8") for place, bar in enumerate(bars))
     pause = longest_pause(commits)
-    told = f"The longest time without a commit is {pause * 1_000 // SECOND} ms." if pause else "There is no hundredth of a second without a commit."
-    means = f"{sum(commits):,} transactions commit, and checkpoints are taken beside them. {told}"
+    longest = f"The longest time without a commit is {pause * 1_000 // SECOND} ms." if pause else "There is no hundredth of a second without a commit."
+    means = f"{sum(commits):,} transactions commit while checkpoints are taken. {longest}"
     return f"""<svg xmlns="http://www.w3.org/2000/svg" viewBox="0 0 {WIDTH} {HEIGHT}" font-family="sans-serif" font-size="12">
 <rect width="{WIDTH}" height="{HEIGHT}" fill="white"/>
 {text(LEFT, 22, html.escape(title), ' font-size="15"')}{text(LEFT, 43, means)}{legend()}{shown}{strip(phases, across)}{axes(len(commits) / SECOND, most, size)}</svg>

@@ -1,11 +1,11 @@
 #!/usr/bin/env python3
 """Measures `pcalc recover`: several runs, the least and the greatest time, records a second, and the peak of memory.
 
-    bench/recover.py 1000000 1000000 8    a base of so many pairs, a log of so many commits of one put each over the same keys in a scattered order, and
-                                          so many part files of the points from 1 on, fewer than commits, each of an eighth of the keys
+    bench/recover.py 1000000 1000000 8    a base of 1,000,000 pairs, a log of 1,000,000 commits of one put each over the same keys in a scattered order,
+                                          and 8 part files of the points from 1 on, fewer than commits, each of an eighth of the keys
     bench/recover.py --adds 1000000 1000000 8    the same with an add in place of each put
 
-The tokens of the points stand in the log, as many commits apart. A record is a pair, a commit or an entry of a part. A run's time is that of the whole
+The tokens of the points are in the log, at equal distances. A record is a pair, a commit or an entry of a part. A run's time is that of the whole
 program, which reads the files and prints all pairs to a file.
 
 Build the program first, by `rt run -- --version` in the folder crates/pcalc.
@@ -25,7 +25,7 @@ from tools.oracle import plain_files
 PROGRAM = os.path.join(os.path.dirname(os.path.abspath(__file__)), "..", "crates", "pcalc", "out", "pcalc")
 RUNS = 7
 RUN = 1
-# has no factor but 1 in common with the powers of ten, so that commits go over each such number of keys
+# coprime to the powers of ten, so that commits reach all keys if their number is one
 SCATTER = 2_654_435_761
 CYCLE = ("prepare", "resolve", "capture", "complete", "rest")
 
@@ -43,8 +43,8 @@ def base(pairs):
 def part(point, pairs):
     """The text of the part of a point, with one of every eight keys."""
     head = plain_files.Part(RUN, [(point, point)], {}).text()[:-6]
-    behind = point.to_bytes(4, "big") + plain_files.content_text(b"%08d" % point)
-    return head + b"".join(b"\0\x08\0\0" + key(first + point % 8) + behind for first in range(0, pairs - 7, 8)) + bytes(2) + (pairs // 8).to_bytes(4, "big")
+    rest = point.to_bytes(4, "big") + plain_files.content_text(b"%08d" % point)
+    return head + b"".join(b"\0\x08\0\0" + key(first + point % 8) + rest for first in range(0, pairs - 7, 8)) + bytes(2) + (pairs // 8).to_bytes(4, "big")
 
 
 def entries(pairs, commits, parts, adds):
@@ -63,7 +63,7 @@ def log(pairs, commits, parts, adds):
 
 
 def write_folder(folder, pairs, commits, parts, adds):
-    """Writes the files, and tells how many bytes they have together."""
+    """Writes the files, and returns their bytes together."""
     files = {"base.pcb": base(pairs), "log.pcl": log(pairs, commits, parts, adds)}
     files.update(("%05d.pcp" % point, part(point, pairs)) for point in range(1, parts + 1))
     for name, text in files.items():
@@ -73,12 +73,12 @@ def write_folder(folder, pairs, commits, parts, adds):
 
 
 def run(folder, wanted):
-    """The seconds and the peak of memory of one run, which is to print these lines and then the pairs."""
+    """The seconds and the peak of memory of one run, which must print these lines and then the pairs."""
     with tempfile.TemporaryFile() as output:
         measured = child.measure([PROGRAM, "recover", folder], output)
         output.seek(0)
         if output.read(len(wanted)) != wanted:
-            sys.exit("other than these lines was printed: %r" % wanted)
+            sys.exit("these lines weren't printed: %r" % wanted)
     return measured
 
 
@@ -89,7 +89,7 @@ def main():
         sys.exit(__doc__)
     pairs, commits, parts = map(int, words[adds:])
     if not (1 <= pairs <= 10_000_000 and parts < commits):
-        sys.exit("1 to 10,000,000 pairs are wanted, and fewer parts than commits")
+        sys.exit("PAIRS must be 1 to 10,000,000, and PARTS fewer than COMMITS")
     if not os.access(PROGRAM, os.X_OK):
         sys.exit("%s is not there: build it first" % PROGRAM)
     records = pairs + commits + parts * (pairs // 8)

@@ -1,14 +1,14 @@
 #!/usr/bin/env python3
-"""Measures `pcalc run`: committed puts a second, by clients, keys and points, beside one thread that steps a store and a bare mutex.
+"""Measures `pcalc run`: committed puts a second, by clients, keys and points; and one thread that steps a store, and a bare mutex.
 
     bench/run.sh                 400,000 transactions of one put
-    bench/run.sh COMMITS         so many
+    bench/run.sh COMMITS         COMMITS transactions
     bench/run.sh COMMITS SVG     and draws one run, commits by hundredths of a second with its points, into the file SVG (bench/plot.py)
 
-The clients share the keys out among themselves and fill their own again and again. A run's time is that of the whole program, from its start to
-its end, with a store of 64 sessions and all that it prints; where there are several runs the best and the worst are told. One thread that steps a store, and
-a mutex that is locked three times a transaction and holds nothing, are measured by `bench_calls`, as `bench/shared.py` does.
-Beside the clients stands what they could reach at most: threads that make the same fills in a store under a bare mutex, which they take twice a
+The clients divide the keys among themselves and fill their own again and again. A run's time is that of the whole program, from its start to its end,
+with a store of 64 sessions and all that it prints; of several runs the best and the worst are printed. One thread that steps a store, and a mutex
+that is locked three times a transaction and protects nothing, are measured by `bench_calls`, as in `bench/shared.py`.
+What the clients could reach at most is measured by threads that make the same fills in a store under a bare mutex, which they take twice a
 transaction and which keeps nothing for them (`bench_calls floor`, at most 15,000 keys a thread).
 """
 
@@ -23,12 +23,12 @@ import shared
 CLIENTS = (1, 2, 4)
 MOST_OWN_KEYS = 15_000
 POINTS = (0, 8)
-# how often each is run
+# by number of keys how often each is run
 RUNS = {1000: 5, 60_000: 3}
 
 
 def workload(folder, commits, clients, keys, points):
-    """The path of a workload of about so many puts, and how many there are."""
+    """The path of a workload of about `commits` puts, and how many there are."""
     own = keys // clients
     rounds = max(1, commits // (own * clients))
     lines = [f"points {points}"]
@@ -42,7 +42,7 @@ def workload(folder, commits, clients, keys, points):
 
 
 def seconds(words, count):
-    """The seconds of one run, which is to commit so many."""
+    """The seconds of one run, which must commit `count` transactions."""
     began = time.monotonic()
     ran = subprocess.run(words, check=True, capture_output=True, text=True)
     taken = time.monotonic() - began
@@ -58,22 +58,22 @@ def rates(folder, commits, clients, keys, points):
     return count / min(taken), count / max(taken)
 
 
-def tell(folder, commits):
+def report(folder, commits):
     for keys, shared.RUNS in RUNS.items():
         stepped = shared.rates("bench_calls", commits, "commit_us", "commits", commits, keys)
-        shared.tell(f"{keys} keys, one thread, stepped", stepped)
+        shared.report(f"{keys} keys, one thread, stepped", stepped)
         for clients in CLIENTS:
-            without, beside = (rates(folder, commits, clients, keys, points) for points in POINTS)
-            shared.tell(f"{keys} keys, {clients} clients", without, stepped)
-            shared.tell(f"{keys} keys, {clients} clients, {POINTS[1]} points", beside, stepped)
-            print(f"with points to without: {beside[0] / without[0]:.2f}", flush=True)
+            without, with_points = (rates(folder, commits, clients, keys, points) for points in POINTS)
+            shared.report(f"{keys} keys, {clients} clients", without, stepped)
+            shared.report(f"{keys} keys, {clients} clients, {POINTS[1]} points", with_points, stepped)
+            print(f"with points, of without: {with_points[0] / without[0]:.2f}", flush=True)
             own = keys // clients
             if own <= MOST_OWN_KEYS:
                 floor = shared.rates("bench_calls", commits // clients * clients, "us", "floor", clients, commits // clients, own)
-                shared.tell(f"{keys} keys, {clients} threads that fill under a bare mutex", floor, stepped)
+                shared.report(f"{keys} keys, {clients} threads that fill under a bare mutex", floor, stepped)
     shared.RUNS = max(RUNS.values())
     for clients in CLIENTS:
-        shared.tell(f"{clients} threads, a bare mutex", shared.rates("bench_calls", commits * clients, "us", "mutex", clients, commits, 1000))
+        shared.report(f"{clients} threads, a bare mutex", shared.rates("bench_calls", commits * clients, "us", "mutex", clients, commits, 1000))
 
 
 def draw(folder, commits, picture):
@@ -88,7 +88,7 @@ def draw(folder, commits, picture):
 def main():
     commits = int(sys.argv[1]) if len(sys.argv) > 1 else 400_000
     with tempfile.TemporaryDirectory() as folder:
-        tell(folder, commits)
+        report(folder, commits)
         if len(sys.argv) > 2:
             draw(folder, commits, sys.argv[2])
 

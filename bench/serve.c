@@ -1,10 +1,10 @@
-/* A client for bench/serve.py: transactions of one put each, to a server on file descriptors that are open.
+/* A client for bench/serve.py: transactions of one put each, to a server on open file descriptors.
  *
- *     serve SPEAKS LINES DEPTH COUNT KEYS
+ *     serve PROTOCOL LINES DEPTH COUNT KEYS
  *
- * It reads answers from descriptor 0 and writes to descriptor 1. SPEAKS is `pcalc`, `redis` (MULTI, SET, EXEC) or `set` (SET alone). Where LINES is 1,
- * each line is answered before the next one is written; else a transaction's lines go out together, with DEPTH transactions under way at
- * most. Keys go round, COUNT transactions in all. On standard error it tells how many microseconds that took.
+ * It reads answers from descriptor 0 and writes to descriptor 1. PROTOCOL is `pcalc`, `redis` (MULTI, SET, EXEC) or `set` (only SET). If LINES is 1,
+ * each line is answered before the next one is written; otherwise a transaction's lines are sent together, with at most DEPTH transactions
+ * under way. KEYS keys are used in turn, in COUNT transactions. On standard error it prints how many microseconds that took.
  */
 #include <stdio.h>
 #include <stdlib.h>
@@ -19,14 +19,14 @@ struct transaction {
     char text[MOST_LINES][MOST_OF_ONE];
 };
 
-struct speech {
+struct protocol {
     const char *name;
     /* what the answers to a transaction begin with, and how many of them answer each of its lines */
     const char *answers[MOST_ANSWERS];
     int answered[MOST_LINES];
 };
 
-static const struct speech SPEECHES[] = {
+static const struct protocol PROTOCOLS[] = {
     { "pcalc", { "begun ", "ok", "committed " }, { 1, 1, 1 } },
     { "redis", { "+OK", "+QUEUED", "*1", "+OK" }, { 1, 1, 2 } },
     { "set", { "+OK" }, { 1 } },
@@ -42,13 +42,13 @@ static void write_all(const char *text, size_t left)
 {
     while (left > 0) {
         ssize_t done = write(1, text, left);
-        if (done <= 0) fail("the server takes no more");
+        if (done <= 0) fail("the server reads no more");
         text += done;
         left -= (size_t)done;
     }
 }
 
-/* Reads the next line, which is to begin so. */
+/* Reads the next line, which must begin with these bytes. */
 static void expect(const char *wanted)
 {
     static char room[ROOM];
@@ -64,22 +64,22 @@ static void expect(const char *wanted)
     }
     if (strncmp(room + begin, wanted, strlen(wanted)) != 0) {
         *stop = 0;
-        fprintf(stderr, "told `%s` for `%s`\n", room + begin, wanted);
+        fprintf(stderr, "the answer is `%s`, not `%s`\n", room + begin, wanted);
         exit(1);
     }
     begin = (size_t)(stop - room) + 1;
 }
 
-static void spell(struct transaction *it, const struct speech *speech, long number, long keys)
+static void spell(struct transaction *it, const struct protocol *protocol, long number, long keys)
 {
     long key = number * 7919 % keys, value = number % 1000000;
     int lines = 0;
-    if (strcmp(speech->name, "pcalc") == 0) {
+    if (strcmp(protocol->name, "pcalc") == 0) {
         strcpy(it->text[lines++], "begin 1\n");
         sprintf(it->text[lines++], "put 1 k%07ld v%07ld\n", key, value);
         strcpy(it->text[lines++], "commit 1\n");
     } else {
-        int is_alone = strcmp(speech->name, "set") == 0;
+        int is_alone = strcmp(protocol->name, "set") == 0;
         if (!is_alone) strcpy(it->text[lines++], "*1\r\n$5\r\nMULTI\r\n");
         sprintf(it->text[lines++], "*3\r\n$3\r\nSET\r\n$8\r\nk%07ld\r\n$8\r\nv%07ld\r\n", key, value);
         if (!is_alone) strcpy(it->text[lines++], "*1\r\n$4\r\nEXEC\r\n");
@@ -87,51 +87,51 @@ static void spell(struct transaction *it, const struct speech *speech, long numb
     it->lines = lines;
 }
 
-static void by_lines(const struct speech *speech, long count, long keys)
+static void by_lines(const struct protocol *protocol, long count, long keys)
 {
     for (long number = 0; number < count; number++) {
         struct transaction it;
-        spell(&it, speech, number, keys);
+        spell(&it, protocol, number, keys);
         for (int line = 0, answer = 0; line < it.lines; line++) {
             write_all(it.text[line], strlen(it.text[line]));
-            for (int of_line = 0; of_line < speech->answered[line]; of_line++) expect(speech->answers[answer++]);
+            for (int of_line = 0; of_line < protocol->answered[line]; of_line++) expect(protocol->answers[answer++]);
         }
     }
 }
 
-/* Writes whole transactions, and reads answers once as many as may be are under way, until half of them are. */
-static void by_transactions(const struct speech *speech, long depth, long count, long keys)
+/* Writes whole transactions, and once `depth` of them are under way reads answers until half are. */
+static void by_transactions(const struct protocol *protocol, long depth, long count, long keys)
 {
     static char room[ROOM];
-    long sent = 0, told = 0;
-    while (told < count) {
+    long sent = 0, done = 0;
+    while (done < count) {
         size_t length = 0;
-        while (sent < count && sent - told < depth && length < ROOM - MOST_LINES * MOST_OF_ONE) {
+        while (sent < count && sent - done < depth && length < ROOM - MOST_LINES * MOST_OF_ONE) {
             struct transaction it;
-            spell(&it, speech, sent++, keys);
+            spell(&it, protocol, sent++, keys);
             for (int line = 0; line < it.lines; line++) {
                 strcpy(room + length, it.text[line]);
                 length += strlen(it.text[line]);
             }
         }
         write_all(room, length);
-        for (long until = sent == count ? count : sent - depth / 2; told < until; told++)
-            for (int answer = 0; answer < MOST_ANSWERS && speech->answers[answer] != NULL; answer++) expect(speech->answers[answer]);
+        for (long until = sent == count ? count : sent - depth / 2; done < until; done++)
+            for (int answer = 0; answer < MOST_ANSWERS && protocol->answers[answer] != NULL; answer++) expect(protocol->answers[answer]);
     }
 }
 
 int main(int words, char **word)
 {
-    const struct speech *speech = NULL;
-    if (words != 6) fail("serve SPEAKS LINES DEPTH COUNT KEYS");
-    for (size_t at = 0; at < sizeof SPEECHES / sizeof *SPEECHES; at++)
-        if (strcmp(SPEECHES[at].name, word[1]) == 0) speech = &SPEECHES[at];
-    if (speech == NULL) fail("SPEAKS is pcalc, redis or set");
+    const struct protocol *protocol = NULL;
+    if (words != 6) fail("serve PROTOCOL LINES DEPTH COUNT KEYS");
+    for (size_t at = 0; at < sizeof PROTOCOLS / sizeof *PROTOCOLS; at++)
+        if (strcmp(PROTOCOLS[at].name, word[1]) == 0) protocol = &PROTOCOLS[at];
+    if (protocol == NULL) fail("PROTOCOL is pcalc, redis or set");
     long depth = atol(word[3]), count = atol(word[4]), keys = atol(word[5]);
     struct timespec began, ended;
     clock_gettime(CLOCK_MONOTONIC, &began);
-    if (atoi(word[2])) by_lines(speech, count, keys);
-    else by_transactions(speech, depth, count, keys);
+    if (atoi(word[2])) by_lines(protocol, count, keys);
+    else by_transactions(protocol, depth, count, keys);
     clock_gettime(CLOCK_MONOTONIC, &ended);
     fprintf(stderr, "%lld\n", (long long)(ended.tv_sec - began.tv_sec) * 1000000 + (ended.tv_nsec - began.tv_nsec) / 1000);
     return 0;

@@ -1,19 +1,18 @@
 #!/usr/bin/env python3
-"""Measures `pcalc serve`: transactions of one put each a second, beside a Redis server that logs too.
+"""Measures `pcalc serve`, and a Redis server that logs too: transactions of one put each, per second.
 
-    bench/serve.py                       20,000 transactions line by line, 20 times as many where many are under way, over 1,000 keys
-    bench/serve.py COMMITS               so many line by line
-    bench/serve.py --pairs N             a start with so many pairs, and else with 1,000,000
-    bench/serve.py --only-rolls ..       rolls of a generation alone
-    bench/serve.py --program FILE ..     of the program FILE, and else of the one that `rt run` has built
+    bench/serve.py                       20,000 transactions line by line, up to 20 times as many if many are under way, over 1,000 keys
+    bench/serve.py COMMITS               COMMITS line by line
+    bench/serve.py --pairs N             a start with N pairs, by default with 1,000,000
+    bench/serve.py --only-rolls ..       only rolls of a generation
+    bench/serve.py --program FILE ..     of the program FILE, by default the one that `rt run` has built
 
-Told are rates with a round trip for each line, with one for each transaction, and with 16 and 1,000 transactions under way; by a client in C
-(`bench/serve.c`, where a C compiler is) and by `clients/python/pcalc.py`, which sends 16 or 1,000 and then waits for all of them. Servers take turns, and
-the best and the worst of several runs are told. The other one is `redis-server` with `appendonly yes`, over a Unix socket, where it is installed: with
-`appendfsync no` beside pcalc, and with `always` beside `--sync`, over as many transactions as fit in some seconds. Its transactions are MULTI, SET, EXEC, and
-beside them stands a SET alone. Then the memory of the process behind its start and behind two counts of commits; and how long a start with many
-pairs takes, by the clock and in processor time, with the memory behind it; and how long a client waits for an answer while a generation rolls over as
-many.
+It prints rates with a round trip for each line, with one for each transaction, and with 16 and 1,000 transactions under way; by a client in C
+(`bench/serve.c`, if there is a C compiler) and by `clients/python/pcalc.py`, which sends 16 or 1,000 and then waits for all of them. Servers take turns, and
+the best and the worst of several runs are printed. The other one is `redis-server` with `appendonly yes`, over a Unix socket, if it is installed: with
+`appendfsync no` for pcalc, and with `always` for `--sync`, over as many transactions as fit in some seconds. Its transactions are MULTI, SET, EXEC, and
+also a single SET. Then the memory of the process after its start and after two counts of commits; and how long a start with many pairs takes, by the
+clock and in processor time, with the memory after it; and how long a client waits for an answer while a generation with as many pairs rolls.
 """
 
 import argparse
@@ -36,24 +35,24 @@ import pcalc  # noqa: E402
 
 KEYS = 1000
 ROUNDS = 3
-# a name, whether each line is answered before the next one, how many transactions are under way, and how many times the commits are made
+# a name, whether each line is answered before the next one, how many transactions are under way, and by what the commits are multiplied
 SHAPES = (("a round trip a line", 1, 1, 1), ("a round trip a transaction", 0, 1, 1), ("16 under way", 0, 16, 5), ("1,000 under way", 0, 1000, 20))
-# how many of them where each is brought to the disk
+# what part of them if each is flushed to the disk
 SYNCED = 0.02
 COUNTS = (100_000, 1_000_000)
 PUTS = 250
 PATIENCE = 100
-# commits of a generation that rolls, and how many generations do
+# commits of a generation before it rolls, and how many generations do
 ROLL, ROLLS = 20, 6
 
 
 @contextlib.contextmanager
 def pcalc_server(program, folder, *words):
-    """A process that serves a new store, by its number, with what it is read from and written to."""
+    """A process that serves the store of the folder: its id, its output and its input."""
     command = [program, "serve", os.path.join(folder, "store"), "--create", *words]
     with subprocess.Popen(command, stdin=subprocess.PIPE, stdout=subprocess.PIPE, bufsize=0) as process:
         if not process.stdout.readline().startswith(b"ready"):
-            sys.exit("pcalc doesn't serve")
+            sys.exit("pcalc serve doesn't start")
         yield process.pid, process.stdout, process.stdin
         process.stdin.close()
 
@@ -73,26 +72,26 @@ def redis_server(program, folder, *words):
 
 
 def built(folder):
-    """The client in C, where a compiler is."""
+    """The client in C, if there is a compiler."""
     if shutil.which("cc") is None:
-        print("no C compiler is here: only the client in Python is measured")
+        print("no C compiler: only the client in Python is measured")
         return None
     client = os.path.join(folder, "client")
     subprocess.run(["cc", "-O2", "-std=gnu11", "-o", client, os.path.join(BENCH, "serve.c")], check=True)
     return client
 
 
-def c_seconds(client, server, speaks, lines, depth, count):
-    """The seconds of so many transactions of the client in C."""
+def c_seconds(client, server, protocol, lines, depth, count):
+    """The seconds of `count` transactions of the client in C."""
     _, source, target = server
-    ran = subprocess.run([client, speaks, str(lines), str(depth), str(count), str(KEYS)], stdin=source, stdout=target, stderr=subprocess.PIPE, text=True)
+    ran = subprocess.run([client, protocol, str(lines), str(depth), str(count), str(KEYS)], stdin=source, stdout=target, stderr=subprocess.PIPE, text=True)
     if ran.returncode:
         sys.exit(ran.stderr)
     return int(ran.stderr) / 1e6
 
 
 def python_seconds(store, lines, depth, count):
-    """The same of the client in Python."""
+    """The same for the client in Python."""
     began = time.monotonic()
     if lines:
         for number in range(count):
@@ -106,11 +105,11 @@ def python_seconds(store, lines, depth, count):
     return time.monotonic() - began
 
 
-def of_c(client, serve, program, words, speaks):
+def of_c(client, serve, program, words, protocol):
     """What measures a shape of a new server by the client in C."""
     def measured(lines, depth, count):
         with tempfile.TemporaryDirectory() as folder, serve(program, folder, *words) as server:
-            return c_seconds(client, server, speaks, lines, depth, count)
+            return c_seconds(client, server, protocol, lines, depth, count)
     return measured
 
 
@@ -129,14 +128,14 @@ def measurers(program, client, redis, is_synced):
     yield f"{name}, Python", of_python(program, words)
     if client and redis:
         fsync = "always" if is_synced else "no"
-        for speaks, told in (("redis", "MULTI SET EXEC"), ("set", "SET")):
-            yield f"redis appendfsync {fsync}, C, {told}", of_c(client, redis_server, redis, ("--appendfsync", fsync), speaks)
+        for protocol, commands in (("redis", "MULTI SET EXEC"), ("set", "SET")):
+            yield f"redis appendfsync {fsync}, C, {commands}", of_c(client, redis_server, redis, ("--appendfsync", fsync), protocol)
 
 
-def tell_rates(program, client, redis, commits):
+def print_rates(program, client, redis, commits):
     for is_synced in (False, True):
         for shape, lines, depth, times in SHAPES:
-            # so many are synced together that the time of all shapes is alike
+            # those under way are synced together, so that all shapes take a similar time
             count = max(depth, int(commits * times * SYNCED)) if is_synced else commits * times
             seconds = {}
             for _ in range(ROUNDS):
@@ -155,23 +154,23 @@ def resident(number):
 
 
 def processor_seconds(number):
-    """The processor time that a process has used, the system's for it among that."""
+    """The processor time that a process has used, including the system's."""
     with open(f"/proc/{number}/stat", encoding="ascii") as it:
         return sum(map(int, it.read().rpartition(")")[2].split()[11:13])) / os.sysconf("SC_CLK_TCK")
 
 
-def tell_memory(name, client, serve, program, words, speaks):
+def print_memory(name, client, serve, program, words, protocol):
     with tempfile.TemporaryDirectory() as folder, serve(program, folder, *words) as server:
-        told, done = [resident(server[0])], 0
+        memory, done = [resident(server[0])], 0
         for count in COUNTS:
-            c_seconds(client, server, speaks, 0, 1000, count - done)
-            told, done = [*told, resident(server[0])], count
-        history.note(f"serve: {name}, memory behind {COUNTS[-1]} commits", told[-1], "MB")
-        print(f"{name}: memory {told[0]:.0f} MB at first, " + ", ".join(f"{mb:.0f} behind {count:,} commits" for mb, count in zip(told[1:], COUNTS)), flush=True)
+            c_seconds(client, server, protocol, 0, 1000, count - done)
+            memory, done = [*memory, resident(server[0])], count
+        history.note(f"serve: {name}, memory behind {COUNTS[-1]} commits", memory[-1], "MB")
+        print(f"{name}: memory {memory[0]:.0f} MB at first, " + ", ".join(f"{mb:.0f} after {count:,} commits" for mb, count in zip(memory[1:], COUNTS)), flush=True)
 
 
 def filled(program, folder, pairs):
-    """Makes a store of so many pairs, and tells how long that took."""
+    """Makes a store of `pairs` pairs, and prints how long that took."""
     lines, began = os.path.join(folder, "lines"), time.monotonic()
     with open(lines, "w", encoding="ascii") as out:
         for first in range(0, pairs, PUTS):
@@ -184,8 +183,8 @@ def filled(program, folder, pairs):
     print(f"{pairs:,} pairs, written {PUTS} a transaction: {pairs / (time.monotonic() - spelled):.0f} a second; the lines took {spelled - began:.1f} s to spell")
 
 
-def tell_start(program, pairs):
-    """How long starts take: of the log of one generation, and then of its base."""
+def print_start(program, pairs):
+    """Prints how long starts take: from the log of a generation, and then from its base."""
     with tempfile.TemporaryDirectory() as folder:
         filled(program, folder, pairs)
         for what in ("out of a log", "out of a base"):
@@ -197,8 +196,8 @@ def tell_start(program, pairs):
             print(f"start with {pairs:,} pairs, {what}: {seconds:.2f} s, {used:.2f} of processor time, {memory}", flush=True)
 
 
-def tell_roll(program, pairs):
-    """How long a client waits for an answer where a generation rolls before it, beside other answers, and the processor time of a roll."""
+def print_roll(program, pairs):
+    """Prints how long a client waits for an answer before which a generation rolls, and for others, and the processor time of a roll."""
     with tempfile.TemporaryDirectory() as folder:
         filled(program, folder, pairs)
         with pcalc_server(program, folder, "--capacity", str(max(1, pairs)), "--roll", str(ROLL)) as (number, source, target):
@@ -208,16 +207,16 @@ def tell_roll(program, pairs):
                 asked(source, target, b"begin 1\nput 1 k0000000 v0000000\ncommit 1\n", 3)
                 taken.append(time.monotonic() - began)
             used, mb = (processor_seconds(number) - used) / ROLLS, resident(number)
-    # the first line behind each ROLL commits waits
+    # the first line after each ROLL commits waits
     pauses = sorted(seconds for place, seconds in enumerate(taken) if place and place % ROLL == 0)
     others = sorted(seconds for place, seconds in enumerate(taken) if place % ROLL)
     history.note(f"serve: roll over {pairs} pairs", used, "s of processor time")
     waits = f"{pauses[0]:.2f} to {pauses[-1]:.2f} s, {used:.2f} of processor time"
-    print(f"a roll over {pairs:,} pairs: {waits}; {others[len(others) // 2] * 1e6:.0f} us without one; memory {mb:.0f} MB behind {ROLLS} of them", flush=True)
+    print(f"a roll over {pairs:,} pairs: {waits}; {others[len(others) // 2] * 1e6:.0f} us without one; memory {mb:.0f} MB after {ROLLS} of them", flush=True)
 
 
 def asked(source, target, lines, count):
-    """Asks lines, and reads this number of lines."""
+    """Asks the lines, and reads `count` lines."""
     target.write(lines)
     read = b""
     while read.count(b"\n") < count:
@@ -233,21 +232,21 @@ def main():
     ask.add_argument("--pairs", type=int, default=1_000_000)
     ask.add_argument("--only-rolls", action="store_true")
     ask.add_argument("commits", type=int, nargs="?", default=20_000)
-    said = ask.parse_args()
-    if said.only_rolls:
-        return tell_roll(said.program, said.pairs)
+    given = ask.parse_args()
+    if given.only_rolls:
+        return print_roll(given.program, given.pairs)
     redis = shutil.which("redis-server")
     if redis is None:
-        print("redis-server isn't here: only pcalc is measured")
+        print("redis-server isn't installed: only pcalc is measured")
     with tempfile.TemporaryDirectory() as folder:
         client = built(folder)
-        tell_rates(said.program, client, redis, said.commits)
+        print_rates(given.program, client, redis, given.commits)
         if client:
-            tell_memory("pcalc", client, pcalc_server, said.program, (), "pcalc")
+            print_memory("pcalc", client, pcalc_server, given.program, (), "pcalc")
         if client and redis:
-            tell_memory("redis", client, redis_server, redis, ("--appendfsync", "no"), "set")
-    tell_start(said.program, said.pairs)
-    tell_roll(said.program, said.pairs)
+            print_memory("redis", client, redis_server, redis, ("--appendfsync", "no"), "set")
+    print_start(given.program, given.pairs)
+    print_roll(given.program, given.pairs)
 
 
 if __name__ == "__main__":

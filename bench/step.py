@@ -66,8 +66,8 @@ def main():
     ratio, over_many = times[1] / times[0], times[2] / times[0]
     history.note("step: twice the lines", ratio, "times as long")
     history.note("step: %d keys for %d" % (MANY_KEYS, KEYS), over_many, "times as long")
-    print("twice the lines took %.2f times the time (at most %.1f is wanted)" % (ratio, MOST_TIMES_LONGER))
-    print("as many lines over %d keys took %.2f times the time (at most %.1f is wanted)" % (MANY_KEYS, over_many, MOST_TIMES_LONGER_OVER_MANY))
+    print("twice the lines took %.2f times the time (target: at most %.1f)" % (ratio, MOST_TIMES_LONGER))
+    print("as many lines over %d keys took %.2f times the time (target: at most %.1f)" % (MANY_KEYS, over_many, MOST_TIMES_LONGER_OVER_MANY))
     sys.exit(0 if ratio <= MOST_TIMES_LONGER and over_many <= MOST_TIMES_LONGER_OVER_MANY else 1)
 
 

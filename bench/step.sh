@@ -1,7 +1,7 @@
 #!/bin/sh
-# Runs `pcalc step` on a script of N lines (1,000,000 where none is given), on one of twice as many, and on one of N lines over
-# 200,000 keys in place of 1,000, and tells for each its lines a second and its peak memory. Fails where twice the lines take more
-# than 2.3 times the time, or the many keys more than 1.3 times.
+# Runs `pcalc step` on a script of N lines (1,000,000 by default), on one of twice as many, and on one of N lines over 200,000
+# keys instead of 1,000, and prints for each its lines a second and its peak memory. Fails if twice the lines take more than 2.3
+# times the time, or the many keys more than 1.3 times.
 # Build the program first: `rt run -- step ../../examples/first.pcs` in the folder crates/pcalc.
 set -u
 cd "$(dirname "$0")/.." || exit 1

@@ -4,7 +4,7 @@
     shell_pages.py PROGRAM FOLDER     writes FOLDER/man/man1/pcalc.1, FOLDER/bash-completion/completions/pcalc,
                                       FOLDER/zsh/site-functions/_pcalc and FOLDER/fish/vendor_completions.d/pcalc.fish
 
-The folder is what `share` is to an installation: `make install` calls this.
+The folder is an installation's `share`: `make install` calls this.
 """
 
 import os
@@ -14,13 +14,13 @@ import sys
 import typing
 
 ENTRY = re.compile(r"^ {2,6}(?P<term>\S.*?)(?:\s{2,}(?P<text>\S.*))?$")
-# An option's long name, and what stands for its value where it takes one.
+# An option's long name, and the name of its value if it takes one.
 LONG = re.compile(r"--(?P<name>[a-z-]+)(?: <(?P<value>[A-Z]+)>)?")
 FILES = {"SCRIPT", "WORKLOAD", "DIR", "OLD", "FILE", "OUT", "IN"}
 
 
 class Help(typing.NamedTuple):
-    """What a help says: of what it is, how it is called, and by section its entries, each a term with its text."""
+    """The parts of a help: what it is about, the usage, by section the entries, each a term with its text, and what follows them."""
 
     about: str
     usage: str
@@ -29,7 +29,7 @@ class Help(typing.NamedTuple):
 
 
 def help_of(text):
-    """The parts of a help."""
+    """The help in this text."""
     about, usage, sections, behind, entries = "", "", {}, [], None
     for line in text.splitlines():
         entry = ENTRY.match(line)
@@ -51,16 +51,16 @@ def help_of(text):
 def helps(program):
     """The help of the program, and that of each command by its name."""
 
-    def told(*words):
+    def printed(*words):
         return help_of(subprocess.run([program, *words, "--help"], check=True, capture_output=True, text=True).stdout)
 
-    whole = told()
+    whole = printed()
     names = [name for name, _ in whole.sections["Commands"] if name != "help"]
-    return whole, {name: told(name) for name in names}
+    return whole, {name: printed(name) for name in names}
 
 
 def escaped(text):
-    """A text as groff prints it as it is."""
+    """A text escaped for groff, which then prints it unchanged."""
     text = text.replace("\\", "\\e").replace("-", "\\-")
     return "\\&" + text if text.startswith((".", "'")) else text
 
@@ -74,12 +74,12 @@ def man_page(version, whole, commands):
         for section in ("Arguments", "Options"):
             for term, text in it.sections.get(section, []):
                 lines += [".TP", f".B {escaped(term)}", escaped(text)]
-        lines += [line for said in it.behind for line in (".PP", escaped(said))]
+        lines += [line for text in it.behind for line in (".PP", escaped(text))]
     return "\n".join(lines) + "\n"
 
 
 def options_of(it):
-    """Each long option of a command: its name, what stands for its value or None, and its text."""
+    """Each long option of a command: its name, its value's name or None, and its text."""
     for term, text in it.sections.get("Options", []):
         found = LONG.search(term)
         if found:
@@ -87,7 +87,7 @@ def options_of(it):
 
 
 def bash_completion(commands):
-    """The completion of bash: commands, options, and files for what is none."""
+    """The completion of bash: commands, options, and otherwise files."""
     cases = [f"        {name}) words='{' '.join(f'--{option}' for option, _, _ in options_of(it))}' ;;" for name, it in commands.items()]
     return "\n".join(
         [

@@ -1,9 +1,9 @@
-"""A client of `pcalc serve`: transactions over a store that another process holds, from any number of threads.
+"""A client of `pcalc serve`: transactions of any number of threads, over a store in a process of its own.
 
     import pcalc
 
     with pcalc.Store("shop", create=True) as store:
-        with store.transaction() as t:          # committed at the end of the block, aborted where it raises
+        with store.transaction() as t:          # committed at the end of the block, aborted if it raises
             t[b"fig"] = b"7"
             t.add(b"sold", 1)
             print(t[b"fig"], t.get(b"pear"))
@@ -11,7 +11,7 @@
         def sell(t):
             if t.add(b"stock", -1) < 0:
                 raise ValueError("sold out")
-        store.run(sell)                         # begun again where it dies
+        store.run(sell)                         # begun again if it dies
 
         with store.pipeline() as pipeline:      # many transactions under way
             for number in range(100_000):
@@ -19,12 +19,12 @@
                     t[b"k%d" % number] = b"v"
 
 A key is bytes, or a pair of a space (0 to 65,535) and bytes; the bytes alone are a key of space 0. A value is bytes. A commit that was
-answered is in the store's log: it is there again when the store is opened the next time, also where its process was killed.
+answered is in the store's log: the next process that opens the store has it, even if this one is killed.
 
-A transaction locks what it reads and writes until it ends. A request that another transaction is in the way of either waits, where its own
-transaction is the older one, or its transaction dies, which is told by `Died`: nothing of it is kept, and it may be begun again.
+A transaction locks what it reads and writes until it ends. A request that conflicts with another transaction waits if its own transaction is
+the older one; otherwise its transaction dies, which raises `Died`: nothing of it is kept, and it may be begun again.
 
-This module needs Python 3.8 and its standard library, and nothing else. Nothing of it is proved.
+This module needs only Python 3.8 and its standard library. It isn't proved.
 """
 
 import collections
@@ -45,11 +45,11 @@ MOST_WRITES = 256
 MOST_KEY_BYTES = 255
 MOST_VALUE_BYTES = 65_535
 MOST_SPACE = 65_535
-# how many transactions of a pipeline are sent at once, unless it is said
+# how many transactions of a pipeline are sent together by default
 DEPTH = 1000
-# what a read of the answers asks for
+# bytes that a read asks for
 READ_BYTES = 65_536
-# the longest pause before a transaction that has died is begun again, in seconds
+# the longest pause before a transaction that died is begun again, in seconds
 LONGEST_PAUSE = 0.05
 
 _PLAIN = re.compile(rb"[!-\[\]-~]+")
@@ -58,11 +58,11 @@ _SPELLED = [bytes((it,)) if 0x21 <= it <= 0x7E and it != 0x5C else b"\\x%02x" % 
 
 
 class Error(Exception):
-    """Anything that a store tells instead of an answer."""
+    """A failure of a store, or a misuse of it."""
 
 
 class Refused(Error):
-    """A line was refused, and has changed nothing. `word` is the store's own name of the refusal, as "Full" or "NotNumber"."""
+    """A line was refused, and changed nothing. `word` is the store's name of the refusal, as "Full" or "NotNumber"."""
 
     def __init__(self, word):
         super().__init__(word)
@@ -70,15 +70,15 @@ class Refused(Error):
 
 
 class Died(Error):
-    """The transaction has died, since another one is in its way; nothing of it is kept. It may be begun again: `Store.run` does so."""
+    """The transaction died in a conflict with another one; nothing of it is kept. It may be begun again: `Store.run` does so."""
 
     def __init__(self, told="the transaction has died, and nothing of it is kept: begin it again"):
         super().__init__(told)
 
 
 class Ended(Error):
-    """The process has ended, or can't be started. `status` is its status, if it has one. Whether a commit that wasn't answered yet is kept
-    can't be known."""
+    """The process has ended, or can't be started. `status` is its status, if it has one. Whether a commit that wasn't answered is kept
+    isn't known."""
 
     def __init__(self, told, status=None):
         super().__init__(told)
@@ -98,14 +98,14 @@ def word(value):
 
 
 def bytes_of(text):
-    """The bytes that a printed word stands for."""
+    """The bytes that a printed word spells."""
     if text == b"-":
         return b""
     return _ESCAPED.sub(lambda it: bytes((int(it[1], 16),)), text) if b"\\" in text else text
 
 
 def key_word(key):
-    """The word that spells this key: bytes, or a pair of a space and bytes. Raises `Refused` where the length is none of a key."""
+    """The word that spells this key: bytes, or a pair of a space and bytes. Raises `Refused` if the length isn't one of a key."""
     space, own = key if isinstance(key, tuple) else (0, key)
     if isinstance(own, str):
         raise TypeError("a key is bytes, or a pair of a space and bytes")
@@ -117,7 +117,7 @@ def key_word(key):
 
 
 def value_word(value):
-    """The word that spells this value. Raises `Refused` where it is too long."""
+    """The word that spells this value. Raises `Refused` if it is too long."""
     if isinstance(value, (int, str)):
         raise TypeError("a value is bytes")
     if len(value) > MOST_VALUE_BYTES:
@@ -128,24 +128,24 @@ def value_word(value):
 def delta_word(delta):
     """The word that spells a number to add."""
     if not -(2**63) <= delta < 2**63:
-        raise ValueError("a number to add has 64 bits with a sign")
+        raise ValueError("a number to add has 64 signed bits")
     return b"%d" % delta
 
 
 def number_of(value):
-    """The number that a value of eight bytes is, as `add` leaves it."""
+    """The number in a value of eight bytes, as `add` writes it."""
     if len(value) != 8:
         raise ValueError("a number has eight bytes")
     return int.from_bytes(value, "big", signed=True)
 
 
 def value_of(number):
-    """The value of eight bytes that is this number."""
+    """This number as a value of eight bytes."""
     return number.to_bytes(8, "big", signed=True)
 
 
 def meaning_of(answer):
-    """What the answer to an operation tells: a value, the number that a key has behind an add, or None. Raises where it is neither."""
+    """The result in the answer to an operation: a value, the sum of an add, or None. Raises if the answer has none of these."""
     if answer == b"ok" or answer == b"absent":
         return None
     if answer[:2] == b"= ":
@@ -156,17 +156,17 @@ def meaning_of(answer):
 
 
 def fault_of(answer):
-    """The exception that stands for an answer that isn't the wanted one."""
+    """The exception for an answer that isn't the expected one."""
     if answer == b"died" or answer == b"refused MustAbort":
         return Died()
     if answer[:8] == b"refused ":
         return Refused(answer[8:].decode())
-    return Error("the store told `%s`" % answer.decode(errors="replace"))
+    return Error("the store answered `%s`" % answer.decode(errors="replace"))
 
 
 def command(folder, program="pcalc", create=False, sync=False, damaged=False, **numbers):
     """The words of a command that serves the store of the folder. `program` is a path, or a list of words; the numbers are `sessions`,
-    `capacity`, `every`, `roll`, `keep`, `lag` and `run`, as docs/MANUAL.md has them."""
+    `capacity`, `every`, `roll`, `keep`, `lag` and `run`, as in docs/MANUAL.md."""
     unknown = sorted(set(numbers) - {"sessions", "capacity", "every", "roll", "keep", "lag", "run"})
     if unknown:
         raise TypeError("there is no option %s" % unknown[0])
@@ -179,7 +179,7 @@ def command(folder, program="pcalc", create=False, sync=False, damaged=False, **
 
 
 class _Asked:
-    """Lines that were written together, and what was answered so far. `gate` is let go once all are answered, or the process has ended."""
+    """Lines that were written together, and their answers so far. `gate` is released once all are answered, or the process has ended."""
 
     __slots__ = ("count", "answers", "gate")
 
@@ -188,19 +188,19 @@ class _Asked:
         self.gate.acquire()
 
 
-class _Line:
-    """The stream to the process and back. Lines of one call stand together in it; one thread reads the answers and deals them out."""
+class _Stream:
+    """The stream to the process and back. Lines of one call stay together in it; one thread reads the answers and distributes them."""
 
     def __init__(self, words):
-        # what the process tells of its end goes to a file, so that nobody has to read it meanwhile
-        self.told, self.words = tempfile.TemporaryFile(), ""
+        # standard error goes to a file, so that nobody has to read it meanwhile
+        self.errors, self.message = tempfile.TemporaryFile(), ""
         try:
-            self.process = subprocess.Popen(words, stdin=subprocess.PIPE, stdout=subprocess.PIPE, stderr=self.told, bufsize=0)
+            self.process = subprocess.Popen(words, stdin=subprocess.PIPE, stdout=subprocess.PIPE, stderr=self.errors, bufsize=0)
         except OSError as fault:
-            self.told.close()
+            self.errors.close()
             raise Ended("the program can't be started: %s" % fault) from fault
         self.asked, self.writing, self.has_ended = collections.deque(), threading.Lock(), False
-        # by session: its request, which was told to wait, has been granted
+        # by session: its request, which was answered `wait`, has been granted
         self.granted = [threading.Event() for _ in range(MOST_SESSIONS + 1)]
         ready = _Asked(1)
         self.asked.append(ready)
@@ -216,7 +216,7 @@ class _Line:
             raise fault
 
     def read(self):
-        """Reads answers until there are no more, and then lets all go who still wait for one."""
+        """Reads answers until there are no more, and then releases all who still wait for one."""
         rest, source = b"", self.process.stdout.fileno()
         try:
             while True:
@@ -228,7 +228,7 @@ class _Line:
                 rest = lines.pop()
                 self.deal(self.without_granted(lines) if b"granted " in text else lines)
         except BaseException:
-            self.process.kill()  # what it tells is nothing that was asked
+            self.process.kill()  # it answers what wasn't asked
             raise
         finally:
             with self.writing:
@@ -239,14 +239,14 @@ class _Line:
                 it.set()
 
     def without_granted(self, lines):
-        """The lines that are answers. Each other one tells that what a session was told to wait for is granted."""
+        """The lines that are answers. Each other one says that the request for which a session waits is granted."""
         for line in lines:
             if line[:8] == b"granted ":
                 self.granted[int(line[8:])].set()
         return [line for line in lines if line[:8] != b"granted "]
 
     def deal(self, answers):
-        """Deals the answers out, in the order in which the lines were asked."""
+        """Distributes the answers, in the order in which the lines were asked."""
         place = 0
         while place < len(answers):
             asked = self.asked[0]
@@ -258,7 +258,7 @@ class _Line:
                 asked.gate.release()
 
     def ask(self, lines):
-        """Writes the lines together, and gives the answer of each. No other line comes between them."""
+        """Writes the lines together, and returns the answer to each. No other line comes between them."""
         asked = _Asked(len(lines))
         self.write(asked, b"\n".join(lines) + b"\n")
         asked.gate.acquire()
@@ -274,10 +274,10 @@ class _Line:
             try:
                 self.write_all(text)
             except OSError:
-                pass  # the process is gone: its answers end, and `read` tells all who wait
+                pass  # the process has ended: so do its answers, and `read` releases all who wait
 
     def write_all(self, text):
-        """Writes all of it. Where that is broken off, a part of a line may be written, and nothing can be asked any more."""
+        """Writes all of it. If that is interrupted, a part of a line may be written, and nothing more can be asked."""
         rest, target = memoryview(text), self.process.stdin.fileno()
         try:
             while rest:
@@ -293,15 +293,15 @@ class _Line:
         self.granted[session].clear()
 
     def fault(self):
-        """What the process has told of its end."""
+        """The exception for the end of the process."""
         status = self.process.wait()
-        if not self.told.closed:
-            self.words = os.pread(self.told.fileno(), READ_BYTES, 0).decode(errors="replace").strip()
-        return Ended(self.words or "the store's process has ended with status %d" % status, status)
+        if not self.errors.closed:
+            self.message = os.pread(self.errors.fileno(), READ_BYTES, 0).decode(errors="replace").strip()
+        return Ended(self.message or "the store's process has ended with status %d" % status, status)
 
     def close(self):
-        """Ends the input, and waits for the process. False where that was done before."""
-        if self.told.closed:
+        """Ends the input, and waits for the process. False if that was done before."""
+        if self.errors.closed:
             return False
         with self.writing:
             self.has_ended = True
@@ -309,27 +309,27 @@ class _Line:
         self.fault()
         self.reader.join()
         self.process.stdout.close()
-        self.told.close()
+        self.errors.close()
         return True
 
 
 class Store:
     """The store of a folder, served by a process of its own, which ends with `close` or at the end of a `with` block. It may be used from
-    any number of threads, each with one transaction at a time; with more open transactions than there are sessions, `transaction`
-    waits for one to end.
+    any number of threads, each with one transaction at a time; while all sessions have a transaction open, a further one waits for one of
+    these to end.
 
-    `program` is the path of pcalc, or a list of words; `create` makes the folder where there is no store yet; `sync` answers a commit once
-    it is on the disk; `lag`, `sessions`, `capacity`, `every`, `roll`, `keep`, `damaged` and `run` are as docs/MANUAL.md has them. Raises `Ended`, with what the program
-    tells, where it can't be opened: as "pcalc: shop: Busy" where another process has it.
+    `program` is the path of pcalc, or a list of words; `create` makes the folder and the store if there is none; `sync` answers a commit
+    once it is on the disk; `lag`, `sessions`, `capacity`, `every`, `roll`, `keep`, `damaged` and `run` are as in docs/MANUAL.md. Raises
+    `Ended`, with the program's message, if it can't be opened: "pcalc: shop: Busy" if another process has it.
 
-    `run_number` is the number of the run with which the process began, and `pairs` how many pairs that had; a later generation is a run
-    of its own (`current_run`), in which transactions and entries are numbered anew. `process` is the process.
+    `run_number` is the number of the run with which the process began, and `pairs` the number of its pairs; a later generation is a run
+    of its own (`current_run`), in which transactions and entries are numbered from 1 again. `process` is the process.
     """
 
     def __init__(self, folder, program="pcalc", create=False, sessions=MOST_SESSIONS, **options):
-        self._line = _Line(command(folder, program, create, sessions=sessions, **options))
-        self.process = self._line.process
-        _, _, run, _, pairs = self._line.ready.split()
+        self._stream = _Stream(command(folder, program, create, sessions=sessions, **options))
+        self.process = self._stream.process
+        _, _, run, _, pairs = self._stream.ready.split()
         self.run_number, self.pairs = int(run), int(pairs)
         self._free = queue.SimpleQueue()
         for session in range(1, sessions + 1):
@@ -348,18 +348,18 @@ class Store:
                 raise
 
     def close(self):
-        """Ends the process; transactions that are open are aborted. Raises `Ended` where the process had failed. May be called twice."""
-        if self._line.close() and self.process.returncode != 0:
-            raise self._line.fault()
+        """Ends the process; open transactions are aborted. Raises `Ended` if the process failed. May be called twice."""
+        if self._stream.close() and self.process.returncode != 0:
+            raise self._stream.fault()
 
     def transaction(self):
-        """A transaction, for a `with` block: it is begun with the block, committed at its end, and aborted where the block raises. Raises
-        `Died` where it dies, in the block or at its end."""
+        """A transaction, for a `with` block: it is begun with the block, committed at its end, and aborted if the block raises. Raises
+        `Died` if it dies, in the block or at its end."""
         return Transaction(self)
 
     def run(self, body, attempts=None):
-        """Calls `body` with a transaction, commits it, and gives what `body` gave. Where the transaction dies, `body` is called anew with
-        another one, at most `attempts` times in all, or until it is committed; so `body` is to do nothing else that can't be done twice."""
+        """Calls `body` with a transaction, commits it, and returns what `body` returned. If the transaction dies, `body` is called again with
+        another one, at most `attempts` times in all, or until it is committed; so `body` must do nothing else that can't be repeated."""
         for attempt in itertools.count(1):
             try:
                 with self.transaction() as t:
@@ -371,26 +371,26 @@ class Store:
             _pause(attempt)
 
     def pipeline(self, depth=DEPTH):
-        """Transactions that are sent by `depth` at a time, for a `with` block: see `Pipeline`."""
+        """Transactions that are sent `depth` at a time, for a `with` block: see `Pipeline`."""
         return Pipeline(self, depth)
 
     def check(self):
-        """Whether the store agrees with its own log, which takes as long as replaying all of it."""
-        return self._line.ask([b"check"])[0] == b"check ok"
+        """Whether the store agrees with its own log; it takes as long as replaying all of it."""
+        return self._stream.ask([b"check"])[0] == b"check ok"
 
     def current_run(self):
-        """The number of the run of the generation that is served now."""
-        return int(self._line.ask([b"run"])[0].split()[1])
+        """The number of the current generation's run."""
+        return int(self._stream.ask([b"run"])[0].split()[1])
 
     def stats(self):
-        """What the store counts, as numbers by their names."""
-        answer = self._line.ask([b"stats"])[0].decode()
+        """The numbers that the store counts, by name."""
+        answer = self._stream.ask([b"stats"])[0].decode()
         return {name: int(number) for name, number in (it.split("=") for it in answer.split())}
 
     def _take_session(self):
         thread = threading.get_ident()
         if thread in self._busy:
-            raise Error("this thread has a transaction open already, which a second one could wait for without end")
+            raise Error("this thread already has a transaction open, for which a second one could wait forever")
         self._busy.add(thread)
         try:
             return self._free.get(), thread
@@ -401,34 +401,34 @@ class Store:
     def _abort(self, session):
         """Aborts the session's transaction, if it has one."""
         try:
-            self._line.ask([b"abort %d" % session])
+            self._stream.ask([b"abort %d" % session])
         except Ended:
             pass  # then nothing of it is kept either
 
     def _leave_session(self, session, thread):
-        self._line.granted[session].clear()
+        self._stream.granted[session].clear()
         self._busy.discard(thread)
         self._free.put(session)
 
 
 def _pause(attempt):
-    """A pause before a transaction that has died is begun again: at most some hundred microseconds at first, then more."""
+    """A pause before a transaction that died is begun again: at most a few hundred microseconds at first, then more."""
     time.sleep(random.random() * min(LONGEST_PAUSE, 0.0001 * 2 ** min(attempt, 16)))
 
 
 class Transaction:
-    """An open transaction. Each operation is answered before it returns; one that has to wait returns once it is granted. `number` counts the
-    transactions in the order of their begins, and `entry`, once it is committed, the entries of the run's log."""
+    """An open transaction. Each operation is answered before it returns; one that has to wait returns once it is granted. `number` is its
+    number in the order of begins, and `entry`, once it is committed, the number of its entry in the run's log."""
 
     def __init__(self, store):
-        self._store, self._line, self._session, self._has_died = store, store._line, 0, False
+        self._store, self._stream, self._session, self._has_died = store, store._stream, 0, False
         self.number = self.entry = None
 
     def __enter__(self):
         self._session, self._thread = self._store._take_session()
         self._has_died, self.number, self.entry = False, None, None
         try:
-            answer, = self._line.ask([b"begin %d" % self._session])
+            answer, = self._stream.ask([b"begin %d" % self._session])
             if answer[:6] != b"begun ":
                 raise fault_of(answer)
             self.number = int(answer[6:])
@@ -449,7 +449,7 @@ class Transaction:
             self._leave()
 
     def _commit(self):
-        answer, = self._line.ask([b"commit %d" % self._session])
+        answer, = self._stream.ask([b"commit %d" % self._session])
         if answer[:10] != b"committed ":
             raise fault_of(answer)
         self.entry = int(answer[10:])
@@ -459,19 +459,19 @@ class Transaction:
         self._session = 0
 
     def _ask(self, verb, rest):
-        """The answer to an operation, which is asked again once it is granted where it has to wait."""
+        """The result of an operation. One that has to wait is asked again once it is granted."""
         if not self._session:
             raise Error("the transaction isn't open")
         line = b"%s %d %s" % (verb, self._session, rest)
-        answer, = self._line.ask([line])
+        answer, = self._stream.ask([line])
         while answer == b"wait":
-            self._line.wait_until_granted(self._session)
-            answer, = self._line.ask([line])
+            self._stream.wait_until_granted(self._session)
+            answer, = self._stream.ask([line])
         self._has_died = self._has_died or answer == b"died"
         return meaning_of(answer)
 
     def get(self, key, default=None):
-        """The key's value, or `default` where it has none."""
+        """The key's value, or `default` if it has none."""
         value = self._ask(b"get", key_word(key))
         return default if value is None else value
 
@@ -480,12 +480,12 @@ class Transaction:
         self._ask(b"put", key_word(key) + b" " + value_word(value))
 
     def delete(self, key):
-        """Removes the key, which need not be there."""
+        """Removes the key, which need not exist."""
         self._ask(b"del", key_word(key))
 
     def add(self, key, delta):
-        """Adds to the number that the key has, where no value counts as 0, and gives the sum. Raises `Refused` with the word NotNumber where
-        the key's value has not eight bytes, and with OutOfRange where the sum leaves 64 bits with a sign."""
+        """Adds to the key's number, which is 0 without a value, and returns the sum. Raises `Refused` with the word NotNumber if the key's
+        value isn't eight bytes long, and with OutOfRange if the sum leaves 64 signed bits."""
         return self._ask(b"add", key_word(key) + b" " + delta_word(delta))
 
     def __getitem__(self, key):
@@ -505,8 +505,8 @@ class Transaction:
 
 
 class Batch:
-    """A transaction of a pipeline, whose operations are noted and sent later. Once it is committed, `entry` is the number of its entry in the
-    log, and `results` has what was told."""
+    """A transaction of a pipeline, whose operations are recorded and sent later. Once it is committed, `entry` is the number of its entry in
+    the log, and `results` has what they returned."""
 
     def __init__(self):
         self.lines, self.answers, self.keys, self.entry = [], [], set(), None
@@ -519,19 +519,19 @@ class Batch:
         self.lines.append((verb, key + rest))
 
     def get(self, key):
-        """Notes that the key is read."""
+        """Records a read of the key."""
         self._note(b"get", key_word(key), writes=False)
 
     def put(self, key, value):
-        """Notes that the key is set to the value."""
+        """Records that the key is set to the value."""
         self._note(b"put", key_word(key), b" " + value_word(value))
 
     def delete(self, key):
-        """Notes that the key is removed, which need not be there."""
+        """Records that the key, which need not exist, is removed."""
         self._note(b"del", key_word(key))
 
     def add(self, key, delta):
-        """Notes that the number is added to what the key has."""
+        """Records that the number is added to the key's number."""
         self._note(b"add", key_word(key), b" " + delta_word(delta))
 
     def __setitem__(self, key, value):
@@ -541,13 +541,13 @@ class Batch:
         self.delete(key)
 
     def spelled(self, session):
-        """Its lines that aren't answered yet, with its begin and its commit."""
+        """Its lines that aren't answered yet, from its begin to its commit."""
         lines = [b"begin %d" % session, *(b"%s %d %s" % (verb, session, rest) for verb, rest in self.lines), b"commit %d" % session]
         return lines[len(self.answers):]
 
     def take(self, answers):
-        """Takes the answers to its lines, behind which others may follow: None where it is committed, and else what has stopped it: b"wait",
-        b"died", or a refusal of its begin or commit. Behind that none of its lines has done anything."""
+        """Takes the answers to its lines, after which others may follow. Returns None if it is committed, otherwise what stopped it: b"wait",
+        b"died", or a refusal of its begin or commit. None of its lines after that did anything."""
         last = len(self.lines) + 1 - len(self.answers)
         if answers[last][:10] == b"committed ":
             self.answers += answers[:last]
@@ -561,8 +561,8 @@ class Batch:
 
     @property
     def results(self):
-        """What each operation told, once it is committed: a value or None for `get`, the sum for `add`, None for others, and the exception
-        `Refused` for one that was refused, which has changed nothing."""
+        """What each operation returned, once it is committed: a value or None for `get`, the sum for `add`, None for others, and the
+        exception `Refused` for one that was refused, which changed nothing."""
         return [_result(it) for it in self.answers[1:]]
 
 
@@ -574,20 +574,20 @@ def _result(answer):
 
 
 class Pipeline:
-    """Transactions that are sent many at a time, in their order, by one session, from one thread. Each is noted in a `with` block of
-    `transaction()`, of which nothing is sent where the block raises; they go out once `depth` of them are there, with `flush`, and at the end
-    of the pipeline's own block, unless that raises. One that dies is begun again, with those behind it.
+    """Transactions that are sent many at a time, in order, by one session, from one thread. Each is recorded in a `with` block of
+    `transaction()`, of which nothing is sent if the block raises; they are sent once there are `depth` of them, by `flush`, and at the end
+    of the pipeline's own block, unless that raises. One that dies is begun again, with those after it.
 
-    A commit goes out before the answers of its operations are there. So an operation that the store refuses (`add` with NotNumber or
+    A commit is sent before its operations are answered. So an operation that the store refuses (`add` with NotNumber or
     OutOfRange, any with Full or OutOfMemory) is left out, and the rest of its transaction is committed. The first such refusal is
-    raised once the answers of what was sent are there; each `Batch` says what was refused of it. Where a transaction is to be committed as
-    a whole or not at all, and an operation may be refused, `Store.transaction` and `Store.run` are to be used.
+    raised once all that was sent is answered; each `Batch` has its own refusals. If a transaction has to be committed as a whole or not at
+    all, and an operation may be refused, use `Store.transaction` or `Store.run`.
 
-    `committed` is how many were committed.
+    `committed` is the number of committed transactions.
     """
 
     def __init__(self, store, depth):
-        self._store, self._line, self._depth, self._noted = store, store._line, depth, []
+        self._store, self._stream, self._depth, self._noted = store, store._stream, depth, []
         self.committed = 0
 
     def __enter__(self):
@@ -607,7 +607,7 @@ class Pipeline:
             self.flush()
 
     def flush(self):
-        """Sends what was noted, and returns once all of it is committed."""
+        """Sends what was recorded, and returns once all of it is committed."""
         batches, self._noted = self._noted, []
         if not batches:
             return
@@ -628,7 +628,7 @@ class Pipeline:
         done, deaths = 0, 0
         while done < len(batches):
             pieces = [batch.spelled(session) for batch in batches[done:]]
-            answers, place = self._line.ask([line for piece in pieces for line in piece]), 0
+            answers, place = self._stream.ask([line for piece in pieces for line in piece]), 0
             for piece in pieces:
                 stopped = batches[done].take(answers[place:place + len(piece)])
                 if stopped is not None:
@@ -642,11 +642,11 @@ class Pipeline:
                 _pause(deaths)
 
     def _go_on(self, session, batch, stopped):
-        """Makes way for sending the rest. Whether the transaction is to begin anew."""
+        """Prepares to send the rest. Whether the transaction is begun again."""
         if stopped == b"wait":
-            self._line.wait_until_granted(session)
+            self._stream.wait_until_granted(session)
             return False
-        self._line.ask([b"abort %d" % session])
+        self._stream.ask([b"abort %d" % session])
         if stopped != b"died":
             raise fault_of(stopped)
         batch.answers.clear()

@@ -1,26 +1,26 @@
 #!/usr/bin/env python3
-"""A store behind a socket: many clients of one `pcalc serve`, over its own lines or over a part of Redis' protocol.
+"""Shares a store over a socket: many clients of one `pcalc serve`, by its own lines or by a part of Redis' protocol.
 
     relay.py PATH DIR [--program PCALC] [OPTION..]       listens on the Unix socket PATH
-    relay.py :PORT DIR [--program PCALC] [OPTION..]      listens on 127.0.0.1; with port 0 on one that is free
+    relay.py :PORT DIR [--program PCALC] [OPTION..]      listens on 127.0.0.1; on a free port if PORT is 0
 
-The options are those of `pcalc serve`. `listening on ADDRESS` is printed once clients may come. SIGTERM and SIGINT end the relay, and the
-store's process with it. Each connection has one of the store's sessions; one more connection than there are sessions is told so, and closed.
+The options are those of `pcalc serve`. `listening on ADDRESS` is printed once clients may connect. SIGTERM and SIGINT end the relay and
+the store's process. Each connection has one of the store's sessions; if none is free, a connection is answered with an error, and closed.
 
-A connection is of Redis' protocol where its first byte is `*`, or the first word of its first line is one of the commands below in capital
-or in small letters and no word of the store's own lines; so `GET` is Redis', and `get` the store's.
+A connection uses Redis' protocol if its first byte is `*`, or if the first word of its first line is one of the commands below, in upper or
+in lower case, and no word of the store's own lines; so `GET` is Redis', and `get` the store's.
 
-The store's own lines: the connection's session is session 1 of them, whichever the store has given it, and there is no other one. Each line is
+The store's own lines: the connection's session is session 1 in them, whatever its number in the store, and the only one. Each line is
 answered by one line, in order; a line goes to the store once the one before it is answered. A connection sees neither `wait` nor
-`granted`: the relay asks again what was granted, so that an answer may take as long as another client's transaction. `quit` ends the
-connection, not the store. A transaction that is open when its connection closes is aborted; until then it keeps its locks, however long that is.
+`granted`: the relay asks again once a request is granted, so an answer may take as long as another client's transaction. `quit` ends the
+connection, not the store. A transaction that is open when its connection closes is aborted; until then it keeps its locks, however long.
 
-Redis' protocol (RESP2, arrays and inline words without quotes): GET SET DEL INCR DECR INCRBY DECRBY MULTI EXEC DISCARD PING COMMAND QUIT. A command
-alone is a transaction of its own, and what stands between MULTI and EXEC is one; it is begun again where it dies. There is no WATCH, and SET takes
-a key and a value alone. Keys are those of space 0, of 1 to 255 bytes. Where the store refuses an operation of a transaction, that one is
-answered `-ERR NAME`, and the others are committed, as it is with Redis. INCR and its like add to the store's own numbers, of eight bytes: GET
-gives the bytes as they are, a number's eight among them, since a text of eight bytes can't be told from a number. `INCRBY key 0` tells a
-number in digits, and what SET has set to digits is none.
+Redis' protocol (RESP2, arrays and inline words without quotes): GET SET DEL INCR DECR INCRBY DECRBY MULTI EXEC DISCARD PING COMMAND QUIT. A single
+command is a transaction, and so are the commands between MULTI and EXEC; one that dies is begun again. There is no WATCH, and SET takes only a
+key and a value. Keys are of space 0, of 1 to 255 bytes. An operation of a transaction that the store refuses is answered `-ERR NAME`, and
+the others are committed, as with Redis. INCR, DECR and the like add to the store's own numbers, of eight bytes: GET returns the bytes as
+they are, even a number's, since a text of eight bytes can't be distinguished from a number. `INCRBY key 0` returns a number in digits;
+digits written by SET are no number.
 
 Nothing of this is proved.
 """
@@ -40,15 +40,15 @@ import sys
 import pcalc
 
 READ_BYTES = 65_536
-# what a connection may send of one line or command, and what may wait for it to be read
+# at most, the bytes of one line or command, and of answers that a connection hasn't read
 MOST_BYTES = 4_194_304
 MOST_WORDS = 65_536
 OWN_WORDS = {b"base", b"begin", b"get", b"put", b"del", b"add", b"abort", b"commit", b"point", b"seal", b"capture", b"take", b"done", b"rest", b"join", b"state",
              b"text", b"check", b"run", b"stats", b"quit"}
 OF_SESSIONS = {b"begin", b"get", b"put", b"del", b"add", b"abort", b"commit"}
-# a number follows, for which 0 stands where it isn't the connection's own session: no session and no file has it
+# a number follows; unless it is the connection's own session it is sent as 0, which no session and no file has
 NUMBERED = OF_SESSIONS | {b"state", b"text"}
-# how many words each command of Redis' has behind its own, at least and at most
+# how many words follow each command of Redis', at least and at most
 COMMANDS = {b"GET": (1, 1), b"SET": (2, 2), b"DEL": (1, MOST_WORDS), b"INCR": (1, 1), b"DECR": (1, 1), b"INCRBY": (2, 2), b"DECRBY": (2, 2), b"MULTI": (0, 0),
             b"EXEC": (0, 0), b"DISCARD": (0, 0), b"PING": (0, 1), b"COMMAND": (0, MOST_WORDS), b"QUIT": (0, 0)}
 NO_SESSION = b"refused NoSession\n"
@@ -57,13 +57,13 @@ DELTA = re.compile(rb"[+-]?[0-9]{1,19}")
 
 
 class Malformed(Exception):
-    """What a client of Redis' protocol has sent has no known form."""
+    """A client of Redis' protocol sent something of no known form."""
 
 
 # Redis' protocol.
 
 def until_end(text, start):
-    """The line from there on without its end, and where the next one begins; None where its end isn't there."""
+    """The line that begins there, without its end, and where the next one begins; None if its end isn't there."""
     end = text.find(b"\n", start)
     if end < 0:
         return None
@@ -77,7 +77,7 @@ def length_in(line, mark, most):
 
 
 def command_in(text):
-    """The words of the first command, and how many bytes it takes; None where it isn't whole."""
+    """The words of the first command, and how many bytes it takes; None if it isn't whole."""
     found = until_end(text, 0)
     if found is None:
         return None
@@ -101,30 +101,30 @@ def bulk(value):
     return b"$-1\r\n" if value is None else b"$%d\r\n%s\r\n" % (len(value), value)
 
 
-def failure(told):
-    return b"-ERR %s\r\n" % told.encode()
+def failure(message):
+    return b"-ERR %s\r\n" % message.encode()
 
 
 class Operation:
-    """A command of Redis' that is part of a transaction: the store's lines for it, without a session, and how their answers are told."""
+    """A command of Redis' that is part of a transaction: the store's lines for it, without a session, and the reply to their answers."""
 
     def __init__(self, words):
-        name, self.tell = words[0].upper(), None
+        name, self.reply = words[0].upper(), None
         if name == b"PING":
-            self.lines, self.tell = [], lambda answers: bulk(words[1]) if len(words) > 1 else b"+PONG\r\n"
+            self.lines, self.reply = [], lambda answers: bulk(words[1]) if len(words) > 1 else b"+PONG\r\n"
         elif name == b"COMMAND":
-            self.lines, self.tell = [], lambda answers: b"*0\r\n"
+            self.lines, self.reply = [], lambda answers: b"*0\r\n"
         elif name == b"GET":
-            self.lines, self.tell = [(b"get", pcalc.word(words[1]))], lambda answers: bulk(answers[0])
+            self.lines, self.reply = [(b"get", pcalc.word(words[1]))], lambda answers: bulk(answers[0])
         elif name == b"SET":
-            self.lines, self.tell = [(b"put", pcalc.word(words[1]) + b" " + pcalc.word(words[2]))], lambda answers: b"+OK\r\n"
+            self.lines, self.reply = [(b"put", pcalc.word(words[1]) + b" " + pcalc.word(words[2]))], lambda answers: b"+OK\r\n"
         elif name == b"DEL":
             keys = [pcalc.word(it) for it in words[1:]]
             self.lines = [line for key in keys for line in ((b"get", key), (b"del", key))]
-            self.tell = lambda answers: b":%d\r\n" % sum(it is not None for it in answers[::2])
+            self.reply = lambda answers: b":%d\r\n" % sum(it is not None for it in answers[::2])
         else:
             self.lines = [(b"add", pcalc.word(words[1]) + b" %d" % self.delta_of(name, words))]
-            self.tell = lambda answers: b":%d\r\n" % answers[0]
+            self.reply = lambda answers: b":%d\r\n" % answers[0]
 
     @staticmethod
     def delta_of(name, words):
@@ -137,9 +137,9 @@ class Operation:
         return delta
 
     def told(self, answers):
-        """What the client is told; the first refusal where there is one."""
+        """The reply to the client: the first refusal, if there is one."""
         try:
-            return self.tell([pcalc.meaning_of(it) for it in answers])
+            return self.reply([pcalc.meaning_of(it) for it in answers])
         except pcalc.Error as fault:
             return failure(str(fault))
 
@@ -156,7 +156,7 @@ class Job:
         return [b"begin %d" % session, *inner, b"commit %d" % session][len(self.answers):]
 
     def told(self):
-        """What the client is told of it once it is committed."""
+        """The reply to the client once it is committed."""
         answers, parts = iter(self.answers[1:-1]), []
         for it in self.operations:
             parts.append(it.told([next(answers) for _ in it.lines]))
@@ -166,7 +166,7 @@ class Job:
 # The relay.
 
 class Relay:
-    """The store's process and its connections. What is asked of the process is answered in order: `asked` has who is to be told."""
+    """The store's process and its connections. The process answers in order: `asked` has who gets the next answers."""
 
     def __init__(self, words, listener, sessions):
         self.selector, self.listener = selectors.DefaultSelector(), listener
@@ -184,8 +184,8 @@ class Relay:
         self.free, self.owners = list(range(sessions, 0, -1)), {}
         # how many sessions are about to be free, and the connections that wait for one of these
         self.leaving, self.hopeful = 0, collections.deque()
-        # how many transactions have ended, but by their death, and who begins again behind the next such end: what they died of was older, and is
-        # open, or has ended so, or has died of one that is older still
+        # how many transactions have ended without dying, and who begins again after the next such end: what they conflicted with was older, and is
+        # open, or has ended so, or has died in a conflict with a still older one
         self.ends, self.dead = 0, []
         self.is_ending = False
         listener.setblocking(False)
@@ -196,7 +196,7 @@ class Relay:
         self.is_ending = True
 
     def end_at_signals(self, *numbers):
-        """Ends `run` at one of these signals, behind what it does just then."""
+        """Ends `run` at one of these signals, after its current step."""
         self.waker, self.woken = socket.socketpair()
         self.waker.setblocking(False)
         signal.set_wakeup_fd(self.waker.fileno())
@@ -218,12 +218,12 @@ class Relay:
         Connection(self, sock)
 
     def ask(self, owner, lines):
-        """Asks lines that stand together; `owner.answered` is told each answer. They go out behind what is at hand now."""
+        """Asks lines that stay together, after those not yet sent; `owner.answered` gets each answer."""
         self.asked.extend([owner] * len(lines))
         self.out += b"\n".join(lines) + b"\n"
 
     def send(self, _=None):
-        """Writes what is to go out, as far as the process takes it."""
+        """Writes the lines that wait, as far as the process takes them."""
         try:
             while self.out:
                 del self.out[:os.write(self.target, self.out[:READ_BYTES])]
@@ -251,9 +251,9 @@ class Relay:
             if line.startswith(b"granted "):
                 self.owners[int(line[8:])].granted()
             else:
-                self.tell(self.asked.popleft(), line)
+                self.deliver(self.asked.popleft(), line)
 
-    def tell(self, owner, line):
+    def deliver(self, owner, line):
         is_end = line.startswith(b"committed ") or line == b"aborted" and not owner.is_dying
         dead, self.dead = (self.dead, []) if is_end else ([], self.dead)
         owner.answered(line)
@@ -262,7 +262,7 @@ class Relay:
             it.begin_again()
 
     def take_back(self, session):
-        """The session is free again, for a connection that waits for one if there is any."""
+        """The session is free again, first for a connection that waits for one."""
         del self.owners[session]
         self.leaving -= 1
         self.free.append(session)
@@ -270,19 +270,19 @@ class Relay:
             self.hopeful.popleft().go_on()
 
     def close(self):
-        """Ends the process's input, and gives its status. What has begun to go out goes out whole before, since the beginning of a line may be
+        """Ends the process's input, and returns its status. What waits is written whole before, since the beginning of a line may be
         another line."""
         while self.out:
             select.select([self.source], [self.target], [])
             self.send()
-            self.pass_over()
+            self.discard_answers()
         self.process.stdin.close()
         os.set_blocking(self.source, True)
-        self.pass_over()
+        self.discard_answers()
         return self.process.wait()
 
-    def pass_over(self):
-        """Reads answers that nobody is told any more, as far as they are there."""
+    def discard_answers(self):
+        """Reads the answers that are there, and drops them."""
         with contextlib.suppress(BlockingIOError):
             while os.read(self.source, READ_BYTES):
                 pass
@@ -294,7 +294,7 @@ class Connection:
     def __init__(self, relay, sock):
         self.relay, self.sock, self.session = relay, sock, 0
         self.into, self.out = bytearray(), bytearray()
-        self.speaker, self.has_ended, self.is_gone, self.events = None, False, False, selectors.EVENT_READ
+        self.protocol, self.has_ended, self.is_gone, self.events = None, False, False, selectors.EVENT_READ
         sock.setblocking(False)
         if sock.family != socket.AF_UNIX:
             sock.setsockopt(socket.IPPROTO_TCP, socket.TCP_NODELAY, 1)
@@ -318,20 +318,20 @@ class Connection:
             self.close()
 
     def go_on(self):
-        """Takes what has come as far as it can be taken, and sends what there is to tell."""
+        """Takes the input as far as possible, and sends the replies."""
         self.send()
-        if self.speaker is None and not self.is_gone:
+        if self.protocol is None and not self.is_gone:
             self.begin()
-        if self.speaker is not None and not self.is_gone:
-            self.speaker.take()
+        if self.protocol is not None and not self.is_gone:
+            self.protocol.take()
         self.send()
 
-    def is_taken_further(self):
-        """Whether more of what the client has sent may be looked at: not while it doesn't take what it is told."""
+    def may_take(self):
+        """Whether more of the client's input may be taken: not while it leaves many replies unread."""
         return not self.has_ended and len(self.out) <= MOST_BYTES
 
     def begin(self):
-        """Finds out how the client speaks, and gives it a session."""
+        """Finds out the client's protocol, and gives it a session."""
         while self.into[:1] in (b"\n", b"\r"):
             del self.into[:1]
         line = b"*" if self.into[:1] == b"*" else self.into.partition(b"\n")[0] if b"\n" in self.into else None
@@ -350,7 +350,7 @@ class Connection:
             self.has_ended = True
         else:
             self.session = self.relay.free.pop()
-            self.relay.owners[self.session] = self.speaker = (Commands if is_redis else Lines)(self)
+            self.relay.owners[self.session] = self.protocol = (Commands if is_redis else Lines)(self)
 
     def send(self):
         if self.is_gone:
@@ -384,24 +384,24 @@ class Connection:
         self.events = events
 
     def close(self):
-        """The connection is over: its session goes back once nothing is open in it."""
+        """Ends the connection: its session is free again once nothing is open in it."""
         if self.is_gone:
             return
         self.is_gone = True
         self.watch(0)
         self.sock.close()
-        if self.speaker is not None:
-            self.speaker.leave()
+        if self.protocol is not None:
+            self.protocol.leave()
 
 
-class Speaker:
-    """How a client speaks: takes what it has sent from the connection, one thing after the other, and is told the store's answers."""
+class Protocol:
+    """A client's protocol: takes the connection's input, one request at a time, and gets the store's answers."""
 
     def __init__(self, connection):
         self.connection, self.relay, self.session = connection, connection.relay, connection.session
-        # lines that are asked and not answered; whether a request waits; whether the connection is over, and its last line asked
+        # the number of unanswered lines; whether a request waits; whether the connection is over, and its last line asked
         self.open, self.is_parked, self.is_over, self.is_leaving = 0, False, False, False
-        # what is asked is the abort of a transaction that has died
+        # whether the abort of a transaction that died is asked
         self.is_dying = False
 
     def ask(self, lines):
@@ -424,7 +424,7 @@ class Speaker:
             self.ask_again()
 
     def leave(self):
-        """The connection is over. What is open is aborted, behind what was asked already."""
+        """The connection is over. What is open is aborted, after what was already asked."""
         self.is_over = True
         self.relay.leaving += 1
         if self.open == 0:
@@ -436,21 +436,21 @@ class Speaker:
             self.relay.dead = [it for it in self.relay.dead if it is not self]
             self.ask([b"abort %d" % self.session])
 
-    def tell(self, text):
-        """Tells the client, which then may be taken further."""
+    def reply(self, text):
+        """Replies to the client, and then takes more of its input."""
         if not self.is_over:
             self.connection.out += text
             self.connection.go_on()
 
 
-class Lines(Speaker):
-    """The store's own lines, session 1 of which is the connection's."""
+class Lines(Protocol):
+    """The store's own lines, in which session 1 is the connection's."""
 
     line = b""
 
     def take(self):
         into = self.connection.into
-        while not self.open and not self.is_parked and self.connection.is_taken_further():
+        while not self.open and not self.is_parked and self.connection.may_take():
             end = into.find(b"\n")
             if end < 0:
                 self.connection.has_ended = len(into) > MOST_BYTES
@@ -474,22 +474,22 @@ class Lines(Speaker):
         if line == b"wait":
             self.is_parked = True
         else:
-            self.tell(line + b"\n")
+            self.reply(line + b"\n")
 
     def ask_again(self):
         self.ask([self.line])
 
 
-class Commands(Speaker):
-    """A part of Redis' protocol. `queued` has the operations behind a MULTI."""
+class Commands(Protocol):
+    """A part of Redis' protocol. `queued` has the operations after a MULTI."""
 
     job, queued, is_spoiled, died_at = None, None, False, 0
-    # the answer that has stopped the transaction, b"aborting" once its abort is asked; then that answer is the fault
+    # the answer that stopped the transaction, b"aborting" once its abort is asked; then `fault` has that answer
     stopped = fault = None
 
     def take(self):
         connection = self.connection
-        while self.job is None and connection.is_taken_further():
+        while self.job is None and connection.may_take():
             try:
                 found = command_in(connection.into)
                 if found is None:
@@ -504,7 +504,7 @@ class Commands(Speaker):
                 connection.out += self.take_command(found[0])
 
     def take_command(self, words):
-        """What is told at once of a command."""
+        """The immediate reply to a command."""
         name = words[0].upper()
         try:
             if name not in COMMANDS:
@@ -553,7 +553,7 @@ class Commands(Speaker):
         return b""
 
     def ask_again(self):
-        """Asks what isn't answered yet of the transaction, in one piece: where one of its lines waits, none behind it does anything."""
+        """Asks what isn't answered yet of the transaction, in one piece: if one of its lines waits, none after it does anything."""
         self.stopped = None
         self.ask(self.job.lines(self.session))
 
@@ -580,10 +580,10 @@ class Commands(Speaker):
         job.answers.append(line)
         if last:
             self.job = None
-            self.tell(job.told())
+            self.reply(job.told())
 
     def end_stopped(self):
-        """All lines behind the one that has stopped the transaction are answered, and have done nothing."""
+        """All lines after the one that stopped the transaction are answered, and did nothing."""
         if self.stopped == b"wait":
             self.is_parked = True
             return
@@ -592,11 +592,11 @@ class Commands(Speaker):
         self.ask([b"abort %d" % self.session])
 
     def end_aborted(self):
-        """The transaction that was stopped is aborted: it begins again behind the end of another one, or its client is told why not."""
+        """The stopped transaction is aborted: it begins again after the end of another one, or its client gets the fault."""
         self.is_dying = False
         if self.fault != b"died":
             self.job = None
-            self.tell(failure(str(pcalc.fault_of(self.fault))))
+            self.reply(failure(str(pcalc.fault_of(self.fault))))
         elif self.is_over:
             return
         elif self.relay.ends > self.died_at:
@@ -608,19 +608,19 @@ class Commands(Speaker):
 # The program.
 
 def listening(address):
-    """A socket that listens, and how it is told."""
+    """A socket that listens, and its address as it is printed."""
     if not re.fullmatch(r"(127\.0\.0\.1|localhost)?:[0-9]{1,5}", address):
         listener = socket.socket(socket.AF_UNIX)
         clear(address)
         listener.bind(address)
-        told = address
+        name = address
     else:
         listener = socket.socket(socket.AF_INET)
         listener.setsockopt(socket.SOL_SOCKET, socket.SO_REUSEADDR, 1)
         listener.bind(("127.0.0.1", int(address.rpartition(":")[2])))
-        told = "127.0.0.1:%d" % listener.getsockname()[1]
+        name = "127.0.0.1:%d" % listener.getsockname()[1]
     listener.listen(128)
-    return listener, told
+    return listener, name
 
 
 def clear(path):
@@ -635,33 +635,33 @@ def clear(path):
 
 
 def main():
-    words = argparse.ArgumentParser(description="a store behind a socket", epilog="Further options go to `pcalc serve`.", allow_abbrev=False)
+    words = argparse.ArgumentParser(description="Shares a store over a socket.", epilog="Other options go to `pcalc serve`.", allow_abbrev=False)
     words.add_argument("address", help="the path of a Unix socket, or :PORT of 127.0.0.1")
     words.add_argument("folder", help="the store's folder")
     words.add_argument("--program", default="pcalc", help="the path of pcalc")
-    words.add_argument("--sessions", type=int, default=pcalc.MOST_SESSIONS, help="how many clients there may be, 1 to 64")
-    said, options = words.parse_known_args()
+    words.add_argument("--sessions", type=int, default=pcalc.MOST_SESSIONS, help="how many clients may be connected, 1 to 64")
+    given, options = words.parse_known_args()
     try:
-        listener, told = listening(said.address)
+        listener, name = listening(given.address)
     except OSError as fault:
-        sys.exit("relay: %s: %s" % (said.address, fault.strerror))
+        sys.exit("relay: %s: %s" % (given.address, fault.strerror))
     try:
-        status = served(listener, told, [*pcalc.command(said.folder, said.program, sessions=said.sessions), *options], said.sessions)
+        status = served(listener, name, [*pcalc.command(given.folder, given.program, sessions=given.sessions), *options], given.sessions)
     finally:
         if listener.family == socket.AF_UNIX:
-            os.unlink(told)
+            os.unlink(name)
     sys.exit(status)
 
 
-def served(listener, told, words, sessions):
-    """Serves until the store's process ends, and gives its status."""
+def served(listener, name, words, sessions):
+    """Serves until the store's process ends, and returns its status."""
     try:
         relay = Relay(words, listener, sessions)
     except OSError as fault:
         sys.exit("relay: %s: %s" % (words[0], fault.strerror))
     try:
         relay.end_at_signals(signal.SIGTERM, signal.SIGINT)
-        print("listening on %s" % told, flush=True)
+        print("listening on %s" % name, flush=True)
         relay.run()
     finally:
         status = relay.close()

@@ -41,7 +41,7 @@ def usage_cases(folder):
     yield Case("an option twice", ("step", "empty.pcs", "--run", "1", "--run", "2"), 2, err=[b"error: the argument '--run <N>' cannot be used multiple times\n"])
     yield Case("an empty word for a folder", ("recover", ""), 2, err=[b"error: a value is required for '<DIR>' but none was supplied\n"])
     for words in (("\udcff",), ("step", "\udcff.pcs"), ("recover", "a\udcff"), ("run", "empty.pcs", "--dir", "\udcff")):
-        yield Case("a word that is no UTF-8", words, 2, err=[b"error: a word is no UTF-8\n", b"Usage: pcalc"])
+        yield Case("a word that isn't UTF-8", words, 2, err=[b"error: a word isn't UTF-8\n", b"Usage: pcalc"])
     yield Case("--version", ("--version",), 0, b"pcalc 1.0.0, formats 01 and 02\n")
     yield Case("--help", ("--help",), 0, parts=[b"Usage: pcalc", b"\n  step ", b"\n  run ", b"\n  collapse ", b"\n  recover ", b"\n  log ", b"\n  verify ", b"\n  serve "])
     options = [b"<SCRIPT>", b"--sessions <N>", b"[default: 8]", b"--capacity <N>", b"[default: 1024]", b"--run <N>", b"[default: 1]", FAULTS]

@@ -53,7 +53,7 @@ class Pictures(InFolder):
         self.assertEqual((picture.count(beside.BARS), picture.count(beside.BUSY)), (6, 2))
 
     def test_what_is_no_such_file_is_told(self):
-        for times, told in (("", "it has no times"), ("pcalc 1 0 0\n", "line 1 is none"), ("other 0 0 0\n", "line 1 is none"), ("pcalc 0 0 2\n", "line 1 is none"), ("pcalc 0 x 0\n", "line 1 is none")):
+        for times, told in (("", "it has no times"), ("pcalc 1 0 0\n", "line 1 isn't one"), ("other 0 0 0\n", "line 1 isn't one"), ("pcalc 0 0 2\n", "line 1 isn't one"), ("pcalc 0 x 0\n", "line 1 isn't one")):
             status, error = self.drawn(times)
             self.assertEqual(status, 1)
             self.assertIn(told, error)

@@ -36,8 +36,8 @@ class Plots(InFolder):
         self.assertIn("mean of 5", picture)
 
     def test_what_is_no_such_file_is_told(self):
-        for times, told in ((None, "No such file or directory"), ("0 x rest\n", "line 1 is none of --times"), ("# a\n0 1 rest\n2 1 rest\n", "line 3 is none of --times"),
-                            ("0 1\n", "line 1 is none of --times"), ("0 1 late\n", "line 1 is none of --times"), ("# a\n", "no transaction commits in it")):
+        for times, told in ((None, "No such file or directory"), ("0 x rest\n", "line 1 isn't one of --times"), ("# a\n0 1 rest\n2 1 rest\n", "line 3 isn't one of --times"),
+                            ("0 1\n", "line 1 isn't one of --times"), ("0 1 late\n", "line 1 isn't one of --times"), ("# a\n", "no transaction commits in it")):
             self.assertEqual(self.drawn(times), (1, f"run.times: {told}\n", ""))
 
     def test_a_picture_that_cant_be_written_is_told(self):

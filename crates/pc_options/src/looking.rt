@@ -61,7 +61,7 @@ pub(crate) fn verify_command<'a>(alloc: Global) -> Result<Command<'a>, Error> {
     command_of(
         alloc,
         "verify",
-        "Tells of each file whether it is whole",
+        "Reports whether files and folders are whole",
         &said,
     )
 }

@@ -25,12 +25,12 @@ pub struct DumpOptions<'a> {
 
 /// The arguments and options of `pcalc dump` in a command line.
 pub(crate) fn dump_command<'a>(alloc: Global) -> Result<Command<'a>, Error> {
-    let space = "Prints the pairs of this key space alone, 0 to 65535";
+    let space = "Prints only the pairs of this key space, 0 to 65535";
     let prefix =
-        "Prints the pairs alone whose key's own bytes begin with those of the word, which is written as a value is printed";
-    let point = "Prints the pairs of this point, 1 to 65535, instead of all that was recovered";
-    let damaged = "Prints also where a part was skipped, or the log is missing or damaged";
-    let about = "Prints the pairs that a folder's files are worth, a line for each";
+        "Prints only the pairs whose key's own bytes begin with those of this word, spelled like a printed value";
+    let point = "Prints the state of this point, 1 to 65535, instead of the recovered state";
+    let damaged = "Prints even if a part was skipped, or the log is missing or damaged";
+    let about = "Prints the pairs recovered from a folder's files, a line for each";
     let said = [
         recovered_folder(),
         Said::number("space", "N", 0, 65_535, space),
@@ -44,7 +44,7 @@ pub(crate) fn dump_command<'a>(alloc: Global) -> Result<Command<'a>, Error> {
 }
 
 fn json_option() -> Said {
-    Said::flag("json", "The lines are objects of JSON")
+    Said::flag("json", "The lines are JSON objects")
 }
 
 /// The options in the words of `pcalc dump`.
@@ -77,9 +77,9 @@ pub struct LoadOptions<'a> {
 
 /// The arguments and options of `pcalc load` in a command line.
 pub(crate) fn load_command<'a>(alloc: Global) -> Result<Command<'a>, Error> {
-    let about = "Makes the files of a run that has the pairs of these lines, as dump prints them";
+    let about = "Makes the files of a run from lines of pairs, as dump prints them";
     let said = [
-        Said::word("DIR", "The folder, which has no file of a run"),
+        Said::word("DIR", "The folder, which has no files of a run"),
         Said::word("FILE", "The file of the lines").or("/dev/stdin"),
         run_option(),
         json_option(),

@@ -186,7 +186,7 @@ pub fn task_of<'a>(alloc: Global, words: &'a [&'a str]) -> Result<Option<Task<'a
 /// The error for a command line of which a word isn't UTF-8.
 pub fn unreadable(alloc: Global) -> Result<Error, Error> {
     let mut command = command(alloc)?;
-    Ok(command.error(ErrorKind::InvalidValue, "a word is no UTF-8")?)
+    Ok(command.error(ErrorKind::InvalidValue, "a word isn't UTF-8")?)
 }
 
 fn command<'a>(alloc: Global) -> Result<Command<'a>, Error> {
@@ -213,7 +213,7 @@ fn with_command<'a>(command: Command<'a>, inner: Command<'a>) -> Result<Command<
 pub(crate) fn explain_option() -> Said {
     Said::flag(
         "explain",
-        "Says behind each fault what it is about, as it does where standard error is a terminal",
+        "Explains each fault, as if standard error were a terminal",
     )
 }
 
@@ -249,7 +249,7 @@ fn step_command<'a>(alloc: Global) -> Result<Command<'a>, Error> {
 }
 
 fn run_command<'a>(alloc: Global) -> Result<Command<'a>, Error> {
-    let about = "Runs clients on threads beside a checkpointer and collapsers";
+    let about = "Runs clients on threads, with a checkpointer and collapsers";
     let [workers, collapsers] = threads_options();
     let [every, from, damaged] = start_options();
     let [dir, lag, sync] = file_options();
@@ -275,7 +275,7 @@ fn run_command<'a>(alloc: Global) -> Result<Command<'a>, Error> {
 }
 
 fn threads_options() -> [Said; 2] {
-    let workers = "To how many threads the clients are dealt, 1 to 64";
+    let workers = "How many threads run the clients, 1 to 64";
     let collapsers = "How many threads join the points' files, 1 to 64";
     [
         Said::number("workers", "N", 1, i64::from(MOST_WORKERS), workers).or("4"),
@@ -283,14 +283,14 @@ fn threads_options() -> [Said; 2] {
     ]
 }
 
-// The options for the begin of points, and for the state that a run starts from.
+// The options for the beginning of points, and for the state that a run starts from.
 fn start_options() -> [Said; 3] {
     let every =
-        "After how many commits a further point begins, 1 to 1000000000; else the points are spread over the run";
+        "Commits from one point to the next, 1 to 1000000000; by default the points are spread over the run";
     let from =
-        "A folder of an earlier run: the store starts from its state, as the run of the next number";
+        "A folder of an earlier run: the store starts from its state, as the run with the next number";
     let damaged =
-        "Starts from OLD also where a part of it was skipped, or its log is missing or damaged";
+        "Starts from OLD even if a part of it was skipped, or its log is missing or damaged";
     [
         Said::number("every", "COMMITS", 1, 1_000_000_000, every),
         Said::value("from", "OLD", from).excludes("run"),
@@ -301,10 +301,9 @@ fn start_options() -> [Said; 3] {
 // The options for the files that a run leaves.
 fn file_options() -> [Said; 3] {
     let dir =
-        "A folder without such files, to which base.pcb, the points' part files and log.pcl are written";
-    let lag =
-        "How many entries of the log may wait to be written before the clients wait, 0 to 16777216";
-    let sync = "Counts what was written to a file only once it is on the disk";
+        "Writes base.pcb, the points' part files and log.pcl to DIR, which has no files of a run";
+    let lag = "How many entries of the log may be unwritten before a client waits, 0 to 16777216";
+    let sync = "Counts a write to a file only once it is on the disk";
     [
         Said::value("dir", "DIR", dir),
         lag_option(lag, "65536").needs("dir"),
@@ -314,9 +313,9 @@ fn file_options() -> [Said; 3] {
 
 // The options for the output of a run.
 fn telling_options() -> [Said; 3] {
-    let quiet = "Shows nothing on a terminal while it runs";
+    let quiet = "Shows no progress on a terminal";
     let report =
-        "Prints also how fast it was, how many transactions died, and the longest wait and pause";
+        "Also prints how fast it was, how many transactions died, and the longest wait and pause";
     let times = "A file to which the commits in each hundredth of a second are written";
     [
         Said::flag("quiet", quiet),
@@ -335,7 +334,7 @@ fn collapse_command<'a>(alloc: Global) -> Result<Command<'a>, Error> {
 }
 
 fn recover_command<'a>(alloc: Global) -> Result<Command<'a>, Error> {
-    let strict = "Ends with the status 4 where the folder lacks something: a part, or a whole log";
+    let strict = "Ends with status 4 if the folder lacks something: a part, or a whole log";
     let said = [
         recovered_folder(),
         Said::flag("strict", strict),
@@ -344,7 +343,7 @@ fn recover_command<'a>(alloc: Global) -> Result<Command<'a>, Error> {
     command_of(
         alloc,
         "recover",
-        "Prints the state that a folder's files are worth",
+        "Prints the state recovered from a folder's files",
         &said,
     )
 }
@@ -358,7 +357,7 @@ pub(crate) fn recovered_folder() -> Said {
 fn serve_command<'a>(alloc: Global) -> Result<Command<'a>, Error> {
     let lag = "How many entries of the log may be answered and not written, 0 to 16777216";
     let damaged =
-        "Goes on also where the log of what it starts from is missing or damaged, or a part of it was skipped";
+        "Continues even if the log of what it starts from is missing or damaged, or a part of it was skipped";
     let [create, run, import] = making_options();
     let [every, roll, keep] = generation_options();
     let said = [
@@ -386,11 +385,11 @@ fn serve_command<'a>(alloc: Global) -> Result<Command<'a>, Error> {
 
 // The options for a store that is made if there is none.
 fn making_options() -> [Said; 3] {
-    let create = "Makes the folder and a store in it, where there is none";
+    let create = "Makes the folder and a store in it, if there is none";
     let run =
-        "The number of the first run of a store that is made, 1 to 2147483647; else it is drawn at random";
+        "The number of a new store's first run, 1 to 2147483647; by default it is drawn at random";
     let import =
-        "A folder of a run or of a served store: the store that is made starts from its state, as the run of the next number";
+        "A folder of a run or of a served store: a new store starts from its state, as the run with the next number";
     [
         Said::flag("create", create),
         Said::number("run", "N", 1, 2_147_483_647, run).needs("create"),
@@ -402,9 +401,9 @@ fn making_options() -> [Said; 3] {
 
 // The options for points and generations.
 fn generation_options() -> [Said; 3] {
-    let every = "A point is taken after this many commits; none is with 0";
+    let every = "A point is taken after this many commits; none with 0";
     let roll = "A new generation begins once the log has this many entries, 1 to 16777216";
-    let keep = "How many generations before the one that counts are kept, 1 to 9999999";
+    let keep = "How many generations before the current one are kept, 1 to 9999999";
     [
         Said::number("every", "COMMITS", 0, i64::from(u32::MAX), every).or("0"),
         Said::number("roll", "ENTRIES", 1, 16_777_216, roll).or("1000000"),
