@@ -1,4 +1,4 @@
-"""What `house.py` counts, of made-up crates and of the repository."""
+"""What `house.py` counts in made-up crates and in the repository."""
 
 import unittest
 
@@ -85,8 +85,8 @@ class Counts(InFolder):
         self.replace(house, LIMITS={what: (100, 0) for what in house.LIMITS})
         self.assertEqual(self.printed(house.main, [])[0], 0)
         self.replace(house, LIMITS={**house.LIMITS, "longest chain of crates": (2, 2)})
-        status, told = self.printed(house.main, [])
-        self.assertEqual((status, told.splitlines()[-1]), (1, "over its limit: longest chain of crates"))
+        status, out = self.printed(house.main, [])
+        self.assertEqual((status, out.splitlines()[-1]), (1, "over its limit: longest chain of crates"))
 
     def test_what_is_over_its_goal_is_named(self):
         self.replace(house, LIMITS={**{what: (100, 100) for what in house.LIMITS}, "longest chain of crates": (100, 2)})
@@ -95,13 +95,13 @@ class Counts(InFolder):
 
 class House(InFolder):
     def test_the_repository_keeps_its_limits(self):
-        status, told = self.printed(house.main, [])
-        self.assertEqual(status, 0, told)
+        status, out = self.printed(house.main, [])
+        self.assertEqual(status, 0, out)
         self.assertTrue(all(most >= goal for most, goal in house.LIMITS.values()))
 
     def test_each_crate_has_its_line(self):
-        _, told = self.printed(house.main, ["--crates"])
-        self.assertEqual([line.split()[0] for line in told.splitlines()[1:]], [*gate_times.crates_of()])
+        _, out = self.printed(house.main, ["--crates"])
+        self.assertEqual([line.split()[0] for line in out.splitlines()[1:]], [*gate_times.crates_of()])
 
 
 if __name__ == "__main__":
