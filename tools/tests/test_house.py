@@ -68,6 +68,19 @@ class Counts(InFolder):
         self.assertEqual(house.size(found["words to avoid"]), 5)
         self.assertEqual(found["lower-case words of definitions with two homes"], [])
 
+    def test_words_to_avoid_in_comments_and_docstrings(self):
+        self.write("README.md", "it stands\n")
+        self.write("embedding/include/a.h", 'char *text = "// it stands"; /* it\nstands */ // worth\n')
+        self.write("embedding/tests/b.cpp", "// exactly where it stood\n")
+        self.write("bench/c.c", "int worth; /* it is told */\n")
+        self.write("clients/python/d.py", '"""It stands."""\n\n\nclass Worth:\n    """It lends."""\n\n    def stood(self):\n        """It\n        stood."""\n        return "it stands"  # it was told\n')
+        self.write("tools/cases/e.py", "stands = 'worth'  # so many\n")
+        for name in ("tools/tests/f.py", "tools/house/house.py", "bench/deeper/g.c"):
+            self.write(name, "# it stands\n// it stands\n")
+        found = house.counted()[1]["words to avoid"]
+        wanted = {"README.md": 1, "embedding/include/a.h": 2, "embedding/tests/b.cpp": 2, "bench/c.c": 1, "clients/python/d.py": 4, "tools/cases/e.py": 1}
+        self.assertEqual({name: count for name, count in found.items() if count and not name.startswith("crates/")}, wanted)
+
     def test_words_with_two_homes(self):
         self.write("crates/pc_mid/specs/Other.antt", SPECS)
         self.write("crates/test_low/specs/Other.antt", SPECS)
