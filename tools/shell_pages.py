@@ -4,7 +4,7 @@
     shell_pages.py PROGRAM FOLDER     writes FOLDER/man/man1/pcalc.1, FOLDER/bash-completion/completions/pcalc,
                                       FOLDER/zsh/site-functions/_pcalc and FOLDER/fish/vendor_completions.d/pcalc.fish
 
-The folder is an installation's `share`: `make install` calls this.
+The folder is what `share` is to an installation: `make install` calls this.
 """
 
 import os
@@ -20,17 +20,17 @@ FILES = {"SCRIPT", "WORKLOAD", "DIR", "OLD", "FILE", "OUT", "IN"}
 
 
 class Help(typing.NamedTuple):
-    """The parts of a help: what it is about, the usage, by section the entries, each a term with its text, and what follows them."""
+    """The parts of a help: what it is about, the usage, by section its entries, each a term with its text, and the lines after them."""
 
     about: str
     usage: str
     sections: dict
-    behind: list
+    after: list
 
 
 def help_of(text):
-    """The help in this text."""
-    about, usage, sections, behind, entries = "", "", {}, [], None
+    """The parts of a help."""
+    about, usage, sections, after, entries = "", "", {}, [], None
     for line in text.splitlines():
         entry = ENTRY.match(line)
         if line.startswith("Usage: "):
@@ -44,23 +44,23 @@ def help_of(text):
         elif line and not usage:
             about = f"{about} {line}".strip()
         elif line:
-            behind.append(line)
-    return Help(about, usage, sections, behind)
+            after.append(line)
+    return Help(about, usage, sections, after)
 
 
 def helps(program):
     """The help of the program, and that of each command by its name."""
 
-    def printed(*words):
+    def help_for(*words):
         return help_of(subprocess.run([program, *words, "--help"], check=True, capture_output=True, text=True).stdout)
 
-    whole = printed()
+    whole = help_for()
     names = [name for name, _ in whole.sections["Commands"] if name != "help"]
-    return whole, {name: printed(name) for name in names}
+    return whole, {name: help_for(name) for name in names}
 
 
 def escaped(text):
-    """A text escaped for groff, which then prints it unchanged."""
+    """A text escaped for groff."""
     text = text.replace("\\", "\\e").replace("-", "\\-")
     return "\\&" + text if text.startswith((".", "'")) else text
 
@@ -74,12 +74,12 @@ def man_page(version, whole, commands):
         for section in ("Arguments", "Options"):
             for term, text in it.sections.get(section, []):
                 lines += [".TP", f".B {escaped(term)}", escaped(text)]
-        lines += [line for text in it.behind for line in (".PP", escaped(text))]
+        lines += [line for said in it.after for line in (".PP", escaped(said))]
     return "\n".join(lines) + "\n"
 
 
 def options_of(it):
-    """Each long option of a command: its name, its value's name or None, and its text."""
+    """Each long option of a command: its name, the name of its value or None, and its text."""
     for term, text in it.sections.get("Options", []):
         found = LONG.search(term)
         if found:
@@ -87,7 +87,7 @@ def options_of(it):
 
 
 def bash_completion(commands):
-    """The completion of bash: commands, options, and otherwise files."""
+    """The completion of bash: commands, options, and files otherwise."""
     cases = [f"        {name}) words='{' '.join(f'--{option}' for option, _, _ in options_of(it))}' ;;" for name, it in commands.items()]
     return "\n".join(
         [
@@ -139,7 +139,7 @@ def fish_completion(commands):
 
 
 def pages(version, whole, commands):
-    """By path below `share` the text of each page."""
+    """The text of each page, by its path below `share`."""
     return {
         "man/man1/pcalc.1": man_page(version, whole, commands),
         "bash-completion/completions/pcalc": bash_completion(commands),

@@ -1,1 +1,1 @@
-"""What the built program and the library are run on, and what is wanted of them, by hand or by the plain forms of `tools.oracle`."""
+"""What the built program and the library are run on, and the expected results, by hand or by the plain forms of `tools.oracle`."""

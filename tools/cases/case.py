@@ -1,4 +1,4 @@
-"""What drivers of cases share: a call of the program with what is wanted of it, files and pipes for it, and what a folder has."""
+"""What drivers of cases share: a call of the program with its expected result, files and pipes for it, and what a folder has."""
 
 import contextlib
 import os
@@ -15,17 +15,17 @@ PATIENCE = 20
 
 
 class Case(typing.NamedTuple):
-    """A call of pcalc in the folder of the cases, and what is wanted of it."""
+    """A call of pcalc in the folder of the cases, and its expected result."""
 
     name: str
     words: tuple
     status: int
     out: bytes = b""
-    # what the error stream is to have; where this is a list it has each of these, in whatever words between them
+    # what the error stream must have; of a list each item, whatever is between them
     err: typing.Union[bytes, list] = b""
-    # a list of what the output has, in place of `out`, where the words around it are not fixed
+    # a list of what the output has, instead of `out`, if the words between are not fixed
     parts: typing.Optional[list] = None
-    # a user without rights of its own runs it
+    # it is run by a user without special rights
     is_other_user: bool = False
     # how many further threads it may start
     threads: typing.Optional[int] = None
@@ -39,9 +39,9 @@ class Case(typing.NamedTuple):
     closed: tuple = ()
     # how many bytes a file may have; a longer one fails, and the program isn't killed
     file_size: typing.Optional[int] = None
-    # files of the folder, and what each is to have afterwards; None where it is not to be there
+    # files of the folder, and what each must have afterwards; None if it must not exist
     files: dict = {}
-    # such files, and what tells of what each has then whether it is right
+    # files of the folder, and a test of what each has afterwards
     checks: dict = {}
 
 
@@ -67,7 +67,7 @@ def piped(folder, name):
 
 
 def opened_by_reader(path):
-    """The named pipe, once it was opened for reading, or None where it isn't for long."""
+    """The named pipe, once it was opened for reading, or None if it isn't within `PATIENCE` seconds."""
     end = time.monotonic() + PATIENCE
     while time.monotonic() < end:
         with contextlib.suppress(OSError):
@@ -77,7 +77,7 @@ def opened_by_reader(path):
 
 
 def feed(path, content, before=None):
-    """Writes to a named pipe once it was opened for reading, after what is to be done before."""
+    """Writes to a named pipe once it was opened for reading, after `before` was called."""
     pipe = opened_by_reader(path)
     if pipe is None:
         return
@@ -89,8 +89,8 @@ def feed(path, content, before=None):
 
 
 @contextlib.contextmanager
-def beside(work):
-    """What is done on another thread while a case is run."""
+def concurrently(work):
+    """Does the work on another thread while a case is run."""
     thread = threading.Thread(target=work, daemon=True)
     thread.start()
     yield

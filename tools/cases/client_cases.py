@@ -1,7 +1,7 @@
 """The client and the relay of `clients/python` over the built program, for `try_programs.py`: transactions of threads, those that wait and those that
-die, what stands in the folder once the process was killed, and clients of the relay over sockets.
+die, what the folder has after the process was killed, and clients of the relay over sockets.
 
-That a store has what it is to have is seen by a store that is opened anew, or by `serve_cases.state_of`, which reads the folder by plain forms.
+Stores are looked at by one that is opened anew, or by `serve_cases.state_of`, which reads the folder by plain forms.
 """
 
 import contextlib
@@ -30,11 +30,11 @@ SEED = 71
 
 
 def differing(got, wanted):
-    return [] if got == wanted else [f"{got!r} beside {wanted!r}"]
+    return [] if got == wanted else [f"{got!r} instead of {wanted!r}"]
 
 
 def together(*bodies):
-    """Runs the bodies on threads of their own. What was raised in them is told."""
+    """Runs the bodies on threads of their own. Returns what they raised."""
     raised = []
 
     def guarded(body):
@@ -68,7 +68,7 @@ ODD = {b"fig": b"7", b"-": b"-", (9, b"fig"): b"", (65_535, b"\\s7:k"): EVERY, E
 
 
 def operations(program, room):
-    """What one transaction does, and what the next process has of it."""
+    """What one transaction does, and what the next process recovers of it."""
     with opened(program, room, run=7) as store:
         with store.transaction() as t:
             for key, value in ODD.items():
@@ -102,18 +102,18 @@ def raises(store):
 def refused(program, room):
     """Stores that can't be opened."""
     with opened(program, room):
-        for words, told in (({"folder": "S"}, "pcalc: %s: Busy"), ({"folder": "none"}, "pcalc: %s: NoFile")):
+        for words, message in (({"folder": "S"}, "pcalc: %s: Busy"), ({"folder": "none"}, "pcalc: %s: NoFile")):
             path = os.path.join(room, words["folder"])
             try:
                 pcalc.Store(path, program=program).close()
                 lines = ["it is opened"]
             except pcalc.Ended as fault:
-                lines = differing((str(fault), fault.status), (told % path, 1))
-            yield f"a client of a store that can't be had, {words['folder']}", lines
+                lines = differing((str(fault), fault.status), (message % path, 1))
+            yield f"a client of a store that can't be opened, {words['folder']}", lines
 
 
 def adds(store, calls, number):
-    """A thread that moves between accounts and counts itself, and keeps how often it was begun."""
+    """A thread that moves amounts between accounts and counts itself, and counts how often it was begun."""
     chance = random.Random(SEED + number)
     for _ in range(ADDS):
         one, two = chance.sample(range(5), 2)
@@ -128,7 +128,7 @@ def adds(store, calls, number):
 
 
 def threads(program, room):
-    """Threads that want the same keys, more of them than there are sessions."""
+    """Threads that use the same keys, more of them than there are sessions."""
     with opened(program, room, sessions=THREADS - 2) as store:
         calls = [0] * THREADS
         lines = together(*(lambda number=number: adds(store, calls, number) for number in range(THREADS)))
@@ -155,21 +155,21 @@ def pipelines(store):
 
 
 def deaths(program, room):
-    """The younger transaction dies, and the older one waits, and what it waited for is done."""
+    """The younger transaction dies; the older one waits until what it waits for is done."""
     with opened(program, room) as store:
-        told, is_begun, is_locked = [], threading.Event(), threading.Event()
+        raised, is_begun, is_locked = [], threading.Event(), threading.Event()
 
         def dies():
             try:
                 with store.transaction() as t:
                     t[b"a"] = b"2"
             except pcalc.Died as fault:
-                told.append(str(fault))
+                raised.append(str(fault))
 
         with store.transaction() as t:
             t[b"a"] = b"1"
             lines = together(dies)
-        yield "the younger transaction dies", lines + differing((told, all_of(store, [b"a"])), ([str(pcalc.Died())], [b"1"]))
+        yield "the younger transaction dies", lines + differing((raised, all_of(store, [b"a"])), ([str(pcalc.Died())], [b"1"]))
 
         def younger():
             is_begun.wait(SECONDS)
@@ -188,7 +188,7 @@ def deaths(program, room):
 
 
 def killed(program, room):
-    """Each commit that was answered is there again, wherever the process was killed, whether it is asked line by line or many at a time."""
+    """Each answered commit is there again, wherever the process was killed, whether lines are sent one by one or many together."""
     chance, most = random.Random(SEED), [0] * THREADS
     for time in range(KILLS):
         store, answered = opened(program, room), list(most)
@@ -210,14 +210,14 @@ def killed(program, room):
         killer.join()
         try:
             store.close()
-            lines.append("the end isn't told")
+            lines.append("the end isn't reported")
         except pcalc.Ended as fault:
             lines += differing(fault.status, -signal.SIGKILL)
         pairs = state_of(os.path.join(room, "S"))
         most = [int.from_bytes(pairs.get((0, b"k%d" % number), b""), "big") for number in range(THREADS)]
         # what was under way at the kill may be there too
         is_right = all(there <= got <= there + (1 if number % 2 else 20) for number, (there, got) in enumerate(zip(answered, most)))
-        yield f"a client whose process is killed, the time {time + 1}", lines + ([] if is_right else [f"{most} beside {answered} that were answered"])
+        yield f"a client whose process is killed, the time {time + 1}", lines + ([] if is_right else [f"{most} after {answered} that were answered"])
     print(f"clients of processes that were killed {KILLS} times: {sum(most)} transactions in the end")
 
 
@@ -229,9 +229,9 @@ def relayed(program, room, address, *words):
     command = [sys.executable, os.path.join(CLIENTS, "relay.py"), address, "S", "--program", program, "--create", *words]
     with subprocess.Popen(command, cwd=room, stdout=subprocess.PIPE) as process:
         process.stdout.readline()
-        told = process.stdout.readline().decode().removeprefix("listening on ").rstrip()
+        listening = process.stdout.readline().decode().removeprefix("listening on ").rstrip()
         try:
-            yield (lambda: Client(room, told)), process
+            yield (lambda: Client(room, listening)), process
         finally:
             process.send_signal(signal.SIGTERM)
 
@@ -248,7 +248,7 @@ class Client:
         self.answers = self.sock.makefile("rb")
 
     def ask(self, text, count=1):
-        """Sends the text, and reads so many lines."""
+        """Sends the text, and reads `count` lines."""
         self.sock.sendall(text)
         return b"".join(self.answers.readline() for _ in range(count))
 
@@ -290,11 +290,11 @@ def redis(program, room):
         for text, wanted in COMMANDS:
             client.sock.sendall(text)
             yield f"the relay, {text[:40]!r}", differing(client.answers.read(len(wanted)), wanted)
-        yield "the relay closes behind QUIT", [] if client.is_ended() else ["more is told"]
+        yield "the relay closes after QUIT", [] if client.is_ended() else ["more is sent"]
         client.close()
     yield "the relay ends with status 0", differing(process.returncode, 0)
     with opened(program, room) as store:
-        yield "the store behind the relay", differing(all_of(store, [b"k255", b"k256", b"n", b"a"]), [b"v", None, text_of(2**63 - 8), None])
+        yield "the store of the relay", differing(all_of(store, [b"k255", b"k256", b"n", b"a"]), [b"v", None, text_of(2**63 - 8), None])
 
 
 def lines(program, room):
@@ -305,14 +305,14 @@ def lines(program, room):
         yield "two clients of a relay", differing(got, (b"begun 1\nsum 1\nok\n", b"begun 2\ndied\nrefused NoSession\nbad line\naborted\nbegun 3\nok\n"))
         one.sock.sendall(b"put 1 m 2\ncommit 1\nbegin 1\nget 1 m\ncommit 1\n")
         got = two.ask(b"commit 1\n"), one.ask(b"", 5)
-        yield "what waits is asked again", differing(got, (b"committed 1\n", b"ok\ncommitted 2\nbegun 4\n= 2\ncommitted 3\n"))
+        yield "a waiting line is sent again", differing(got, (b"committed 1\n", b"ok\ncommitted 2\nbegun 4\n= 2\ncommitted 3\n"))
         yield "quit ends a connection alone", differing((one.ask(b"quit\n", 0), one.is_ended(), two.ask(b"stats\n")), (b"", True, b"entries=3 commits=3 points=0 open=0 bytes=91 pairs=3\n"))
         one.close()
         two.close()
 
 
 def crowd(program, room):
-    """As many clients as sessions, each of which counts, while some close in the middle."""
+    """As many clients as sessions, each of which counts, while some close meanwhile."""
     with relayed(program, room, "socket") as (connected, _):
         clients = [connected() for _ in range(SESSIONS)]
         got = {client.ask(command(b"PING")) for client in clients}
@@ -328,15 +328,15 @@ def crowd(program, room):
         for client in counted:
             client.close()
         yield "clients of a relay that want the same keys, and others that close", raised + counts(connected)
-        yield "a transaction goes with its connection", gone(connected)
+        yield "a transaction ends with its connection", gone(connected)
 
 
 def counts(connected):
-    """Both counts are alike, and have at least those that were answered."""
+    """Both counts are equal, and include at least those that were answered."""
     client = connected()
     got = client.ask(b"MULTI\r\nINCRBY n 0\r\nINCRBY m 0\r\nEXEC\r\n", 6).split()[-2:]
     client.close()
-    return [] if got[0] == got[1] and int(got[0][1:]) >= SESSIONS // 2 * 30 else [f"counted are {got}"]
+    return [] if got[0] == got[1] and int(got[0][1:]) >= SESSIONS // 2 * 30 else [f"the counts are {got}"]
 
 
 def gone(connected):
@@ -351,7 +351,7 @@ def gone(connected):
 
 
 def clients(program, folder):
-    """What each use of a client or the relay differs in, by its name."""
+    """What is wrong with each use of a client or the relay, by its name."""
     for cases in (operations, refused, threads, deaths, killed, redis, lines, crowd):
         room = os.path.join(folder, cases.__name__)
         os.makedirs(room)

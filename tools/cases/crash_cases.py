@@ -1,11 +1,11 @@
 """Runs into a folder that are killed, for `try_programs.py`: what `pcalc recover` then makes of the folder.
 
-How many transactions were answered is seen from outside, as a user sees it: standard error is a terminal, and the last line of progress before the
-kill has the number. At most so many entries of the log as `--lag` allows may be lost of those. What is recovered is to be what `plain_files.py` makes
-of the files, and of each client the work of a beginning of its transactions, which is known: nobody else writes its keys, and none is given up. Each
-transaction adds 1 to a number of its client too, so that one which is lost or made twice is seen there. The keys of each client are in a space of its
+How many transactions were answered is seen as a user sees it: standard error is a terminal, and the last line of progress before the
+kill has the number. At most as many entries of the log as `--lag` allows may be lost of those. What is recovered must be what `plain_files.py` makes
+of the files, and of each client the work of a prefix of its transactions, which is known: nobody else writes its keys, and none is given up. Each
+transaction adds 1 to a number of its client too, so one that is lost or applied twice is seen there. The keys of each client are in a space of its
 own, the first one's in space 0.
-Moments are chosen by the same line, so they are spread over a run however fast the machine is.
+The moments of kills are chosen by the same line, so they are spread over a run however fast the machine is.
 """
 
 import contextlib
@@ -72,8 +72,8 @@ def lines_of(terminal):
 
 
 def answered_before_kill(program, folder, words, least):
-    """Kills a run once it shows that so many transactions were committed: how many it has shown in the end, and what is wrong with a run that ends
-    before, as a fast one may."""
+    """Kills a run once it shows that this number of transactions were committed: the last number that it has shown, and what is wrong with a run that ends
+    earlier, as a fast one may."""
     terminal, other = pty.openpty()
     with contextlib.closing(os.fdopen(terminal, "rb", buffering=0)):
         with subprocess.Popen([program, "run", *words], cwd=folder, stdin=subprocess.DEVNULL, stdout=subprocess.DEVNULL, stderr=other) as run:
@@ -86,22 +86,22 @@ def answered_before_kill(program, folder, words, least):
                     run.kill()
             patience.cancel()
     is_right = answered >= least or run.returncode == 0
-    return answered, [] if is_right else [f"the run ended with status {run.returncode} behind {answered} commits"]
+    return answered, [] if is_right else [f"the run ended with status {run.returncode} after {answered} commits"]
 
 
 def recovered(program, folder):
-    """What is wrong with what the program prints of the folder, and what it is to print."""
+    """What is wrong with what the program prints of the folder, and the state that it must print."""
     try:
         wanted = plain_files.recover(*files_of(folder))
     except (OSError, plain_files.Refused) as fault:
-        return [f"the files give nothing: {fault!r}"], None
-    told = subprocess.run([program, "recover", folder], stdin=subprocess.DEVNULL, capture_output=True, timeout=SECONDS)
-    is_right = (told.returncode, told.stdout, told.stderr) == (0, wanted.text(), b"")
-    return [] if is_right else ["recover doesn't print what the files are worth"], wanted
+        return [f"the files can't be recovered: {fault!r}"], None
+    ran = subprocess.run([program, "recover", folder], stdin=subprocess.DEVNULL, capture_output=True, timeout=SECONDS)
+    is_right = (ran.returncode, ran.stdout, ran.stderr) == (0, wanted.text(), b"")
+    return [] if is_right else ["recover doesn't print the state of the files"], wanted
 
 
 def work_of(name, client, count):
-    """What a client has put by its first so many transactions."""
+    """The pairs that a client's first `count` transactions have put."""
     return {key_of(name, client, number): b"%d" % number for number in range(count)}
 
 
@@ -117,29 +117,29 @@ def in_log(folder):
 
 
 def faults_of(folder, name, pairs, least):
-    """What is wrong with the log and the pairs, which are to have of each client the work of its first transactions, and at least so many in all."""
+    """What is wrong with the log and the pairs, which must have of each client the work of its first transactions, and at least this number in total."""
     lines, commits = [], in_log(folder)
     reached = 0
     for client, logged in commits.items():
         if logged != [[(key_of(name, client, number), b"%d" % number), (counter_of(name, client), 1)] for number in range(len(logged))]:
-            lines.append(f"the log hasn't the first transactions of client {client}")
+            lines.append(f"the log doesn't have the first transactions of client {client}")
         own = {(space, key): value for (space, key), value in pairs.items() if space == client - 1 and key.startswith(name + b"k")}
         count = 1 + max((int(value) for value in own.values()), default=-1)
         if own != work_of(name, client, count) or count < len(logged):
-            lines.append(f"what is recovered of client {client} is no state that it has made")
+            lines.append(f"what is recovered of client {client} is no state of it")
         if pairs.get(counter_of(name, client), bytes(8)) != count.to_bytes(8, "big"):
             lines.append(f"client {client} has not counted its transactions")
         reached += count
     count = sum(map(len, commits.values()))
     if count < least:
-        lines.append(f"the log has {count} commits, of at least {least} that it is to have")
+        lines.append(f"the log has {count} commits, and must have at least {least}")
     if reached < least:
-        lines.append(f"{reached} commits are recovered, of at least {least}")
+        lines.append(f"{reached} commits are recovered, and at least {least} must be")
     return lines
 
 
 def killed(program, folder, place, words, least):
-    """Kills a run into a new folder of this name once it shows so many commits: how many it has shown, what is wrong with what is recovered, and that."""
+    """Kills a run into a new folder of this name once it shows this number of commits: the last number shown, what is wrong with the recovery, and the recovered state."""
     os.makedirs(os.path.join(folder, place))
     answered, lines = answered_before_kill(program, folder, (*words, "--dir", place), least)
     more, wanted = recovered(program, os.path.join(folder, place))
@@ -147,12 +147,12 @@ def killed(program, folder, place, words, least):
 
 
 def moments():
-    """How many commits a run is to show before it is killed."""
+    """The numbers of commits that runs show before they are killed."""
     return [max(1, CLIENTS * COUNT * moment // MOMENTS) for moment in range(MOMENTS)]
 
 
 def lag_crashes(program, folder, lag, points):
-    """What each run with this lag differs in that is killed, by its name. The points that are recovered are added to the list."""
+    """What is wrong with each run with this lag that is killed, by its name. The recovered points are added to the list."""
     words = ("crash.pcw",) if lag is None else ("crash.pcw", "--lag", str(lag))
     for moment in moments():
         place = f"killed{lag}_{moment}"
@@ -161,13 +161,13 @@ def lag_crashes(program, folder, lag, points):
             points.append(wanted.point)
             least = answered - (DEFAULT_LAG if lag is None else lag)
             lines += faults_of(os.path.join(folder, place), b"a", wanted.pairs, least)
-        yield f"run {' '.join(words)}, killed behind {moment} commits", lines
+        yield f"run {' '.join(words)}, killed after {moment} commits", lines
 
 
 def restarts(program, folder):
-    """What runs differ in that are killed and start from the folder of one that was killed: all that this one left is there, and its own work."""
+    """What is wrong with runs that start from the folder of a killed one, and are killed: all that this one left must be there, and their own work."""
     for moment in moments()[5::5]:
-        first, second = f"before{moment}", f"behind{moment}"
+        first, second = f"before{moment}", f"after{moment}"
         answered, lines, old = killed(program, folder, first, ("crash.pcw", "--lag", "0"), moment)
         if old is not None:
             answered, more, new = killed(program, folder, second, ("again.pcw", "--lag", "0", "--from", first), moment)
@@ -176,11 +176,11 @@ def restarts(program, folder):
                 lines += faults_of(os.path.join(folder, second), b"b", new.pairs, answered)
                 kept = {key: value for key, value in new.pairs.items() if key[1].startswith(b"a")}
                 lines += [] if kept == old.pairs else ["what the first run left isn't there"]
-        yield f"run again.pcw, killed behind {moment} commits, from a run that was killed so", lines
+        yield f"run again.pcw, killed after {moment} commits, from a run killed there", lines
 
 
 def has_whole_log(folder):
-    """Whether the log has all transactions before the time is up."""
+    """Whether the log gets all transactions within the time allowed."""
     end = time.monotonic() + SECONDS
     while time.monotonic() < end:
         if os.path.exists(os.path.join(folder, "log.pcl")) and sum(map(len, in_log(folder).values())) == CLIENTS * COUNT:
@@ -190,7 +190,7 @@ def has_whole_log(folder):
 
 
 def stopped_terminal(program, folder):
-    """What a run differs in whose terminal is stopped: its log grows to its end all the same. It ends once the terminal goes on, behind its last line."""
+    """What is wrong with a run whose terminal is stopped: its log must become whole all the same, and it ends once the terminal continues, after its last line."""
     place = os.path.join(folder, "stopped")
     os.makedirs(place)
     terminal, other = pty.openpty()
@@ -203,16 +203,16 @@ def stopped_terminal(program, folder):
             termios.tcflow(other, termios.TCOON)
             os.close(other)
             shown = [*lines_of(terminal)]
-            told = run.stdout.read()
+            out = run.stdout.read()
             patience.cancel()
     lines = [] if is_whole else ["its log isn't whole while its terminal is stopped"]
     lines += [] if shown[-1:] == [CLIENTS * COUNT] else [f"its last line shows {shown[-1:]}"]
-    is_right = run.returncode == 0 and told.startswith(b"commits %d\ngave up 0\n" % (CLIENTS * COUNT)) and told.endswith(b"check ok\n")
-    return lines + ([] if is_right else [f"its status is {run.returncode}, and it prints {told!r}"])
+    is_right = run.returncode == 0 and out.startswith(b"commits %d\ngave up 0\n" % (CLIENTS * COUNT)) and out.endswith(b"check ok\n")
+    return lines + ([] if is_right else [f"its status is {run.returncode}, and it prints {out!r}"])
 
 
 def crashes(program, folder):
-    """What each killed run differs in, by its name."""
+    """What is wrong with each killed run, by its name."""
     written(folder, "crash.pcw", workload(b"a"))
     written(folder, "again.pcw", workload(b"b"))
     points = []

@@ -1,10 +1,10 @@
-"""Commands on a disk that gets full, and how often they bring files to the disk, for `try_programs.py`.
+"""Commands on a disk that gets full, and how often they flush files to the disk, for `try_programs.py`.
 
-The disk is a file system of 1 MB in memory, in a name space of its own. A command that finds no room on it ends with status 1 and names the file and the
-system's reason; what stood there stays, what isn't whole goes, and the folder of a run recovers to a beginning of what it has committed. Where this
-machine gives nobody a file system of his own, that is printed and nothing of it is counted.
+The disk is a file system of 1 MB in memory, in a namespace of its own. A command that finds no room on it ends with status 1 and reports the file and the
+system's reason; what was there stays, unfinished files are removed, and the folder of a run recovers to a prefix of what it has committed. Where this
+machine allows no file system of one's own, that is printed and nothing of it is counted.
 
-With `--sync` and a lag of 0 each commit of one client is brought to the disk before the next one begins; without, only the base, a joined file and
+With `--sync` and a lag of 0 each commit of one client is flushed to the disk before the next one begins; without, only the base, a joined file and
 their names are.
 """
 
@@ -21,15 +21,15 @@ from tools.oracle.plain_store import keyed
 
 SECONDS = 60
 SIZE = 1 << 20
-# each file takes a whole number of these
+# the size of each file is a multiple of this
 PAGE = 4_096
-# what a command has there before, and what it leaves
+# what is there before a command, and what it leaves
 GIVEN, SMALL, LEFT = "given", "small", "left"
 MOUNT = f"mount -t tmpfs -o size={SIZE} pcalc {SMALL}"
 WITHIN = f"{MOUNT} && cp -r {GIVEN}/. {SMALL} && cd {SMALL} || exit 99; \"$@\"; status=$?; cp -r . ../{LEFT}; exit $status"
 FULL = b"No space left on device (os error 28)\n"
 COMMITS = 50
-# Runs, and whether what is noted of them is right. Without --sync the base alone is brought to the disk before it is named, and the part isn't; with
+# Runs, and whether their noted calls are right. Without --sync only the base is flushed to the disk before it is renamed, and the part isn't; with
 # it each batch is too, and a lag of 0 waits for each.
 SYNCED = (
     (("--sync", "--lag", "0"), lambda calls: calls.count(b"srs") == 2 and calls.count(b"s") > COMMITS),
@@ -38,7 +38,7 @@ SYNCED = (
 
 
 def own_disk(room, words):
-    """What a command ends with that is run on a small disk, and leaves in the folder LEFT of the room."""
+    """The result of a command on a small disk, which is left in the folder LEFT of the room."""
     for name in (GIVEN, SMALL, LEFT):
         os.makedirs(os.path.join(room, name), exist_ok=True)
     command = ("unshare", "--map-root-user", "--mount", "sh", "-c", WITHIN, "sh", *words)
@@ -46,7 +46,7 @@ def own_disk(room, words):
 
 
 def has_disks():
-    """Whether this machine gives a small disk to who asks for one."""
+    """Whether this machine allows a small disk."""
     with tempfile.TemporaryDirectory() as room:
         try:
             return own_disk(room, ("true",)).returncode == 0
@@ -60,8 +60,8 @@ def names_in(room, folder):
 
 def ended_full(ran, name, path):
     """What is wrong with how a command has ended that found the disk full."""
-    told = b"pcalc: %s: Device\n  writing %s: %s" % (name, path, FULL)
-    return [] if (ran.returncode, ran.stdout, ran.stderr) == (1, b"", told) else [f"status {ran.returncode}, {ran.stdout!r}, {ran.stderr!r}"]
+    err = b"pcalc: %s: Device\n  writing %s: %s" % (name, path, FULL)
+    return [] if (ran.returncode, ran.stdout, ran.stderr) == (1, b"", err) else [f"status {ran.returncode}, {ran.stdout!r}, {ran.stderr!r}"]
 
 
 def full_run(program, room):
@@ -73,12 +73,12 @@ def full_run(program, room):
     found = plain_files.recover(*files_of(os.path.join(room, LEFT, "D")))
     keys = [keyed({b"a%06d" % number: b"x"}) for number in range(len(found.pairs))]
     if not keys or found.pairs != {key: value for pair in keys for key, value in pair.items()}:
-        lines.append("its folder recovers to no beginning of its transactions")
+        lines.append("its folder doesn't recover to a prefix of its transactions")
     return lines + [f"{name} is left" for name in names_in(room, "D") if name.endswith(".new")]
 
 
 def full_collapse(program, room):
-    """A join that has no room beside what stands under its name."""
+    """A join that has no room besides the existing file of its name."""
     parts = [plain_files.Part(1, [(point, point)], keyed({b"key%05d" % (number * point): (point, b"v" * 16) for number in range(9_000)})).text() for point in (1, 2)]
     given = {"1.pcp": parts[0], "2.pcp": parts[1], "out.pcp": plain_files.Part(1, [(3, 3)], {}).text()}
     for name, text in given.items():
@@ -114,18 +114,18 @@ def full_start(program, room):
 
 
 def in_memory(program, room):
-    """Times under /dev/shm, which are replaced as any other file is."""
+    """Times under /dev/shm, which are replaced as any other file."""
     written(room, "run.pcw", b"points 1\nclient 1\nfill a 50 x\n")
     with tempfile.NamedTemporaryFile(dir="/dev/shm") as file:
         ran = subprocess.run((program, "run", "run.pcw", "--times", file.name), cwd=room, stdin=subprocess.DEVNULL, capture_output=True, timeout=SECONDS)
-        file.write(b"behind the old one")
+        file.write(b"after the old one")
         file.flush()
         is_right = has_times_of(50)(content_of("/", file.name))
     return [] if ran.returncode == 0 and is_right else [f"status {ran.returncode}, and the times aren't those of the run alone"]
 
 
 def synced(program, room):
-    """When runs and joins bring files to the disk: s each time, and r where a file gets its name."""
+    """When runs and joins flush files to the disk: s for each flush, and r for each rename."""
     library, notes = preload.built(room, preload.NOTE), os.path.join(room, "notes")
     written(room, "run.pcw", b"points 1\nclient 1\nfill a %d x\n" % COMMITS)
 
@@ -138,20 +138,20 @@ def synced(program, room):
     for number, (words, is_right) in enumerate(SYNCED):
         os.makedirs(os.path.join(room, f"D{number}"))
         status, calls = noted("run", "run.pcw", "--dir", f"D{number}", *words)
-        yield f"a run with {' '.join(words) or 'no more words'} is brought to the disk", [] if status == 0 and is_right(calls) else [f"status {status}, {calls}"]
+        yield f"a run with {' '.join(words) or 'no more words'} is flushed to the disk", [] if status == 0 and is_right(calls) else [f"status {status}, {calls}"]
     status, calls = noted("collapse", "out.pcp", "D0/part-00001.pcp")
-    yield "a joined file is brought to the disk, named, and its name too", [] if (status, calls) == (0, b"srs") else [f"status {status}, {calls}"]
+    yield "a joined file is flushed to the disk, renamed, and its name flushed too", [] if (status, calls) == (0, b"srs") else [f"status {status}, {calls}"]
 
 
 def disks(program, folder):
-    """What each command on a full disk, and each count, differs in, by its name."""
+    """What is wrong with each command on a full disk, and each count of flushes, by its name."""
     if has_disks():
         for case in (full_run, full_collapse, full_times, full_start):
             room = os.path.join(folder, case.__name__)
             os.makedirs(room)
             yield f"on a full disk: {case.__doc__}", case(program, room)
     else:
-        print("no disk of 1 MB is given here: what a full one does is not tried")
+        print("no disk of 1 MB is available: a full disk is not tried")
     if os.path.isdir("/dev/shm"):
         yield "a file under /dev/shm is replaced", in_memory(program, folder)
     yield from synced(program, folder)

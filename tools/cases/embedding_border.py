@@ -1,7 +1,7 @@
-"""What is asked through the border of the library, beside `plain_store.py`, which knows nothing of it: all rows of `test_scripts`, scripts by chance, rooms
-of each length, wrong arguments. For `embedding_cases.py`, in a process of its own, as a fault of the library would end it.
+"""Calls through the border of the library, compared with `plain_store.py`, which shares no code with it: all rows of `test_scripts`, random scripts, buffers
+of each length, wrong arguments. For `embedding_cases.py`, in a process of its own, since a fault of the library would end it.
 
-    embedding_border.py     PCALC_SO and PYTHONPATH name the library and its Python module; a line of JSON for each case, its name and what differs in it
+    embedding_border.py     PCALC_SO and PYTHONPATH name the library and its Python module; prints a line of JSON for each case, its name and the differences
 """
 
 import json
@@ -21,7 +21,7 @@ DRAWN, SEED = 100, "border"
 
 
 class Border:
-    """A store behind the border, with the events and replies of `plain_store.Store`."""
+    """A store used through the border, with the events and replies of `plain_store.Store`."""
 
     KINDS = {"begin": 1, "get": 2, "put": 3, "del": 4, "add": 5, "commit": 6, "abort": 7, "point": 8, "seal": 9, "capture": 10, "take": 11, "done": 12,
              "rest": 13, "join": 14}
@@ -45,23 +45,23 @@ class Border:
         return self.reply(self.handle.call(self.KINDS[verb], **words))
 
     def reply(self, kind):
-        told, it = self.handle.answer, self.embedded
-        assert kind == told.kind
+        answer, it = self.handle.answer, self.embedded
+        assert kind == answer.kind
         if kind == it.REFUSED:
-            name = it.REFUSALS[told.refusal]
-            return ("refused", name, told.number) if name == "Gap" else ("refused", name)
+            name = it.REFUSALS[answer.refusal]
+            return ("refused", name, answer.number) if name == "Gap" else ("refused", name)
         if kind in (it.TOOK, it.TOOK_ABSENT):
             key, value = self.handle.copied()
-            return "took", (told.space, key), value if kind == it.TOOK else None
+            return "took", (answer.space, key), value if kind == it.TOOK else None
         if kind == it.JOINED:
-            file, entries = told.file, told.entries
+            file, entries = answer.file, answer.entries
             return "file", file, plain_files.points_of(plain_files.read_part(self.shown(it.PART, file))), entries
         return {
-            it.BEGUN: lambda: ("begun", told.number), it.FOUND: lambda: ("found", self.handle.copied()[1]), it.ABSENT: lambda: ("absent",),
-            it.MADE: lambda: ("ok",), it.SUM: lambda: ("sum", told.sum), it.WAIT: lambda: ("wait",), it.DIED: lambda: ("died",),
-            it.COMMITTED: lambda: ("committed", told.number), it.ABORTED: lambda: ("aborted",), it.PHASE: lambda: ("phase", self.PHASES[told.phase], told.number),
-            it.NOT_YET: lambda: ("notyet", told.number), it.NONE_LEFT: lambda: ("noneleft",),
-            it.PART_DONE: lambda: ("partdone", told.number, told.file, told.entries),
+            it.BEGUN: lambda: ("begun", answer.number), it.FOUND: lambda: ("found", self.handle.copied()[1]), it.ABSENT: lambda: ("absent",),
+            it.MADE: lambda: ("ok",), it.SUM: lambda: ("sum", answer.sum), it.WAIT: lambda: ("wait",), it.DIED: lambda: ("died",),
+            it.COMMITTED: lambda: ("committed", answer.number), it.ABORTED: lambda: ("aborted",), it.PHASE: lambda: ("phase", self.PHASES[answer.phase], answer.number),
+            it.NOT_YET: lambda: ("notyet", answer.number), it.NONE_LEFT: lambda: ("noneleft",),
+            it.PART_DONE: lambda: ("partdone", answer.number, answer.file, answer.entries),
         }[kind]()
 
     def shown(self, what, number=0):
@@ -88,7 +88,7 @@ class Border:
 
 
 class BorderScript(plain_store.Script):
-    """A script whose store is one behind the border."""
+    """A script over such a store."""
 
     def stored(self):
         if self.store is None:
@@ -106,7 +106,7 @@ def rows():
 
 
 def answered(kind, words, script):
-    """What `plain_store.run_script` gives for scripts of this kind."""
+    """What `plain_store.run_script` returns for scripts of this kind."""
     plain = plain_store.Script
     plain_store.Script = kind
     try:
@@ -116,32 +116,32 @@ def answered(kind, words, script):
 
 
 def different_rows():
-    """The rows that are answered otherwise through the border than by the plain store."""
+    """The rows with other answers through the border than by the plain store."""
     count = 0
     for count, (words, script) in enumerate(rows(), 1):
         wanted, got = answered(plain_store.Script, words, script), answered(BorderScript, words, script)
         if got != wanted:
-            yield f"{' '.join(words)}: {got[:300]!r} beside {wanted[:300]!r}"
+            yield f"{' '.join(words)}: {got[:300]!r} instead of {wanted[:300]!r}"
     if count < 300:
-        yield f"there are {count} rows"
+        yield f"there are only {count} rows"
 
 
 def different_script(setting, lines):
-    """The first line of a script that is answered otherwise through the border than by the plain store."""
+    """The first line of a script with another answer through the border than by the plain store."""
     wanted, got = plain_store.Script(*setting), BorderScript(*setting)
     for number, line in enumerate(lines, 1):
         pair = [script.answer(line) for script in (wanted, got)]
         if pair[0] != pair[1]:
-            yield f"line {number}, {line!r}: {pair[1][:300]!r} beside {pair[0][:300]!r}"
+            yield f"line {number}, {line!r}: {pair[1][:300]!r} instead of {pair[0][:300]!r}"
             break
     if got.status != wanted.status:
-        yield f"status {got.status} beside {wanted.status}"
+        yield f"status {got.status} instead of {wanted.status}"
     if got.store is not None:
         got.store.close()
 
 
-def different_rooms():
-    """The lengths of rooms, and the bytes from which is copied, where what is copied isn't a part of what there is."""
+def different_buffers():
+    """The lengths of buffers, and the offsets of copies, for which the copy isn't that part of the bytes."""
     store = Border({}, 1, 100, 1)
     handle, it = store.handle, store.embedded
     value = bytes(range(40))
@@ -152,14 +152,14 @@ def different_rooms():
         for start in (0, 1, 39, 40, 41):
             key, got = handle.copied(length, length, start)
             if key != b"a key"[:length].ljust(length, b"\0") or got != value[start:][:length].ljust(length, b"\0"):
-                yield f"a room of {length} from {start}: {key!r} {got!r}"
+                yield f"a buffer of {length} from {start}: {key!r} {got!r}"
     if handle.copied() != (b"a key", value):
         yield "what was taken is lost"
     store.close()
 
 
 def wrong_arguments():
-    """What bad arguments are answered other than by their refusals, and what they change."""
+    """Bad arguments that are not answered by their refusals, and what they change."""
     store = Border({}, 1, 100, 1)
     handle, it = store.handle, store.embedded
     store.step(("begin", 1))
@@ -168,13 +168,13 @@ def wrong_arguments():
                         ("KeyLength", {"kind": it.GET}), ("KeyLength", {"kind": it.PUT, "key": bytes(256), "value": bytes(65_536)}),
                         ("ValueLength", {"kind": it.PUT, "key": b"k", "value": bytes(65_536)}), ("NoSession", {"kind": it.GET, "session": 0, "key": b"k"}),
                         ("NoSession", {"kind": it.COMMIT, "session": 2**32 - 1})):
-        told = handle.call(**{"session": 1, **words})
-        if told != it.REFUSED or it.REFUSALS[handle.answer.refusal] != name:
-            yield f"{words}: {told} {handle.answer.refusal}"
+        kind = handle.call(**{"session": 1, **words})
+        if kind != it.REFUSED or it.REFUSALS[handle.answer.refusal] != name:
+            yield f"{words}: {kind} {handle.answer.refusal}"
     for what, number, name in ((0, 0, "BadKind"), (5, 0, "BadKind"), (it.PART, 1, "NoFile"), (it.PART, 0, "NoFile")):
-        told = handle.show(what, number)
-        if told != it.REFUSED or it.REFUSALS[handle.answer.refusal] != name:
-            yield f"show {what} {number}: {told} {handle.answer.refusal}"
+        kind = handle.show(what, number)
+        if kind != it.REFUSED or it.REFUSALS[handle.answer.refusal] != name:
+            yield f"show {what} {number}: {kind} {handle.answer.refusal}"
     if store.step(("get", 1, (0, b"k"))) != ("found", b"v") or store.step(("commit", 1)) != ("committed", 1):
         yield "a refusal has changed something"
     if handle.give(it.BASE, b"") != it.OPEN or handle.open() != it.OPEN or handle.recover() != 8:
@@ -192,13 +192,13 @@ def wrong_arguments():
 
 
 def cases():
-    """What each case differs in, by its name."""
+    """The differences of each case, by its name."""
     yield "rows of scripts", list(different_rows())
-    yield "rooms of each length", list(different_rooms())
+    yield "buffers of each length", list(different_buffers())
     yield "wrong arguments", list(wrong_arguments())
     for number in range(DRAWN):
         setting, lines = soak.Scripts().draw(random.Random(f"{SEED} {number}"))
-        yield f"script {number} by chance", list(different_script(setting, lines))
+        yield f"random script {number}", list(different_script(setting, lines))
 
 
 def main():

@@ -1,4 +1,4 @@
-"""Pairs as lines of JSON that are dumped and loaded, for `pair_cases.py`. What is to be printed is made by Python's own `json` and `base64`."""
+"""Pairs as lines of JSON that are dumped and loaded, for `pair_cases.py`. The expected output is made by Python's own `json` and `base64`."""
 
 import base64
 import binascii
@@ -13,7 +13,7 @@ SEED = 68
 
 
 def member_of(name, given):
-    """The member that has these bytes: a text where they are UTF-8, otherwise base64."""
+    """The member that has these bytes: a text if they are UTF-8, otherwise base64."""
     try:
         return {name: given.decode()}
     except UnicodeDecodeError:
@@ -43,7 +43,7 @@ def dump_cases(pairs):
 
 
 def round_cases(folder, pairs):
-    """Lines of JSON, in several layouts, give the pairs."""
+    """Lines of JSON in several layouts, all of these pairs."""
     lines = json_lines(pairs)
     base, log = plain_files.Base(1, 0, pairs).text(), plain_files.Log(1).text()
     shuffled = lines.splitlines(keepends=True)
@@ -62,7 +62,7 @@ def round_cases(folder, pairs):
 
 
 def pair_of(line):
-    """The pair that a line tells, or None."""
+    """The pair of a line, or None."""
     try:
         members = json.loads(line.decode(), parse_float=lambda _: None, parse_constant=lambda _: None, parse_int=lambda it: None if it == "-0" else int(it))
     except ValueError:
@@ -103,7 +103,7 @@ FAULTS = {
 
 
 def fault_cases(folder):
-    """A line at fault is told by its number, and nothing is made."""
+    """A line at fault is reported by its number, and nothing is made."""
     os.makedirs(os.path.join(folder, "bare"), exist_ok=True)
     for line, fault in FAULTS.items():
         written(folder, "json", b'{"key":"k","value":"v"}\n{"value":"w","key":"l","space":0}\n' + line + b'\n{"key":"m","value":"x"}\n')
@@ -111,7 +111,7 @@ def fault_cases(folder):
 
 
 def changed_cases(folder, pairs):
-    """Lines of JSON of which a byte was changed: they are loaded or refused, and what is loaded is what they say."""
+    """Lines of JSON with one byte changed: they are refused, or loaded as they say."""
     chance = random.Random(SEED)
     lines = b"".join(json_line(key, value[:20]) for key, value in sorted(pairs.items()))[:2_000]
     for number in range(60):

@@ -1,8 +1,8 @@
 """Commands that are killed at each of their calls that change files, and runs that begin in one folder at the same time, for `try_programs.py`.
 
-A collapse that is killed leaves under the name of its file what stood there, or the whole join, and its inputs as they were; a run leaves so the file
-of its times. Of two runs into one folder, the second of which begins a little later each time, one has the folder and leaves in it all that it
-committed, and the other one is told NotEmpty.
+A killed collapse leaves under the name of its file what was there, or the whole join, and its inputs as they were; likewise a run the file
+of its times. Of two runs into one folder, the second of which begins a little later each time, one owns the folder and leaves in it all that it
+committed, and the other one reports NotEmpty.
 """
 
 import contextlib
@@ -27,7 +27,7 @@ COUNTS = (300, 200)
 
 
 def killed(library, number, words, folder):
-    """The status of a call that is killed at its call of this number; below 0 where it was."""
+    """The status of a command that is killed at its call of this number; below 0 if it was."""
     env = {**os.environ, "LD_PRELOAD": library, "KILLED_CALL": str(number)}
     with contextlib.suppress(subprocess.TimeoutExpired):
         return subprocess.run(words, env=env, cwd=folder, stdin=subprocess.DEVNULL, stdout=subprocess.DEVNULL, stderr=subprocess.DEVNULL, timeout=SECONDS).returncode
@@ -35,8 +35,8 @@ def killed(library, number, words, folder):
 
 
 def killed_at_each_call(name, words, prepare, faults):
-    """What is wrong with what a command leaves that is killed at each of its calls in turn, up to the one that ends by itself, by the number of the
-    call. What stands in its folder is prepared each time."""
+    """What is wrong with what a command leaves that is killed at each of its calls in turn, until one ends by itself, by the number of the
+    call. Its folder is prepared each time."""
     with tempfile.TemporaryDirectory() as room:
         try:
             library = preload.built(room, preload.KILL)
@@ -79,7 +79,7 @@ def collapse_kills(program):
 
 
 def times_kills(program):
-    """A run that writes its times over a file that is there."""
+    """A run that writes its times over an existing file."""
     def prepare(folder):
         written(folder, "timed.pcw", TIMED)
         written(folder, "run.times", b"as it was")
@@ -93,25 +93,25 @@ def times_kills(program):
 
 
 def contest(program, folder, place, delay):
-    """What is wrong with two runs into one new folder, of which the second begins so many seconds later."""
+    """What is wrong with two runs into one new folder, the second of which begins `delay` seconds later."""
     os.makedirs(os.path.join(folder, place))
     runs = []
     for number in (0, 1):
         words = (program, "run", f"contest{number}.pcw", "--dir", place, "--lag", "0")
         runs.append(subprocess.Popen(words, cwd=folder, stdin=subprocess.DEVNULL, stdout=subprocess.PIPE, stderr=subprocess.PIPE))
         time.sleep(delay)
-    told = [(run.communicate(timeout=SECONDS), run.returncode) for run in runs]
-    won = [number for number, (_, status) in enumerate(told) if status == 0]
-    lost = [err for (out, err), status in told if (status, out) == (1, b"")]
+    ended = [(run.communicate(timeout=SECONDS), run.returncode) for run in runs]
+    won = [number for number, (_, status) in enumerate(ended) if status == 0]
+    lost = [err for (out, err), status in ended if (status, out) == (1, b"")]
     if len(won) != 1 or lost != [f"pcalc: {place}: NotEmpty\n".encode()]:
-        return [f"{len(won)} runs had the folder, and the others were told {lost}"]
+        return [f"{len(won)} runs owned the folder, and the others reported {lost}"]
     recovered = subprocess.run((program, "recover", place), cwd=folder, stdin=subprocess.DEVNULL, capture_output=True, timeout=SECONDS)
     wanted = b"pairs %d\n%s" % (COUNTS[won[0]], b"ab"[won[0]:won[0] + 1])
-    return [] if recovered.returncode == 0 and wanted in recovered.stdout else ["the folder hasn't what its run has committed"]
+    return [] if recovered.returncode == 0 and wanted in recovered.stdout else ["the folder doesn't have what its run has committed"]
 
 
 def contests(program, folder):
-    """What pairs of runs into one folder differ in, by how much later the second one begins."""
+    """What is wrong with pairs of runs into one folder, by how much later the second one begins."""
     for number, count in enumerate(COUNTS):
         written(folder, f"contest{number}.pcw", b"points 1\nclient 1\n" + b"# padding\n" * 50_000 + b"fill %s %d x\n" % (b"ab"[number:number + 1], count))
     for offset in range(OFFSETS):
@@ -119,7 +119,7 @@ def contests(program, folder):
 
 
 def kills(program, folder):
-    """What each command that is killed, and each pair of runs, differs in, by its name."""
+    """What is wrong with each killed command, and each pair of runs, by its name."""
     yield from collapse_kills(program)
     yield from times_kills(program)
     yield from contests(program, folder)

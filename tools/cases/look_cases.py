@@ -1,4 +1,4 @@
-"""Commands that look into files, for `try_programs.py`: the entries of logs, and files that are verified. What is to be printed comes from `plain_files.py`, which knows nothing of the program."""
+"""Commands that look into files, for `try_programs.py`: the entries of logs, and files that are verified. The expected output comes from `plain_files.py`, which shares no code with the program."""
 
 import os
 import random
@@ -55,12 +55,12 @@ def log_of(entries):
 
 
 def texts():
-    """Logs by what they are: whole ones, each beginning of one, ones with a byte changed, and bytes of other files."""
+    """Logs by description: whole ones, each prefix of one, ones with a byte changed, and bytes of other files."""
     whole = log_of(ENTRIES + SPACED).text(SECOND)
     yield "whole", whole
     yield "of the first format", log_of(ENTRIES).text(FIRST)
     yield "without entries", log_of([]).text()
-    yield "a token out of its turn", log_of([("token", "resolve", 1)]).text()
+    yield "a token out of order", log_of([("token", "resolve", 1)]).text()
     yield "bytes of a part", plain_files.Part(1, [(1, 1)], {}).text()
     for size in range(len(whole)):
         yield f"the first {size} bytes", whole[:size]
@@ -91,7 +91,7 @@ def log_cases(folder):
     yield Case("log --help", ("log", "--help"), 0, parts=[b"<FILE>", b"--from <N>", b"--to <N>", b"[default: 16777216]"])
 
 def found_in(kind, text):
-    """What `pcalc verify` tells of a text of this kind behind its name, and whether it is whole."""
+    """What `pcalc verify` prints of a text of this kind after its name, and whether it is whole."""
     try:
         file = plain_files.read(kind, text)
     except plain_files.Refused as fault:
@@ -108,7 +108,7 @@ def found_in(kind, text):
 
 
 def seen_with(kind, text, fault):
-    """The least number of first bytes that aren't just too few, or all of them."""
+    """The size of the least prefix with another fault than Short, or of all bytes."""
     if fault.name == "Short":
         return len(text)
     for size in range(len(text) + 1):
@@ -130,7 +130,7 @@ def sample(kind):
 
 
 def file_cases(folder):
-    """Files that are read by their own readers: whole ones, each beginning of one, and ones with a byte changed."""
+    """Files that are read by their own readers: whole ones, each prefix of one, and ones with a byte changed."""
     chance = random.Random(SEED)
     for kind, name in (("base", "some.pcb"), ("part", "some.pcp"), ("log", "some.pcl")):
         whole = sample(kind)

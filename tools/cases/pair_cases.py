@@ -1,4 +1,4 @@
-"""Pairs that are taken out of folders and brought into them, for `try_programs.py`. What is to be printed comes from `plain_files.py`, which knows nothing of the program."""
+"""Pairs dumped from folders and loaded into them, for `try_programs.py`. The expected output comes from `plain_files.py`, which shares no code with the program."""
 
 import os
 import random
@@ -53,12 +53,12 @@ def dump_cases(folder):
     yield Case("a dump of a base and a log", ("dump", "logged"), 0, b"a 1\nc 3\n")
     os.remove(os.path.join(folder, "logged", "log.pcl"))
     yield Case("a dump without its log", ("dump", "logged"), 1, err=b"pcalc: logged: Damaged\n")
-    yield Case("a dump without its log that is wanted", ("dump", "logged", "--damaged"), 0, b"a 1\nb 2\n")
+    yield Case("a dump without its log, with damage accepted", ("dump", "logged", "--damaged"), 0, b"a 1\nb 2\n")
     yield Case("dump --help", ("dump", "--help"), 0, parts=[b"<DIR>", b"--space <N>", b"--prefix <WORD>", b"--json", b"--point <N>", b"--damaged"])
 
 
 def hostile_cases(folder):
-    """Folders whose files are cut off, changed or foreign: what is recovered of them is printed, or why nothing is."""
+    """Folders whose files are truncated, changed or foreign: what is recovered from them is printed, or why nothing is."""
     base = plain_files.Base(1, 0, keyed({b"a": b"1", b"k": b"v"})).text()
     texts = [("base.pcb", base[:size]) for size in range(0, len(base), 5)] + [("log.pcl", text) for _, text in look_cases.texts() if len(text) < 1_000]
     written(folder, "hostile/base.pcb", base)
@@ -72,13 +72,13 @@ def hostile_cases(folder):
             yield Case(f"a dump of a hostile folder, {number}", ("dump", "hostile"), 1, err=b"pcalc: hostile: %s\n" % fault.name.encode())
             continue
         is_damaged = len(files["log.pcl"]) < 20 or found.fault not in (None, "Short")
-        told = [b"pcalc: hostile: Damaged\n"] if is_damaged else b""
-        yield Case(f"a dump of a hostile folder, {number}", ("dump", "hostile"), 1 if is_damaged else 0, b"" if is_damaged else lines_of(found.pairs), told)
-        yield Case(f"the same where damage is accepted, {number}", ("dump", "hostile", "--damaged"), 0, lines_of(found.pairs), [])
+        err = [b"pcalc: hostile: Damaged\n"] if is_damaged else b""
+        yield Case(f"a dump of a hostile folder, {number}", ("dump", "hostile"), 1 if is_damaged else 0, b"" if is_damaged else lines_of(found.pairs), err)
+        yield Case(f"the same, with damage accepted, {number}", ("dump", "hostile", "--damaged"), 0, lines_of(found.pairs), [])
 
 
 def pointed_run(points):
-    """The base of a run at point 0, its parts by point, and its log: there are commits before each token, and behind the last."""
+    """The base of a run at point 0, its parts by point, and its log: there are commits before each token, and after the last."""
     base = plain_files.Base(1, 0, {**keyed({b"a": b"0", b"b": b"0", b"gone": b"0"}), (7, b"a"): b"0"})
     log, state, before, parts = plain_files.Log(1), dict(base.pairs), dict(base.pairs), {}
 
@@ -101,7 +101,7 @@ def pointed_run(points):
 
 
 def point_state(point, base_text, parts, log_text):
-    """The pairs of the point's state, or None where the parts (names with texts) and the log don't reach it."""
+    """The pairs of the point's state, or None if the parts (names with texts) and the log don't reach it."""
     base = plain_files.read_base(base_text)
     kept = [(name, text) for name, text in parts if not is_above(point, text)]
     found = plain_files.recover(base_text, kept, b"")
@@ -128,7 +128,7 @@ def is_above(point, text):
 
 
 def pointed_folders():
-    """By name the texts of a base, of parts by name, and of a log, or None."""
+    """Folders by name: the texts of a base, of parts by name, and of a log, or None."""
     base, parts, log = pointed_run(4)
     texts = [(b"%d.pcp" % point, parts[point].text()) for point in sorted(parts)]
     two_three = (b"2-3.pcp", plain_files.join(parts[2], parts[3]).text())
@@ -152,8 +152,8 @@ def pointed_folders():
     yield "a damaged part alone", (bare, [texts[0], damaged, texts[2]], None)
     yield "a foreign part", (bare, [*texts[:2], foreign], whole)
     yield "a log of another run", (bare, texts[:2], other_log)
-    yield "a log of no kind", (bare, texts[:2], b"PCALCL99" + whole[8:])
-    yield "a log that isn't at its start", (bare, texts[:1], whole[:20])
+    yield "a log of another kind", (bare, texts[:2], b"PCALCL99" + whole[8:])
+    yield "a log without entries", (bare, texts[:1], whole[:20])
     for size in range(0, len(whole), 41):
         yield f"a log of {size} bytes", (bare, texts[:1], whole[:size])
     yield "parts in conflict", (bare, [*texts[:2], (b"2b.pcp", plain_files.Part(1, [(2, 2)], {key: (2, b"other") for key in parts[2].entries}).text())], whole)
@@ -183,7 +183,7 @@ def point_cases(folder):
     yield Case("a point of a prefix", (*words, "--prefix", "k1"), 0, lines_of({key: pairs[key] for key in pairs if key[1].startswith(b"k1")}))
     yield Case("a point in JSON", (*words, "--json"), 0, json_cases.json_lines(pairs))
     lacked = b"pcalc: pointed0: NoPoint\n  neither its parts nor its log reach the point of --point\n"
-    yield Case("a point that is lacked, explained", ("dump", "pointed0", "--point", "9", "--explain"), 1, err=lacked)
+    yield Case("a missing point, explained", ("dump", "pointed0", "--point", "9", "--explain"), 1, err=lacked)
     yield Case("a point to a full output", words, 1, output=FULL)
     yield Case("a point of no folder", ("dump", "nowhere", "--point", "1"), 1, err=b"pcalc: base.pcb: NoFile\n")
     yield Case("point 0", ("dump", "pointed0", "--point", "0"), 2, err=[b"error: invalid value '0' for '--point <N>': 0 is not in 1..=65535\n"])
@@ -196,7 +196,7 @@ def point_cases(folder):
 
 
 def foreign_cases(folder):
-    """Lines that are bytes of files, or cut off or changed: they are loaded or refused, and what is loaded is what they say."""
+    """Lines that are bytes of files, or changed: they are refused, or loaded as they say."""
     chance = random.Random(SEED)
     lines = lines_of(odd_pairs())[:3_000]
     texts = [plain_files.Base(1, 0, keyed({b"a": b"1"})).text(), bytes(range(256)) * 40, b"\n" * 1_000, b" \n" * 9]
@@ -243,7 +243,7 @@ def lines_in(text):
 
 
 def bytes_in(text):
-    """The bytes that a word stands for, if it is one."""
+    """The bytes of a word, or None if it isn't one."""
     if text == b"-":
         return b""
     found = re.fullmatch(rb"(?:[!-\[\]-~]|\\x[0-9a-f]{2})*", text)
@@ -251,7 +251,7 @@ def bytes_in(text):
 
 
 def key_in(text):
-    """The space and the own bytes that a key's word stands for, if it is one."""
+    """The space and the own bytes of a key's word, or None if it isn't one."""
     found = re.match(rb"\\s([1-9][0-9]{0,8}):", text)
     if not found:
         own = bytes_in(text)

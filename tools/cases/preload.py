@@ -1,5 +1,5 @@
-"""Libraries that are loaded before the C library's, into a program that is tried: what refuses a growth of memory, kills at a call, or notes what is
-brought to the disk. They are built by the compiler of the kit, and need no header and no library."""
+"""Libraries that are loaded before the C library, into a program under test: they refuse a growth of memory, kill at a call, or note flushes
+to the disk. They are built by the compiler of the kit, and need no header and no library."""
 
 import os
 import shutil
@@ -11,10 +11,10 @@ FLAGS = ("-shared", "-fPIC", "-O1", "-fno-builtin", "-nostdlib", "-Wall", "-Wext
 
 
 def built(folder, source):
-    """The library of this source, in the folder; the errors of what can't be had are the caller's."""
+    """The library of this source, in the folder; raises OSError if it can't be built."""
     command = shutil.which("rt")
     if command is None:
-        raise OSError("the command rt, beside which the kit's compiler stands, is not there")
+        raise OSError("the command rt, next to which the kit's compiler is, is not there")
     kit = os.path.join(os.path.dirname(os.path.dirname(os.path.realpath(command))), "toolchain", "bin")
     library = os.path.join(folder, "made.so")
     words = (os.path.join(kit, "clang"), *FLAGS, "--ld-path=" + os.path.join(kit, "ld.lld"), "-o", library, source)

@@ -1,13 +1,13 @@
 #!/usr/bin/env python3
-"""Runs a workload into a folder, joins parts, recovers a folder, and runs each test of the crates `TESTERS` that is named for it, once for each growth
-of memory that they ask for, with that growth refused. `try_programs.py` does so in the gate; by hand this prints what it saw.
+"""Runs a workload into a folder, joins parts, recovers a folder, and runs the tests of the crates `TESTERS` that are named for it, once for each growth
+of memory that they ask for, with that growth refused. `try_programs.py` does so in the gate; by hand this prints its counts.
 
-The run, `pcalc run --dir`, is to end whichever growth is refused: with the status 1, nothing printed and at most one fault told, or with the status 0,
-and then with all of its transactions, or with one given up and all others. So are a collapse and a recovery, which print and write all. A test's name
-ends in `at_each_refused_growth`: it asks again where memory was wanting, and wants in the end what it would have got with ample memory, so it passes
-whichever growth is refused. How many growths a run asks for goes up and down with its threads.
+The run, `pcalc run --dir`, must end whichever growth is refused: with status 1, nothing printed and at most one fault reported, or with status 0,
+and then with all of its transactions, or with one given up and all others. So must a collapse and a recovery, which print and write everything. A test's name
+ends in `at_each_refused_growth`: it asks again after an allocation failure, and checks that the end is the same as with ample memory, so it passes
+whichever growth is refused. How many growths a run asks for varies with its threads.
 
-All are programs of the gate, in out/ (`rt run` in the folder of pcalc, and `rt test` in that of each crate of tests, make them). `preload.py` builds what refuses.
+All are programs of the gate, in out/ (`rt run` in the folder of pcalc, and `rt test` in that of each crate of tests, make them). `preload.py` builds the library that refuses.
 """
 
 import os
@@ -45,13 +45,13 @@ SECONDS = 60
 
 
 def printed_with(given_up):
-    """What a run prints of whose transactions so many were given up."""
+    """What a run prints if this number of its transactions were given up."""
     left = ALL - given_up
     return b"commits %d\ngave up %d\npoints 2\ncollapsed 1-2 entries %d\nstate pairs %d\ncheck ok\n" % (left, given_up, left, left)
 
 
 def refused(library, number, words, folder):
-    """The status of a call in which the growth of this number is refused, what it printed and told, and whether it asked for the growth."""
+    """The status of a call in which the growth of this number is refused, both its outputs, and whether it asked for the growth."""
     env = {**os.environ, "LD_PRELOAD": library, "REFUSED_GROWTH": str(number)}
     try:
         ran = subprocess.run(words, env=env, cwd=folder, stdin=subprocess.DEVNULL, capture_output=True, timeout=SECONDS)
@@ -61,41 +61,41 @@ def refused(library, number, words, folder):
 
 
 def refused_each(call):
-    """What calls give, of the first growth, the second and so on, as far as there are growths and calls end; some run side by side."""
+    """The results of calls, of the first growth, the second and so on, as far as there are growths and calls end; some run concurrently."""
     with ThreadPoolExecutor(LANES) as pool:
         for first in range(1, MOST_GROWTHS, LANES):
-            some = [(number, told) for number, told in enumerate(pool.map(call, range(first, first + LANES)), first) if told[3]]
+            some = [(number, result) for number, result in enumerate(pool.map(call, range(first, first + LANES)), first) if result[3]]
             yield from some
-            if len(some) < LANES or any(told[0] is None for _, told in some):
+            if len(some) < LANES or any(result[0] is None for _, result in some):
                 return
     yield MOST_GROWTHS, (None, b"", b"no end of growths", True, False)
 
 
 class Command:
-    """Words of the program, the files that they need, what may be printed where they are done, and which file then has which text."""
+    """Words of the program, the files that they need, what may be printed with status 0, and which file then has which text."""
 
     def __init__(self, name, words, files, printed, output=(os.devnull, b"")):
         self.name, self.words, self.files, self.printed, self.output = name, words, files, printed, output
 
     def call(self, library, program, room, number):
-        """What is told where the growth of this number is refused, in a folder of its own, with whether the output is right."""
+        """The result with the growth of this number refused, in a folder of its own, and whether the output is right."""
         folder = os.path.join(room, str(number))
         os.makedirs(os.path.join(folder, "left"))
         for name, text in self.files.items():
             written(folder, name, text)
-        told = refused(library, number, (program, *self.words), folder)
+        result = refused(library, number, (program, *self.words), folder)
         path, text = os.path.join(folder, self.output[0]), None
         if os.path.exists(path):
             with open(path, "rb") as it:
                 text = it.read()
         shutil.rmtree(folder)
-        return *told, text == self.output[1]
+        return *result, text == self.output[1]
 
-    def is_right(self, status, printed, told, is_written):
-        """Whether it has ended as it is to."""
+    def is_right(self, status, printed, err, is_written):
+        """Whether it has ended as it must."""
         if status == 0:
-            return printed in self.printed and not told and is_written
-        return status == 1 and not printed and FAULT.fullmatch(told) is not None and not (is_written and self.output[1])
+            return printed in self.printed and not err and is_written
+        return status == 1 and not printed and FAULT.fullmatch(err) is not None and not (is_written and self.output[1])
 
 
 PARTS = {f"{point}.pcp": plain_files.Part(1, [(point, point)], keyed({b"a key of many letters": (point, b"%d" % point), b"b": (point, None)})) for point in (1, 2, 3)}
@@ -104,34 +104,34 @@ TEXTS = {name: part.text(plain_files.FIRST if name == "2.pcp" else plain_files.S
 LOG = plain_files.Log(1)
 LOG.entries = [plain_files.commit(1, {b"another key of many letters": b"x"}, 7)]
 FOLDER = {"base.pcb": plain_files.Base(1, 0, keyed({b"c": b"a value of many letters"})).text(plain_files.FIRST), "log.pcl": LOG.text(), **TEXTS}
-WORTH = plain_files.recover(FOLDER["base.pcb"], [*TEXTS.items()], FOLDER["log.pcl"]).text()
+STATE = plain_files.recover(FOLDER["base.pcb"], [*TEXTS.items()], FOLDER["log.pcl"]).text()
 COMMANDS = (
     Command("a run into a folder", ("run", "growths.pcw", "--dir", "left", *CREW), {"growths.pcw": WORKLOAD}, [printed_with(0), printed_with(1)]),
     Command("a collapse", ("collapse", "all.pcp", *TEXTS), TEXTS, [b"points 1-3 entries 2\n"], ("all.pcp", plain_files.all_joined([*PARTS.values()]).text())),
-    Command("a recovery", ("recover", "."), FOLDER, [WORTH]),
+    Command("a recovery", ("recover", "."), FOLDER, [STATE]),
 )
 
 
 def ended(library, program, room, command):
-    """What is wrong with the calls of a command, a line each; what was seen is printed."""
+    """What is wrong with the calls of a command, a line each; the counts are printed."""
     ends, lines = {0: 0, 1: 0}, []
-    for number, (status, printed, told, _, is_written) in refused_each(lambda number: command.call(library, program, room, number)):
+    for number, (status, printed, err, _, is_written) in refused_each(lambda number: command.call(library, program, room, number)):
         ends[status] = ends.get(status, 0) + 1
-        if not command.is_right(status, printed, told, is_written):
-            lines.append("growth %d: status %s, printed %r, told %r, written %s" % (number, status, printed, told, is_written))
+        if not command.is_right(status, printed, err, is_written):
+            lines.append("growth %d: status %s, printed %r and %r, written %s" % (number, status, printed, err, is_written))
     print("%s: %d growths, refused in turn; status 1 at %d, status 0 at %d" % (command.name, sum(ends.values()), ends[1], ends[0]), flush=True)
-    return lines if ends[1] else [*lines, "none ended with the status 1"]
+    return lines if ends[1] else [*lines, "none ended with status 1"]
 
 
 def tests_of(program):
-    """The full names of the tests that are to be run so."""
+    """The full names of the tests to run with refused growths."""
     listed = subprocess.run([program, "--list"], capture_output=True, text=True, check=True).stdout
     names = [line.removesuffix(": test") for line in listed.splitlines() if line.endswith(": test")]
     return [name for name in names if name.endswith(MARK)]
 
 
 def test(library, program, room, name):
-    """What is wrong with a test, a line for each growth at which it failed; what was seen is printed."""
+    """What is wrong with a test, a line for each growth at which it failed; the count is printed."""
     seen = [(number, status) for number, (status, *_) in refused_each(lambda number: refused(library, number, (program, name), room))]
     print("%s: %d growths, refused in turn" % (name, len(seen)), flush=True)
     return ["growth %d: status %s" % (number, status) for number, status in seen if status != 0] if seen else ["it asked for no growth"]
@@ -154,7 +154,7 @@ def tester_growths(library, tester, room):
 
 
 def growths(program=PROGRAM, testers=TESTERS):
-    """What is wrong, by the name of a case; what was seen is printed."""
+    """What is wrong, by the name of a case; the counts are printed."""
     with tempfile.TemporaryDirectory() as room:
         try:
             library = preload.built(room, preload.REFUSE)

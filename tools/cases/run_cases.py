@@ -1,31 +1,31 @@
-"""Workloads that the built program runs on threads, for `try_programs.py`: what it prints and tells, and what stands in the folder afterwards, which
-`pcalc recover` is then run on, whole, with its log cut, and without each of its parts.
+"""Workloads that the built program runs on threads, for `try_programs.py`: what it prints and reports, and what it leaves in the folder, on which `pcalc recover`
+is then run: whole, with its log truncated, and without each of its parts.
 
-What is to be printed was worked out by hand from docs/MANUAL.md and docs/FORMATS.md, or comes from `plain_files.py`, which knows nothing of the program. How clients on
-threads mix can't be told beforehand; what is compared is the same for every order.
+The expected output was worked out by hand from docs/MANUAL.md and docs/FORMATS.md, or comes from `plain_files.py`, which shares no code with the program. How the
+threads interleave isn't known beforehand; what is compared is the same for every order.
 """
 
 import os
 
-from tools.cases.case import FAULTS, FULL, LITTLE, MANY, Case, beside, content_of, feed, files_of, piped, sparse, written
+from tools.cases.case import FAULTS, FULL, LITTLE, MANY, Case, concurrently, content_of, feed, files_of, piped, sparse, written
 from tools.oracle import plain_files, plain_store
 from tools.oracle.plain_store import key_word, keyed
 
 EMPTY = plain_files.Base(1, 0, {}).text()
 FOUR = b"points 8\n" + b"".join(b"client %d\nfill %s 1000 x\n" % (number + 1, name) for number, name in enumerate((b"a", b"b", b"c", b"d")))
-FOUR_TOLD = b"commits 4000\ngave up 0\npoints 8\ncollapsed 1-8 entries 4000\nstate pairs 4000\ncheck ok\n"
-# The same keys, written twenty times, so that a run takes long enough for points that begin too soon.
+FOUR_OUT = b"commits 4000\ngave up 0\npoints 8\ncollapsed 1-8 entries 4000\nstate pairs 4000\ncheck ok\n"
+# The same keys, written twenty times: a run long enough to show points that begin too early.
 AGAIN = b"points 8\n" + b"".join(b"client %d\n" % (number + 1) + b"fill %s 1000 x\n" % name * 20 for number, name in enumerate((b"a", b"b", b"c", b"d")))
-AGAIN_TOLD = FOUR_TOLD.replace(b"commits 4000", b"commits 80000")
+AGAIN_OUT = FOUR_OUT.replace(b"commits 4000", b"commits 80000")
 ONE = b"points 1\nclient 1\nfill a 3 x\n"
-ONE_TOLD = b"commits 3\ngave up 0\npoints 1\ncollapsed 1 entries 3\nstate pairs 3\ncheck ok\n"
-NOTHING_TOLD = b"commits 0\ngave up 0\npoints 0\ncollapsed none\ncheck ok\n"
+ONE_OUT = b"commits 3\ngave up 0\npoints 1\ncollapsed 1 entries 3\nstate pairs 3\ncheck ok\n"
+NOTHING_OUT = b"commits 0\ngave up 0\npoints 0\ncollapsed none\ncheck ok\n"
 CUTS = 50
 CONTENDED = 3_200
-# Most of its 640,000,000 transactions have no room for their keys, so that its log is short.
+# Most of its 640,000,000 transactions find no room for their keys, so its log is short.
 LONG = b"".join(b"client %d\n" % client + b"".join(b"fill c%df%d 1000000 x\n" % (client, place) for place in range(10)) for client in range(1, 65))
 
-# The options of a run that take a number, what stands for it in the help, and between what it is.
+# The options of a run that take a number: its name in the help, and its range.
 RANGES = [("lag", "N", 0, 16_777_216), ("every", "COMMITS", 1, 1_000_000_000), ("run", "N", 1, 2_147_483_647), ("capacity", "N", 1, 1_048_576)]
 
 NOTHING_REPORTED = b"commits a second 0\ndeaths 0\nlongest wait 0 ms\nlongest pause 0 ms\n"
@@ -34,7 +34,7 @@ PHASES = {phase.encode() for phase in plain_files.PHASES}
 
 # Words that are neither a key nor a prefix.
 NO_KEYS = [rb"\s0:k", rb"\s65536:k", rb"\s07:k", rb"\s7", rb"\s7:", rb"\s:k", rb"\s7:\s8:k", rb"k\s7:k", rb"\s7:\x4", rb"\s100000:k"]
-# What a workload has, and the number of its first bad line.
+# Workloads, each with the number of its first bad line.
 BAD_LINES = [
     (b"frob\n", 1),
     (b"points 1001\n", 1),
@@ -84,16 +84,16 @@ BAD_LINES = [
 
 
 def usage_cases(folder):
-    """Faults of usage of a run, and its help."""
+    """Usage faults of a run, and its help."""
     written(folder, "empty.pcw", b"")
     for option in (b"workers", b"collapsers"):
         for wrong in (0, 65):
-            told = b"error: invalid value '%d' for '--%s <N>': %d is not in 1..=64\n" % (wrong, option, wrong)
-            yield Case(f"--{option.decode()} {wrong}", ("run", "empty.pcw", f"--{option.decode()}", str(wrong)), 2, err=[told])
+            expected = b"error: invalid value '%d' for '--%s <N>': %d is not in 1..=64\n" % (wrong, option, wrong)
+            yield Case(f"--{option.decode()} {wrong}", ("run", "empty.pcw", f"--{option.decode()}", str(wrong)), 2, err=[expected])
     yield Case("no workload", ("run",), 2, err=[b"error: the following required arguments were not provided:\n  <WORKLOAD>\n"])
-    told = [b"error: a value is required for '--dir <DIR>' but none was supplied\n"]
-    yield Case("an empty word for a folder", ("run", "empty.pcw", "--dir", ""), 2, err=told)
-    yield Case("the same, behind its sign", ("run", "empty.pcw", "--dir="), 2, err=told)
+    expected = [b"error: a value is required for '--dir <DIR>' but none was supplied\n"]
+    yield Case("an empty word for a folder", ("run", "empty.pcw", "--dir", ""), 2, err=expected)
+    yield Case("the same, after =", ("run", "empty.pcw", "--dir="), 2, err=expected)
     joins = b"How many threads join the points' files, 1 to 64 [default: 2]"
     options = [b"<WORKLOAD>", b"--workers <N>", b"[default: 4]", b"--collapsers <N>", joins, b"--every <COMMITS>", b"--capacity <N>", b"[default: 65536]"]
     options += [b"--run <N>", b"[default: 1]", b"--from <OLD>", b"--dir <DIR>", b"--lag <N>", b"--sync", b"--quiet", b"--report", b"--times <FILE>", FAULTS]
@@ -101,32 +101,32 @@ def usage_cases(folder):
     for option, name, low, high in RANGES:
         for wrong in (low - 1, high + 1):
             words = ("run", "empty.pcw", "--dir", "none", f"--{option}={wrong}")
-            told = b"error: invalid value '%d' for '--%s <%s>': %d is not in %d..=%d\n" % (wrong, option.encode(), name.encode(), wrong, low, high)
-            yield Case(f"--{option} {wrong}", words, 2, err=[told], files={"none": None})
+            expected = b"error: invalid value '%d' for '--%s <%s>': %d is not in %d..=%d\n" % (wrong, option.encode(), name.encode(), wrong, low, high)
+            yield Case(f"--{option} {wrong}", words, 2, err=[expected], files={"none": None})
         for right in (low, high):
-            yield Case(f"--{option} {right}", ("run", "empty.pcw", "--dir", new_folder(folder, f"{option}{right}"), f"--{option}={right}"), 0, NOTHING_TOLD)
-        told = b"error: the argument '--%s <%s>' cannot be used multiple times\n" % (option.encode(), name.encode())
-        yield Case(f"--{option} twice", ("run", "empty.pcw", *[f"--{option}={low}"] * 2, "--dir", "none"), 2, err=[told])
+            yield Case(f"--{option} {right}", ("run", "empty.pcw", "--dir", new_folder(folder, f"{option}{right}"), f"--{option}={right}"), 0, NOTHING_OUT)
+        expected = b"error: the argument '--%s <%s>' cannot be used multiple times\n" % (option.encode(), name.encode())
+        yield Case(f"--{option} twice", ("run", "empty.pcw", *[f"--{option}={low}"] * 2, "--dir", "none"), 2, err=[expected])
     for words in (("--lag", "5"), ("--sync",)):
-        told = [b"error: the following required arguments were not provided:\n  --dir <DIR>\n"]
-        yield Case(f"{words[0]} without a folder", ("run", "empty.pcw", *words), 2, err=told)
-    told = [b"error: the argument '--", b"' cannot be used with '--"]
-    yield Case("a run that goes on, and a number for it", ("run", "empty.pcw", "--from", "old", "--run", "2"), 2, err=told)
+        expected = [b"error: the following required arguments were not provided:\n  --dir <DIR>\n"]
+        yield Case(f"{words[0]} without a folder", ("run", "empty.pcw", *words), 2, err=expected)
+    expected = [b"error: the argument '--", b"' cannot be used with '--"]
+    yield Case("a run that starts from a folder, with a number", ("run", "empty.pcw", "--from", "old", "--run", "2"), 2, err=expected)
     for option, name in (("from", b"OLD"), ("times", b"FILE")):
-        told = [b"error: a value is required for '--%s <%s>' but none was supplied\n" % (option.encode(), name)]
-        yield Case(f"an empty word for --{option}", ("run", "empty.pcw", f"--{option}", ""), 2, err=told)
-    told = b"pcalc: empty.pcw: the workload has this name\n"
-    yield Case("times in the place of the workload", ("run", "empty.pcw", "--times", "empty.pcw"), 2, err=told, files={"empty.pcw": b""})
+        expected = [b"error: a value is required for '--%s <%s>' but none was supplied\n" % (option.encode(), name)]
+        yield Case(f"an empty word for --{option}", ("run", "empty.pcw", f"--{option}", ""), 2, err=expected)
+    expected = b"pcalc: empty.pcw: the workload has this name\n"
+    yield Case("times to the file of the workload", ("run", "empty.pcw", "--times", "empty.pcw"), 2, err=expected, files={"empty.pcw": b""})
 
 
 def new_folder(folder, name):
-    """Makes a folder without files; its name."""
+    """Makes an empty folder; returns its name."""
     os.makedirs(os.path.join(folder, name))
     return name
 
 
 def has_times_of(commits):
-    """Whether a text tells of each hundredth of a second of a run, from the first on, and of so many commits in all."""
+    """A test that a text has each hundredth of a second of a run, from the first on, and this number of commits in total."""
     def is_right(text):
         heading, *lines = (text or b"").split(b"\n")
         words = [line.split(b" ") for line in lines[:-1]]
@@ -137,22 +137,22 @@ def has_times_of(commits):
     return is_right
 
 
-def telling_cases(folder):
-    """What runs tell of their speed: the shape of it, since no two runs are alike."""
+def report_cases(folder):
+    """What runs report of their speed: its form, since no two runs are alike."""
     written(folder, "one.pcw", ONE)
     written(folder, "bad.pcw", b"frob\n")
-    report = [ONE_TOLD + b"commits a second ", b"\ndeaths 0\nlongest wait ", b" ms\nlongest pause ", b" ms\n"]
+    report = [ONE_OUT + b"commits a second ", b"\ndeaths 0\nlongest wait ", b" ms\nlongest pause ", b" ms\n"]
     yield Case("a report", ("run", "one.pcw", "--report"), 0, parts=report)
     for number, more in enumerate(((), ("--quiet",), ("--dir", new_folder(folder, "with_times")), ("--report",))):
-        out = {"parts": report} if more == ("--report",) else {"out": ONE_TOLD}
+        out = {"parts": report} if more == ("--report",) else {"out": ONE_OUT}
         name = f"{number}.times"
         yield Case("times", ("run", "one.pcw", "--times", name, *more), 0, checks={name: has_times_of(3)}, **out)
-    yield Case("a report and times of nothing", ("run", "empty.pcw", "--report", "--times", "none.times"), 0, NOTHING_TOLD + NOTHING_REPORTED, checks={"none.times": has_times_of(0)})
+    yield Case("a report and times of an empty workload", ("run", "empty.pcw", "--report", "--times", "none.times"), 0, NOTHING_OUT + NOTHING_REPORTED, checks={"none.times": has_times_of(0)})
     yield Case("times of a workload with a bad line", ("run", "bad.pcw", "--times", "bad.times", "--report"), 3, b"bad line 1\n", files={"bad.times": None, "bad.times.new": None})
     words = ("run", "one.pcw", "--dir", new_folder(folder, "without_times"), "--times", "nowhere/run.times")
     yield Case("times that can't be made", words, 1, err=b"pcalc: nowhere/run.times: Device\n", files={"without_times/base.pcb": None, "without_times/base.pcb.new": None})
     if os.path.exists(FULL):
-        yield Case("times on a full device", ("run", "one.pcw", "--times", FULL), 1, ONE_TOLD, err=f"pcalc: {FULL}: Device\n".encode())
+        yield Case("times on a full device", ("run", "one.pcw", "--times", FULL), 1, ONE_OUT, err=f"pcalc: {FULL}: Device\n".encode())
     written(folder, "crowded.pcw", b"client 1\nfill a 9 x\n")
     crowded = b"commits 2\ngave up 7\npoints 0\ncollapsed none\ncheck ok\n"
     yield Case("a report of what was given up", ("run", "crowded.pcw", "--capacity", "2", "--report"), 0, parts=[crowded, b" ms\ngiven up Full 7\n"])
@@ -161,8 +161,8 @@ def telling_cases(folder):
 
 
 def is_spread(points, every, early):
-    """Whether a log has this number of points, each begun after `every` commits for it and for each one before it, or after the last commit; the
-    first `early` ones while clients ran."""
+    """A test that a log has this number of points, point N begun after at least N times `every` commits, or after the last one; the first `early` ones
+    while clients ran."""
     def is_right(text):
         commits, begun = 0, []
         try:
@@ -179,23 +179,23 @@ def is_spread(points, every, early):
 
 
 def pace_cases(folder):
-    """What is said of the files and the points of a run changes nothing of what it prints; points lie as far apart as is said."""
+    """Options of the files and points of a run don't change what it prints; points are as far apart as asked."""
     written(folder, "four.pcw", FOUR)
     written(folder, "one.pcw", ONE)
     written(folder, "again.pcw", AGAIN)
     for place, every, early, more in (("spread", 10_000, 1, ()), ("spread18", 18_000, 2, ("--every", "18000", "--workers", "1"))):
         words = ("run", "again.pcw", "--dir", new_folder(folder, place), *more)
-        yield Case(f"8 points, each {every} commits behind the one before", words, 0, AGAIN_TOLD, checks={f"{place}/log.pcl": is_spread(8, every, early)})
+        yield Case(f"8 points, each {every} commits after the one before", words, 0, AGAIN_OUT, checks={f"{place}/log.pcl": is_spread(8, every, early)})
     for number, more in enumerate((("--lag", "0"), ("--lag", "1"), ("--sync",), ("--every", "1"), ("--every", "1000000000"), ("--capacity", "4000"))):
         words = ("run", "four.pcw", "--dir", new_folder(folder, f"paced{number}"), *more)
-        yield Case("four clients", words, 0, FOUR_TOLD, files={f"paced{number}/base.pcb": EMPTY, f"paced{number}/base.pcb.new": None, f"paced{number}/part-00008.pcp.new": None})
+        yield Case("four clients", words, 0, FOUR_OUT, files={f"paced{number}/base.pcb": EMPTY, f"paced{number}/base.pcb.new": None, f"paced{number}/part-00008.pcp.new": None})
         yield recovery(f"paced{number}", "what they leave", plain_files.recover(*files_of(os.path.join(folder, f"paced{number}"))))
     words = ("run", "one.pcw", "--lag", "0", "--sync", "--dir", new_folder(folder, "synced"))
-    yield Case("one client whose commits are on the disk", words, 0, ONE_TOLD, files={"synced/base.pcb": EMPTY})
-    told = b"commits 3999\ngave up 1\npoints 8\ncollapsed 1-8 entries 3999\nstate pairs 3999\ncheck ok\n"
-    yield Case("a key more than there is room for", ("run", "four.pcw", "--capacity", "3999"), 0, told)
+    yield Case("one client whose commits are on the disk", words, 0, ONE_OUT, files={"synced/base.pcb": EMPTY})
+    expected = b"commits 3999\ngave up 1\npoints 8\ncollapsed 1-8 entries 3999\nstate pairs 3999\ncheck ok\n"
+    yield Case("one key more than the capacity", ("run", "four.pcw", "--capacity", "3999"), 0, expected)
     base = plain_files.Base(258, 0, {}).text()
-    yield Case("a run of another number", ("run", "one.pcw", "--run", "258", "--dir", new_folder(folder, "numbered")), 0, ONE_TOLD, files={"numbered/base.pcb": base})
+    yield Case("a run of another number", ("run", "one.pcw", "--run", "258", "--dir", new_folder(folder, "numbered")), 0, ONE_OUT, files={"numbered/base.pcb": base})
 
 
 def workload_cases(folder):
@@ -204,10 +204,10 @@ def workload_cases(folder):
     for workers in (1, 3, 4, 64):
         for collapsers in (1, 3, 64):
             words = ("run", "four.pcw", f"--workers={workers}", f"--collapsers={collapsers}")
-            yield Case(f"four clients by {workers}, {collapsers}", words, 0, FOUR_TOLD)
-    yield Case("an empty workload", ("run", "empty.pcw"), 0, NOTHING_TOLD)
+            yield Case(f"four clients by {workers}, {collapsers}", words, 0, FOUR_OUT)
+    yield Case("an empty workload", ("run", "empty.pcw"), 0, NOTHING_OUT)
     written(folder, "silent.pcw", b"# nothing\n\n   \npoints 0\nclient 64\n")
-    yield Case("a client without work", ("run", "silent.pcw", "--quiet"), 0, NOTHING_TOLD)
+    yield Case("a client without work", ("run", "silent.pcw", "--quiet"), 0, NOTHING_OUT)
     written(folder, "idle.pcw", b"points 1000\n")
     yield Case("1,000 points over an idle store", ("run", "idle.pcw"), 0, b"commits 0\ngave up 0\npoints 1000\ncollapsed 1-1000 entries 0\nstate pairs 0\ncheck ok\n")
     puts = b"".join(b"put k%d v\n" % number for number in range(257))
@@ -237,7 +237,7 @@ def put_hot_and_other(number):
 
 
 def transfer(keys):
-    """Reads and writes two of so many keys, in an order that goes round."""
+    """Reads and writes two of this number of keys, in a cyclic order."""
     def ops(number):
         one = number * 7 % keys
         two = (one + 1 + number * 3 % (keys - 1)) % keys
@@ -246,7 +246,7 @@ def transfer(keys):
 
 
 def contended(clients, count, ops):
-    """A workload of so many transactions, dealt to the clients in turn."""
+    """A workload of this number of transactions, dealt to the clients in turn."""
     lines = []
     for client in range(clients):
         lines.append(b"client %d\n" % (client + 1))
@@ -258,12 +258,12 @@ def contention_cases(folder):
     """Clients that want the same keys, each on a thread of its own: none of their transactions is given up."""
     wants = [("one key", put_hot, (4, 64)), ("one number", add_hot, (4, 64)), ("one key and eight", put_hot_and_other, (4, 16, 64))]
     wants += [(f"two of {keys} keys", transfer(keys), (4, 16, 64)) for keys in (10, 100)]
-    told = b"commits %d\ngave up 0\npoints 0\ncollapsed none\ncheck ok\n" % CONTENDED
+    expected = b"commits %d\ngave up 0\npoints 0\ncollapsed none\ncheck ok\n" % CONTENDED
     for number, (what, ops, sizes) in enumerate(wants):
         for clients in sizes:
             name = f"contended{number}_{clients}.pcw"
             written(folder, name, contended(clients, CONTENDED, ops))
-            yield Case(f"{clients} clients want {what}", ("run", name, "--workers", str(clients)), 0, told)
+            yield Case(f"{clients} clients want {what}", ("run", name, "--workers", str(clients)), 0, expected)
 
 
 def in_arena(clients, points):
@@ -275,7 +275,7 @@ def in_arena(clients, points):
 
 
 def is_of_arena(count):
-    """Whether a run's lines tell of so many transactions, of which some may be given up, and of all points."""
+    """A test that a run's lines report this number of transactions, of which some may be given up, and all points."""
     def is_right(text):
         commits, given_up, points, *_, last = [line.split(b" ") for line in text.splitlines()]
         return int(commits[1]) + int(given_up[2]) == count and int(commits[1]) >= 1_000 and (points, last) == ([b"points", b"20"], [b"check", b"ok"])
@@ -283,21 +283,21 @@ def is_of_arena(count):
 
 
 def arena_cases(folder):
-    """Clients in a store of four keys. There is room for all of four; of eight for those whose keys come first, as long as no point is taken."""
+    """Clients in a store of four keys. All of four have room; of eight, those whose keys come first, as long as no point is taken."""
     written(folder, "small_arena.pcw", in_arena(4, 20))
-    told = b"commits 8000\ngave up 0\npoints 20\ncollapsed 1-20 entries 4\nstate pairs 0\ncheck ok\n"
-    yield Case("four clients in a store of four keys", ("run", "small_arena.pcw", "--capacity", "4"), 0, told)
+    expected = b"commits 8000\ngave up 0\npoints 20\ncollapsed 1-20 entries 4\nstate pairs 0\ncheck ok\n"
+    yield Case("four clients in a store of four keys", ("run", "small_arena.pcw", "--capacity", "4"), 0, expected)
     written(folder, "full_arena.pcw", in_arena(8, 1))
-    told = b"commits 8000\ngave up 8000\npoints 1\ncollapsed 1 entries 4\nstate pairs 0\ncheck ok\n"
-    yield Case("eight clients before the one point", ("run", "full_arena.pcw", "--capacity", "4", "--workers", "8"), 0, told)
+    expected = b"commits 8000\ngave up 8000\npoints 1\ncollapsed 1 entries 4\nstate pairs 0\ncheck ok\n"
+    yield Case("eight clients before the one point", ("run", "full_arena.pcw", "--capacity", "4", "--workers", "8"), 0, expected)
     written(folder, "crowded_arena.pcw", in_arena(8, 20))
-    told = written(folder, "crowded_arena.out", b"")
+    expected = written(folder, "crowded_arena.out", b"")
     words = ("run", "crowded_arena.pcw", "--capacity", "4", "--workers", "8")
-    yield Case("eight clients beside 20 points", words, 0, output=told, checks={"crowded_arena.out": is_of_arena(16_000)})
+    yield Case("eight clients concurrently with 20 points", words, 0, output=expected, checks={"crowded_arena.out": is_of_arena(16_000)})
 
 
 def mixed(client, number):
-    """A transaction of a client that wants some of 100 keys in two spaces and adds 1 to one of 20 others, as its operations: they wait for one another,
+    """The operations of a client's transaction on some of 100 keys in two spaces, with an add of 1 to one of 20 others: such transactions wait for one another,
     and die."""
     places = [(client * 37 + number * 11 + place * 29) % 100 for place in range(4)]
     keys = [rb"\s7:a%d" % (place // 2) if place % 2 else b"a%d" % (place // 2) for place in places]
@@ -306,14 +306,14 @@ def mixed(client, number):
 
 
 def with_delta(change, delta):
-    """What an add behind this change of its key is with it."""
+    """This change of a key merged with an add after it."""
     if isinstance(change, int):
         return change + delta
     return plain_store.text_of(plain_store.number_in(change) + delta)
 
 
 def writes_of(ops):
-    """What these operations do in all to each key, in the order of first writes; none of them is refused."""
+    """The net change of each key by these operations, in the order of first writes; none of them is refused."""
     final = {}
     for verb, word, *value in ops:
         key = plain_store.key(word)
@@ -342,7 +342,7 @@ add \s1:n 3
 get \s7:a000002
 end
 """
-# What is left of it: both clients are on one thread, so that the second one comes last.
+# The pairs that it leaves: both clients are on one thread, so the second one comes last.
 SPACES_LEFT = {(0, b"000000"): b"z", (0, b"n"): b"\xff" * 8, (1, b"n"): bytes(7) + b"\x08", (7, b"000000"): b"y", (65_535, b"a000002"): b"v"}
 SPACES_LEFT |= {(7, b"a000000"): b"x", (7, b"a000001"): b"x", (7, b"a000002"): b"w"}
 
@@ -350,24 +350,24 @@ SPACES_LEFT |= {(7, b"a000000"): b"x", (7, b"a000001"): b"x", (7, b"a000002"): b
 def space_cases(folder):
     """A run whose keys are of several spaces: what its log and its files have, and a run that starts from it."""
     written(folder, "spaces.pcw", SPACES)
-    told = b"commits 8\ngave up 0\npoints 2\ncollapsed 1-2 entries 9\nstate pairs 8\ncheck ok\n"
+    expected = b"commits 8\ngave up 0\npoints 2\ncollapsed 1-2 entries 9\nstate pairs 8\ncheck ok\n"
     commits = {1: [[((7, b"a%06d" % number), b"x")] for number in range(3)] + [[((7, b"%06d" % number), b"y")] for number in range(2)] + [[((0, b"000000"), b"z")]]}
     commits[2] = [[((7, b"a000002"), b"w"), ((65_535, b"a000002"), b"v"), ((1, b"n"), 5), ((0, b"n"), -1), ((7, b"000001"), None)], [((1, b"n"), 3)]]
     words = ("run", "spaces.pcw", "--workers", "1", "--dir", new_folder(folder, "spaces"))
-    yield Case("keys of several spaces", words, 0, told, files={"spaces/base.pcb": EMPTY}, checks={"spaces/log.pcl": has_commits(commits)})
+    yield Case("keys of several spaces", words, 0, expected, files={"spaces/base.pcb": EMPTY}, checks={"spaces/log.pcl": has_commits(commits)})
     whole = plain_files.recover(*files_of(os.path.join(folder, "spaces")))
     assert whole.pairs == SPACES_LEFT
     yield recovery("spaces", "what it leaves", whole)
     written(folder, "spaces_on.pcw", b"client 3\nfill \\s7:a 4 on\ntxn\nadd \\s1:n -8\nend\n")
-    told = b"commits 5\ngave up 0\npoints 0\ncollapsed none\ncheck ok\n"
+    expected = b"commits 5\ngave up 0\npoints 0\ncollapsed none\ncheck ok\n"
     base = plain_files.Base(2, 0, SPACES_LEFT).text()
-    yield Case("a run that starts from it", ("run", "spaces_on.pcw", "--from", "spaces", "--dir", new_folder(folder, "spaces_on")), 0, told, files={"spaces_on/base.pcb": base})
+    yield Case("a run that starts from it", ("run", "spaces_on.pcw", "--from", "spaces", "--dir", new_folder(folder, "spaces_on")), 0, expected, files={"spaces_on/base.pcb": base})
     left = SPACES_LEFT | {(7, b"a%06d" % number): b"on" for number in range(4)} | {(1, b"n"): bytes(8)}
     yield recovery("spaces_on", "what that one leaves", plain_files.Recovered(0, 5, None, [], left))
 
 
 def has_commits(wanted):
-    """Whether a log has of each client just these commits, in their order."""
+    """A test that a log has exactly these commits of each client, in order."""
     def is_right(text):
         logged = {client: [] for client in wanted}
         for entry in plain_files.read_log(text).entries:
@@ -378,27 +378,27 @@ def has_commits(wanted):
 
 
 def everything_cases(folder):
-    """All that there may be at once: 64 clients over 100 keys, 100 points, eight collapsers, and a folder."""
+    """Everything together: 64 clients over 100 keys, 100 points, eight collapsers, and a folder."""
     jobs = {client: [mixed(client, number) for number in range(50)] for client in range(1, 65)}
     lines = [b"points 100\n"]
     for client, transactions in jobs.items():
         lines.append(b"client %d\n" % client + b"".join(b"txn\n" + b"".join(b" ".join(op) + b"\n" for op in ops) + b"end\n" for ops in transactions))
     written(folder, "everything.pcw", b"".join(lines))
     words = ("run", "everything.pcw", "--workers", "64", "--collapsers", "8", "--dir", new_folder(folder, "everything"), "--lag", "10")
-    told = [b"commits 3200\ngave up 0\npoints 100\ncollapsed 1-100 entries ", b"\ncheck ok\n"]
+    expected = [b"commits 3200\ngave up 0\npoints 100\ncollapsed 1-100 entries ", b"\ncheck ok\n"]
     wanted = {client: [writes_of(ops) for ops in transactions] for client, transactions in jobs.items()}
-    yield Case("64 clients, 100 points and eight collapsers", words, 0, parts=told, checks={"everything/log.pcl": has_commits(wanted)})
+    yield Case("64 clients, 100 points and eight collapsers", words, 0, parts=expected, checks={"everything/log.pcl": has_commits(wanted)})
     whole = plain_files.recover(*files_of(os.path.join(folder, "everything")))
     assert sum(int.from_bytes(whole.pairs[0, b"n%d" % number], "big", signed=True) for number in range(20)) == 3200
     yield recovery("everything", "the folder of all that", whole)
 
 
 def number_of_all(number):
-    """What a recovery of a counter prints of its pair."""
+    """The lines that a recovery of a counter prints for its pair."""
     return b"pairs 1\nn " + b"".join(b"%c" % byte if 0x21 <= byte <= 0x7E and byte != 0x5C else b"\\x%02x" % byte for byte in number.to_bytes(8, "big")) + b"\n"
 
 
-# The log of the adds of two transactions, which are the worked row of docs/FORMATS.md.
+# The adds of two transactions, an example of docs/MANUAL.md, and their log and part, by hand.
 ADDS = b"points 1\nclient 1\ntxn\nadd n 5\nadd n -2\nget n\nend\ntxn\nput t x\nadd n -4\nend\n"
 ADDS_LOG = "5043414c434c3032 0000000000000001 00000000 00000012 01 01 0001 0001 0000 6e 02 0000000000000003"
 ADDS_LOG += "0000001d 01 01 0002 0001 0000 74 01 00000001 78 0001 0000 6e 02 fffffffffffffffc"
@@ -412,35 +412,35 @@ COUNTED = b"points 8\n" + b"".join(b"client %d\n" % client + b"txn\nadd n 1\nend
 
 
 def add_cases(folder):
-    """Runs that add: what their logs and files have, and that no add is lost or made twice."""
+    """Runs that add: what their logs and files have, and that no add is lost or applied twice."""
     written(folder, "adds.pcw", ADDS)
-    told = b"commits 2\ngave up 0\npoints 1\ncollapsed 1 entries 2\nstate pairs 2\ncheck ok\n"
+    expected = b"commits 2\ngave up 0\npoints 1\ncollapsed 1 entries 2\nstate pairs 2\ncheck ok\n"
     log = bytes.fromhex(ADDS_LOG)
     checks = {"adds/log.pcl": lambda text: len(log) == 75 and (text or b"").startswith(log)}
-    yield Case("adds of two transactions", ("run", "adds.pcw", "--dir", new_folder(folder, "adds")), 0, told, checks=checks, files={"adds/part-00001.pcp": bytes.fromhex(ADDS_PART)})
+    yield Case("adds of two transactions", ("run", "adds.pcw", "--dir", new_folder(folder, "adds")), 0, expected, checks=checks, files={"adds/part-00001.pcp": bytes.fromhex(ADDS_PART)})
     yield Case("what they leave", ("recover", "adds"), 0, b"point 1\nentries 7\npairs 2\nn " + b"\\xff" * 8 + b"\nt x\n")
     log = plain_files.Log(1)
     log.entries = [plain_files.commit(1, MERGED_WRITES)]
     written(folder, "merged.pcw", b"client 1\ntxn\n" + b"".join(line + b"\n" for line in MERGED) + b"end\n")
-    told = b"commits 1\ngave up 0\npoints 0\ncollapsed none\ncheck ok\n"
-    yield Case("adds behind other changes", ("run", "merged.pcw", "--dir", new_folder(folder, "merged")), 0, told, files={"merged/log.pcl": log.text()})
+    expected = b"commits 1\ngave up 0\npoints 0\ncollapsed none\ncheck ok\n"
+    yield Case("adds after other changes", ("run", "merged.pcw", "--dir", new_folder(folder, "merged")), 0, expected, files={"merged/log.pcl": log.text()})
     written(folder, "refused.pcw", b"client 1\ntxn\nput t 1234567\nput m 12345678\nend\ntxn\nadd t 1\nend\ntxn\nadd m 9223372036854775807\nend\ntxn\nadd m 1\nend\n")
     yield Case("adds that are refused", ("run", "refused.pcw"), 0, b"commits 2\ngave up 2\npoints 0\ncollapsed none\ncheck ok\n")
     written(folder, "counted.pcw", COUNTED)
-    told = b"commits 4000\ngave up 0\npoints 8\ncollapsed 1-8 entries 1\nstate pairs 1\ncheck ok\n"
+    expected = b"commits 4000\ngave up 0\npoints 8\ncollapsed 1-8 entries 1\nstate pairs 1\ncheck ok\n"
     for number, more in enumerate((("--lag", "0"), ("--every", "1"), ("--workers", "1"))):
         words = ("run", "counted.pcw", "--dir", new_folder(folder, f"counted{number}"), *more)
-        yield Case("four clients that count", words, 0, told)
+        yield Case("four clients that count", words, 0, expected)
         yield Case("what they have counted", ("recover", f"counted{number}"), 0, b"point 8\nentries 4040\n" + number_of_all(4000))
     words = ("run", "counted.pcw", "--from", "counted0", "--dir", new_folder(folder, "counted_on"))
-    yield Case("four clients that count on", words, 0, told)
+    yield Case("four clients that continue to count", words, 0, expected)
     yield Case("what all have counted", ("recover", "counted_on"), 0, b"point 8\nentries 4040\n" + number_of_all(8000))
     yield from counted_cut_cases(folder)
     yield from cut_add_cases(folder)
 
 
 def counted_cut_cases(folder):
-    """The folder of those that count, with its log cut and without its parts: each whole commit counts once."""
+    """The folder of those that count, with its log truncated and without its parts: each whole commit counts once."""
     base, parts, log = files_of(os.path.join(folder, "counted0"))
     for name, text in [("base.pcb", base), *[(os.fsdecode(name), text) for name, text in parts]]:
         written(folder, "counted_cut/" + name, text)
@@ -453,7 +453,7 @@ def counted_cut_cases(folder):
 
 
 def cut_add_cases(folder):
-    """A folder whose log has adds before and behind the token of its part's point, whole and with its log cut at each byte."""
+    """A folder whose log has adds before and after the token of its part's point, whole and with its log truncated at each byte."""
     log = plain_files.Log(1)
     log.entries = [plain_files.commit(1, {b"n": 5, b"m": -1}), ("token", "prepare", 1), plain_files.commit(2, {b"n": -2}), ("token", "resolve", 1)]
     log.entries += [plain_files.commit(1, {b"n": -4, b"t": b"x"}), ("token", "capture", 1), plain_files.commit(64, {b"m": 2**62, b"l": -(2**63)})]
@@ -468,12 +468,12 @@ def cut_add_cases(folder):
         text = log.text(form)
         for cut in range(len(text) + 1):
             written(folder, "cut_adds/log.pcl", text[:cut])
-            told = plain_files.recover(base, [(b"part-00001.pcp", part)], text[:cut])
-            yield recovery("cut_adds", f"{cut} bytes of a log of {form.decode()} with adds", told)
+            expected = plain_files.recover(base, [(b"part-00001.pcp", part)], text[:cut])
+            yield recovery("cut_adds", f"{cut} bytes of a log of {form.decode()} with adds", expected)
 
 
 def fault_cases(folder):
-    """Runs that fail: which fault is told."""
+    """Runs that fail, and the fault that they report."""
     written(folder, "one.pcw", ONE)
     yield Case("a workload that isn't there", ("run", "none.pcw"), 1, err=b"pcalc: none.pcw: NoFile\n")
     os.makedirs(os.path.join(folder, "folder.pcw"))
@@ -481,7 +481,7 @@ def fault_cases(folder):
     os.chmod(written(folder, "closed.pcw", b"points 1\n"), 0)
     yield Case("a workload without permission", ("run", "closed.pcw"), 1, err=b"pcalc: closed.pcw: Device\n", is_other_user=True)
     sparse(folder, "large.pcw", MANY)
-    yield Case("a workload that memory has no room for", ("run", "large.pcw"), 1, err=b"pcalc: large.pcw: OutOfMemory\n", memory=LITTLE)
+    yield Case("a workload too large for memory", ("run", "large.pcw"), 1, err=b"pcalc: large.pcw: OutOfMemory\n", memory=LITTLE)
     for name in ("one.pcw", "bad0.pcw", "four.pcw"):
         yield Case("a run whose output is full", ("run", name), 1, output=FULL)
     yield Case("no folder to write to", ("run", "one.pcw", "--dir", "nowhere"), 1, err=b"pcalc: nowhere: NoFile\n")
@@ -492,45 +492,45 @@ def fault_cases(folder):
     os.makedirs(os.path.join(folder, "unwritable"))
     yield Case("a folder that can't be written to", ("run", "one.pcw", "--dir", "unwritable"), 1, err=b"pcalc: base.pcb: Device\n", is_other_user=True)
     yield from late_fault_cases(folder)
-    yield Case("no threads to be had", ("run", "one.pcw"), 1, err=b"pcalc: one.pcw: NoThread\n", is_other_user=True, threads=0)
+    yield Case("no thread can be started", ("run", "one.pcw"), 1, err=b"pcalc: one.pcw: NoThread\n", is_other_user=True, threads=0)
     yield from thread_cases(folder)
 
 
 def thread_cases(folder):
-    """A run of a logger, two collapsers and a worker that may start fewer threads: whichever it lacks it ends, and tells that."""
+    """A run of a logger, two collapsers and a worker that may start fewer threads: whichever is lacking, it ends and reports that."""
     for threads in range(4):
         os.chmod(os.path.join(folder, new_folder(folder, f"threads{threads}")), 0o777)
         words = ("run", "one.pcw", "--workers", "1", "--lag", "0", "--dir", f"threads{threads}")
         yield Case(f"{threads} threads of four", words, 1, err=b"pcalc: one.pcw: NoThread\n", is_other_user=True, threads=threads)
 
 
-# The files of a run that get their names once they are whole, what may stand in the place of each, and whether the run fails by it.
+# The files of a run that get their names once they are whole, what may have that name instead, and whether the run fails then.
 MISPLACED = [("base.pcb", "folder", True), ("base.pcb.new", "folder", False), ("base.pcb.new", "device", False)]
 MISPLACED += [("part-00001.pcp", "folder", True), ("part-00001.pcp.new", "folder", False), ("part-00001.pcp.new", "device", False)]
 
 
 def late_fault_cases(folder):
-    """Files of a run that can't be made or written. What stands in their place comes into the folder once it was looked at: the workload, which is
-    read behind that, is a pipe, and has nothing before."""
+    """Files of a run that can't be made or written. What has their name is put into the folder after it was listed: the workload, which is
+    read after that, is a pipe, empty until then."""
     for name, what, fails in MISPLACED:
         dir_name = f"{what}_{name}"
         place = os.path.join(folder, dir_name, name)
         os.makedirs(os.path.dirname(place))
         pipe = piped(folder, dir_name + ".pcw")
         work = (lambda: os.mkdir(place)) if what == "folder" else (lambda: os.symlink(FULL, place))
-        with beside(lambda: feed(pipe, ONE, work)):
-            told = {"status": 1, "err": f"pcalc: {name}: Device\n".encode()} if fails else {"status": 0, "out": ONE_TOLD}
-            yield Case(f"a {what} in the place of {name}", ("run", dir_name + ".pcw", "--dir", dir_name), **told)
+        with concurrently(lambda: feed(pipe, ONE, work)):
+            expected = {"status": 1, "err": f"pcalc: {name}: Device\n".encode()} if fails else {"status": 0, "out": ONE_OUT}
+            yield Case(f"a {what} in the place of {name}", ("run", dir_name + ".pcw", "--dir", dir_name), **expected)
     written(folder, "long.pcw", LONG)
     words = ("run", "long.pcw", "--dir", new_folder(folder, "long_run"))
     yield Case("a log that can't be written, of a run that would take minutes", words, 1, err=b"pcalc: long.pcw: Device\n", file_size=1 << 20)
     words = ("run", "long.pcw", "--explain", "--dir", new_folder(folder, "long_told"))
-    told = b"pcalc: long.pcw: Device\n  writing long_told/log.pcl: File too large (os error 27)\n"
-    yield Case("the same, explained", words, 1, err=told, file_size=1 << 20)
+    expected = b"pcalc: long.pcw: Device\n  writing long_told/log.pcl: File too large (os error 27)\n"
+    yield Case("the same, explained", words, 1, err=expected, file_size=1 << 20)
 
 
 def claim_cases(folder):
-    """Runs into one folder: one of them has it, and a run that ends before it has begun leaves nothing there."""
+    """Runs into one folder: one of them owns it, and one that ends before it has begun leaves nothing there."""
     written(folder, "one.pcw", ONE)
     for words, status, err in ((("run", "none.pcw"), 1, b"pcalc: none.pcw: NoFile\n"), (("run", "bad.pcw"), 3, b""), (("run", "one.pcw", "--from", "nowhere"), 1, b"pcalc: base.pcb: NoFile\n")):
         place = new_folder(folder, "claimed_" + "_".join(words[1:2] + words[3:]))
@@ -544,19 +544,19 @@ def claim_cases(folder):
     def look():
         seen.extend(os.listdir(os.path.join(folder, place)))
 
-    with beside(lambda: feed(pipe, ONE, look)):
-        yield Case("a run that claims its folder before it reads its workload", ("run", "claimed.pcw", "--dir", place), 0, ONE_TOLD)
+    with concurrently(lambda: feed(pipe, ONE, look)):
+        yield Case("a run that claims its folder before it reads its workload", ("run", "claimed.pcw", "--dir", place), 0, ONE_OUT)
     assert seen == ["log.pcl"], seen
     for path in ("./claim.pcw", os.path.join(folder, "claim.pcw")):
         written(folder, "claim.pcw", ONE)
-        told = f"pcalc: {path}: the workload has this name\n".encode()
-        yield Case("times in the place of the workload by another path", ("run", "claim.pcw", "--times", path), 2, err=told, files={"claim.pcw": ONE})
+        expected = f"pcalc: {path}: the workload has this name\n".encode()
+        yield Case("times to the file of the workload by another path", ("run", "claim.pcw", "--times", path), 2, err=expected, files={"claim.pcw": ONE})
     for option, place in (("--dir", new_folder(folder, "claimed_times")), ("--from", "claimed")):
         kept = {"claimed/log.pcl": content_of(folder, "claimed/log.pcl"), "claimed_times/log.pcl": None}
-        told = f"pcalc: {place}/log.pcl: it would stand in the folder of {option}\n".encode()
-        yield Case("times among the files of a run", ("run", "one.pcw", option, place, "--times", f"{place}/log.pcl"), 2, err=told, files=kept)
+        expected = f"pcalc: {place}/log.pcl: it would stand in the folder of {option}\n".encode()
+        yield Case("times among the files of a run", ("run", "one.pcw", option, place, "--times", f"{place}/log.pcl"), 2, err=expected, files=kept)
     written(folder, "kept.times", b"as it was")
-    yield Case("a run that fails and has had times before", ("run", "none.pcw", "--times", "kept.times"), 1, err=b"pcalc: none.pcw: NoFile\n", files={"kept.times": b"as it was", "kept.times.new": None})
+    yield Case("a failing run over an existing times file", ("run", "none.pcw", "--times", "kept.times"), 1, err=b"pcalc: none.pcw: NoFile\n", files={"kept.times": b"as it was", "kept.times.new": None})
     yield Case("a bad line, explained", ("run", "bad.pcw", "--explain"), 3, b"bad line 1\n", err=[b"bad.pcw:1: "])
 
 
@@ -569,13 +569,13 @@ def used_cases(folder):
         used = f"used{number}"
         written(folder, f"{used}/{name}", b"as it was")
         kept = {f"{used}/{other}": b"as it was" if other == name else None for other in (*made, name)}
-        told = f"pcalc: {used}: NotEmpty\n".encode()
-        yield Case(f"a folder that has {ascii(name)}", ("run", "one.pcw", "--dir", used), 1, err=told, files=kept)
+        expected = f"pcalc: {used}: NotEmpty\n".encode()
+        yield Case(f"a folder that has {ascii(name)}", ("run", "one.pcw", "--dir", used), 1, err=expected, files=kept)
         assert os.listdir(os.path.join(folder, used)) == [name]
         yield Case("the same for a workload with a bad line", ("run", "bad.pcw", "--dir", used), 3, b"bad line 1\n", files=kept)
         yield Case("the same for a workload that isn't there", ("run", "none.pcw", "--dir", used), 1, err=b"pcalc: none.pcw: NoFile\n", files=kept)
     os.makedirs(os.path.join(folder, "used_by_folder", "x.pcp"))
-    yield Case("a folder that has one of a part's name", ("run", "one.pcw", "--dir", "used_by_folder"), 1, err=b"pcalc: used_by_folder: NotEmpty\n", files={"used_by_folder/base.pcb": None})
+    yield Case("a folder that has a folder of a part's name", ("run", "one.pcw", "--dir", "used_by_folder"), 1, err=b"pcalc: used_by_folder: NotEmpty\n", files={"used_by_folder/base.pcb": None})
     os.makedirs(os.path.join(folder, "used_by_link"))
     os.symlink("nowhere", os.path.join(folder, "used_by_link", "log.pcl"))
     yield Case("a folder with a link that leads nowhere", ("run", "one.pcw", "--dir", "used_by_link"), 1, err=b"pcalc: used_by_link: NotEmpty\n", files={"used_by_link/base.pcb": None})
@@ -584,66 +584,66 @@ def used_cases(folder):
         written(folder, "with_others/" + name, b"as it was")
     for fresh in ("fresh", "with_others", "with_others/../fresh2/"):
         os.makedirs(os.path.join(folder, fresh), exist_ok=True)
-        yield Case("a folder without files of a run", ("run", "one.pcw", "--dir", fresh), 0, ONE_TOLD, files={os.path.join(fresh, "base.pcb"): EMPTY, os.path.join(fresh, "base.pcb.new"): None, os.path.join(fresh, "part-00001.pcp.new"): None})
+        yield Case("a folder without files of a run", ("run", "one.pcw", "--dir", fresh), 0, ONE_OUT, files={os.path.join(fresh, "base.pcb"): EMPTY, os.path.join(fresh, "base.pcb.new"): None, os.path.join(fresh, "part-00001.pcp.new"): None})
     yield Case("its other files", ("recover", "with_others"), 0, b"point 1\nentries 8\npairs 3\na000000 x\na000001 x\na000002 x\n", files={f"with_others/{name}": b"as it was" for name in ("notes", "base.pcb.old", "part-00009.pcp.new")})
     log = content_of(folder, "fresh/log.pcl")
     yield Case("a second run into the folder of the first", ("run", "one.pcw", "--dir", "fresh"), 1, err=b"pcalc: fresh: NotEmpty\n", files={"fresh/log.pcl": log, "fresh/base.pcb": EMPTY})
 
 
-def recovery(folder, name, told):
-    return Case(name, ("recover", folder), 0, told.text())
+def recovery(folder, name, expected):
+    return Case(name, ("recover", folder), 0, expected.text())
 
 
 def from_cases(folder):
-    """Runs that start from what the folder of another one is worth."""
+    """Runs that start from the state recovered from another run's folder."""
     written(folder, "bad.pcw", b"frob\n")
     written(folder, "first.pcw", b"points 2\nclient 1\nfill a 40 x\ntxn\ndel a000003\nend\n")
     written(folder, "next.pcw", b"points 1\nclient 2\nfill b 20 y\ntxn\ndel a000005\nput a000007 z\nget a000009\nend\n")
-    told = b"commits 41\ngave up 0\npoints 2\ncollapsed 1-2 entries 40\nstate pairs 39\ncheck ok\n"
-    yield Case("a run that another starts from", ("run", "first.pcw", "--run", "7", "--dir", new_folder(folder, "first")), 0, told)
+    expected = b"commits 41\ngave up 0\npoints 2\ncollapsed 1-2 entries 40\nstate pairs 39\ncheck ok\n"
+    yield Case("a run that another starts from", ("run", "first.pcw", "--run", "7", "--dir", new_folder(folder, "first")), 0, expected)
     first = plain_files.recover(*files_of(os.path.join(folder, "first")))
-    told = b"commits 21\ngave up 0\npoints 1\ncollapsed 1 entries 22\nstate pairs 58\ncheck ok\n"
-    yield Case("a run that starts from it", ("run", "next.pcw", "--from", "first", "--dir", new_folder(folder, "next")), 0, told, files={"next/base.pcb": plain_files.Base(8, 0, first.pairs).text()})
+    expected = b"commits 21\ngave up 0\npoints 1\ncollapsed 1 entries 22\nstate pairs 58\ncheck ok\n"
+    yield Case("a run that starts from it", ("run", "next.pcw", "--from", "first", "--dir", new_folder(folder, "next")), 0, expected, files={"next/base.pcb": plain_files.Base(8, 0, first.pairs).text()})
     second = plain_files.recover(*files_of(os.path.join(folder, "next")))
     assert len(second.pairs) == 58 and second.pairs[0, b"a000007"] == b"z" and (0, b"a000005") not in second.pairs
     yield recovery("next", "what it leaves", second)
-    yield Case("the same without a folder of its own", ("run", "next.pcw", "--from", "first"), 0, told)
-    yield Case("the same from a folder's name with a slash", ("run", "next.pcw", "--from", "first/"), 0, told)
-    yield Case("room for as many keys as there are", ("run", "next.pcw", "--from", "first", "--capacity", "59"), 0, told)
+    yield Case("the same without a folder of its own", ("run", "next.pcw", "--from", "first"), 0, expected)
+    yield Case("the same from a folder's name with a slash", ("run", "next.pcw", "--from", "first/"), 0, expected)
+    yield Case("room for as many keys as there are", ("run", "next.pcw", "--from", "first", "--capacity", "59"), 0, expected)
     written(folder, "same.pcw", b"points 1\nclient 1\ntxn\nput %s new\nend\n" % key_word(min(first.pairs)))
-    told_of_one = b"commits 1\ngave up 0\npoints 1\ncollapsed 1 entries 1\nstate pairs 39\ncheck ok\n"
-    yield Case("room for just the pairs that are there", ("run", "same.pcw", "--from", "first", "--capacity", "39"), 0, told_of_one)
+    expected_of_one = b"commits 1\ngave up 0\npoints 1\ncollapsed 1 entries 1\nstate pairs 39\ncheck ok\n"
+    yield Case("room for just the pairs that are there", ("run", "same.pcw", "--from", "first", "--capacity", "39"), 0, expected_of_one)
     words = ("run", "next.pcw", "--from", "first", "--capacity", "38", "--dir", new_folder(folder, "small"))
     yield Case("more pairs than there is room for", words, 1, err=b"pcalc: next.pcw: Full\n", files={"small/base.pcb": None, "small/base.pcb.new": None})
-    told = b"pcalc: next.pcw: Full\n  first is recovered to 39 pairs, and --capacity is 38\n"
-    yield Case("the same, explained", ("run", "next.pcw", "--from", "first", "--capacity", "38", "--explain"), 1, err=told)
+    expected = b"pcalc: next.pcw: Full\n  first is recovered to 39 pairs, and --capacity is 38\n"
+    yield Case("the same, explained", ("run", "next.pcw", "--from", "first", "--capacity", "38", "--explain"), 1, err=expected)
     yield Case("its own folder", ("run", "next.pcw", "--from", "first", "--dir", "first"), 1, err=b"pcalc: first: NotEmpty\n")
     yield from damage_cases(folder)
 
 
 def damage_cases(folder):
-    """The same from folders that are damaged: what a recovery tells of them is told before the run."""
+    """The same from damaged folders: what a recovery reports of them is reported before the run."""
     for name in ("base.pcb", "log.pcl", "part-00001.pcp", "part-00002.pcp"):
         written(folder, f"hurt/{name}", content_of(folder, f"first/{name}"))
     with open(os.path.join(folder, "hurt", "part-00002.pcp"), "ab") as it:
         it.write(b"\0")
     with open(os.path.join(folder, "hurt", "log.pcl"), "ab") as it:
         it.write(b"\0\0\0\1\3")
-    told = b"commits 21\ngave up 0\npoints 1\ncollapsed 1 entries 22\nstate pairs 58\ncheck ok\n"
+    expected = b"commits 21\ngave up 0\npoints 1\ncollapsed 1 entries 22\nstate pairs 58\ncheck ok\n"
     err = b"log BadKind\nskipped part-00002.pcp Trailing\n"
     refused = {"hurt_new/base.pcb": None, "hurt_new/log.pcl": None}
     words = ("run", "next.pcw", "--from", "hurt")
     yield Case("a part and a log that are damaged", (*words, "--dir", new_folder(folder, "hurt_new")), 1, err=err + b"pcalc: hurt: Damaged\n", files=refused)
-    yield Case("the same where damage is accepted", (*words, "--damaged"), 0, told, err=err)
+    yield Case("the same, with damage accepted", (*words, "--damaged"), 0, expected, err=err)
     written(folder, "hurt/\udcff.pcp", b"")
     err = rb"pcalc: \xff.pcp: Device" + b"\n" + err
-    yield Case("beside it a part whose name is no UTF-8", (*words, "--damaged"), 0, told, err=err)
+    yield Case("the same, and a part whose name is no UTF-8", (*words, "--damaged"), 0, expected, err=err)
     for name in ("base.pcb", "part-00001.pcp", "part-00002.pcp"):
         written(folder, f"logless/{name}", content_of(folder, f"first/{name}"))
     words = ("run", "next.pcw", "--from", "logless")
     yield Case("a log that is missing", words, 1, err=b"pcalc: logless: Damaged\n")
     written(folder, "logless/log.pcl", content_of(folder, "first/log.pcl")[:-1])
-    yield Case("a log whose last entry is cut off, as a kill leaves it", words, 0, told)
+    yield Case("a log whose last entry is truncated, as after a kill", words, 0, expected)
     nothing = {"made/base.pcb": None, "made/base.pcb.new": None, "made/log.pcl": None}
     into = ("--dir", new_folder(folder, "made"))
     yield Case("a folder that isn't there", ("run", "next.pcw", "--from", "nowhere", *into), 1, err=b"pcalc: base.pcb: NoFile\n", files=nothing)
@@ -655,11 +655,11 @@ def damage_cases(folder):
 
 
 def folder_cases(folder):
-    """Folders that runs leave, and what they are worth."""
-    written(folder, "beside.pcw", b"points 4\nclient 1\nfill a 40 x\nclient 2\nfill b 40 yy\ntxn\nput a000001 z\ndel b000002\nend\nclient 3\nfill a 20 w\n")
+    """Folders that runs leave, and the states recovered from them."""
+    written(folder, "three.pcw", b"points 4\nclient 1\nfill a 40 x\nclient 2\nfill b 40 yy\ntxn\nput a000001 z\ndel b000002\nend\nclient 3\nfill a 20 w\n")
     os.makedirs(os.path.join(folder, "left"))
-    told = b"commits 101\ngave up 0\npoints 4\ncollapsed 1-4 entries 80\nstate pairs 79\ncheck ok\n"
-    yield Case("a run that leaves a folder", ("run", "beside.pcw", "--dir", "left"), 0, told, files={"left/base.pcb": EMPTY})
+    expected = b"commits 101\ngave up 0\npoints 4\ncollapsed 1-4 entries 80\nstate pairs 79\ncheck ok\n"
+    yield Case("a run that leaves a folder", ("run", "three.pcw", "--dir", "left"), 0, expected, files={"left/base.pcb": EMPTY})
     names = [b"part-%05d.pcp" % point for point in range(1, 5)]
     parts = [(name, content_of(folder, "left/" + name.decode())) for name in names]
     log = content_of(folder, "left/log.pcl")
@@ -671,7 +671,7 @@ def folder_cases(folder):
     for cut in range(CUTS):
         length = cut * len(log) // CUTS
         written(folder, "cut/log.pcl", log[:length])
-        yield recovery("cut", f"its log cut to {length} bytes", plain_files.recover(EMPTY, parts, log[:length]))
+        yield recovery("cut", f"its log truncated to {length} bytes", plain_files.recover(EMPTY, parts, log[:length]))
     written(folder, "cut/log.pcl", log)
     for place, (name, text) in enumerate(parts):
         os.remove(os.path.join(folder, "cut", name.decode()))
@@ -685,16 +685,16 @@ def number_cases(folder):
     none = {"last_new/base.pcb": None, "last_new/log.pcl": None}
     written(folder, "last/base.pcb", plain_files.Base(2**64 - 1, 0, {}).text())
     written(folder, "last/log.pcl", plain_files.Log(2**64 - 1).text())
-    yield Case("a run behind the last one", ("run", "one.pcw", "--from", "last", "--dir", new_folder(folder, "last_new")), 1, err=b"pcalc: last: Full\n", files=none)
+    yield Case("a run after the last one", ("run", "one.pcw", "--from", "last", "--dir", new_folder(folder, "last_new")), 1, err=b"pcalc: last: Full\n", files=none)
     written(folder, "last_but_one/base.pcb", plain_files.Base(2**64 - 2, 0, {}).text())
     written(folder, "last_but_one/log.pcl", plain_files.Log(2**64 - 2).text())
     base = {"last_new/base.pcb": plain_files.Base(2**64 - 1, 0, {}).text()}
-    yield Case("the last run", ("run", "one.pcw", "--from", "last_but_one", "--dir", "last_new"), 0, ONE_TOLD, files=base)
+    yield Case("the last run", ("run", "one.pcw", "--from", "last_but_one", "--dir", "last_new"), 0, ONE_OUT, files=base)
     base = {"numbered_new/base.pcb": plain_files.Base(2_147_483_647, 0, {}).text()}
-    yield Case("a run of a number", ("run", "one.pcw", "--run", "2147483647", "--dir", new_folder(folder, "numbered_new")), 0, ONE_TOLD, files=base)
+    yield Case("a run of a number", ("run", "one.pcw", "--run", "2147483647", "--dir", new_folder(folder, "numbered_new")), 0, ONE_OUT, files=base)
 
 
 def cases(folder):
     """Each case, whose files are written into the folder right before it."""
-    for some in (usage_cases, workload_cases, telling_cases, pace_cases, contention_cases, arena_cases, add_cases, space_cases, everything_cases, fault_cases, used_cases, claim_cases, from_cases, number_cases, folder_cases):
+    for some in (usage_cases, workload_cases, report_cases, pace_cases, contention_cases, arena_cases, add_cases, space_cases, everything_cases, fault_cases, used_cases, claim_cases, from_cases, number_cases, folder_cases):
         yield from some(folder)

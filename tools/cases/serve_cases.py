@@ -1,9 +1,9 @@
-"""Stores that are served over pipes, for `try_programs.py`: what they answer, and what stands in their folder once they were killed.
+"""Stores that are served over pipes, for `try_programs.py`: what they answer, and what their folders have after a kill.
 
-A client asks a served store by transactions of one session, the number N-th of which puts N under one of its keys and counts itself. So the state of a folder
-tells how many of them it has, and each key is compared. All that were answered are to be there, but for as many as `--lag` allows, and no
-more than were asked. A process is killed at random moments, at each of its calls that change files, and where its output is closed; its disk gets full.
-Of two processes one has the folder. Many sessions are answered as plain_serving.py says. Lines are also typed at a terminal of its own.
+A client sends transactions of one session to a served store; transaction N puts N under one of its keys and counts itself. So the state of a folder
+gives their number, and each key is compared. Each answered one must be there, except as many as `--lag` allows, and no
+more than were sent. A process is killed at random moments, at each of its calls that change files, and one whose output is closed ends; its disk gets full.
+Of two processes one owns the folder. Many sessions are answered as plain_serving.py says. Lines are also typed at a terminal.
 """
 
 import contextlib
@@ -25,7 +25,7 @@ from tools.oracle.plain_store import keyed
 
 SECONDS = 60
 KEYS = 97
-# transactions that are asked of a process that is killed, and after how many answers at most it is
+# transactions sent to a process that is killed, and after how many answers at most it is
 ASKED, MOST_ANSWERED = 200_000, 20_000
 KILLS = 16
 LAG = 500
@@ -41,12 +41,12 @@ SEED = 63
 
 
 def transaction(number):
-    """The lines of the transaction of this number, from 1."""
+    """The lines of transaction `number`, from 1."""
     return b"begin 1\nput 1 k%02d %d\nadd 1 n 1\ncommit 1\n" % (number % KEYS, number)
 
 
 def pairs_of(count):
-    """What this number of first transactions leaves."""
+    """The pairs after this number of transactions."""
     pairs = {b"k%02d" % (number % KEYS): b"%d" % number for number in range(max(1, count - KEYS + 1), count + 1)}
     return keyed({**pairs, b"n": count.to_bytes(8, "big")} if count else {})
 
@@ -62,42 +62,42 @@ def generation(folder, number):
 
 
 def state_of(folder):
-    """The pairs of the generation that counts, as the plain forms recover them."""
+    """The pairs of the current generation, as the plain forms recover them."""
     return plain_files.recover(*files_of(generation(folder, generations_in(folder)[-1]))).pairs
 
 
 def counted_in(pairs):
-    """How many transactions the pairs have; -1 where they are those of no number of them."""
+    """The number of transactions that the pairs have; -1 if no number of them leaves these."""
     count = int.from_bytes(pairs.get((0, b"n"), b""), "big")
     return count if pairs == pairs_of(count) else -1
 
 
 def faults_of(program, folder, least, most):
-    """What is wrong with a folder that is to have a number of transactions within these bounds, and how many it has."""
+    """What is wrong with a folder that must have a number of transactions within these bounds, and how many it has."""
     try:
         pairs = state_of(folder)
     except (OSError, IndexError, plain_files.Refused) as fault:
-        return [f"the folder gives nothing: {fault!r}"], 0
+        return [f"the folder can't be recovered: {fault!r}"], 0
     count = counted_in(pairs)
-    lines = [] if least <= count <= most else [f"the folder has {count} transactions, and is to have {least} to {most}"]
-    told = subprocess.run((program, "recover", folder), stdin=subprocess.DEVNULL, capture_output=True, timeout=SECONDS)
+    lines = [] if least <= count <= most else [f"the folder has {count} transactions, and must have {least} to {most}"]
+    ran = subprocess.run((program, "recover", folder), stdin=subprocess.DEVNULL, capture_output=True, timeout=SECONDS)
     wanted = plain_files.recover(*files_of(generation(folder, generations_in(folder)[-1]))).text()
-    if (told.returncode, told.stdout, told.stderr) != (0, wanted, b"generation %d\n" % generations_in(folder)[-1]):
-        lines.append(f"recover doesn't print the state of the generation that counts: {told.returncode}, {told.stderr!r}")
+    if (ran.returncode, ran.stdout, ran.stderr) != (0, wanted, b"generation %d\n" % generations_in(folder)[-1]):
+        lines.append(f"recover doesn't print the state of the current generation: {ran.returncode}, {ran.stderr!r}")
     return lines, count
 
 
 def served(program, room, words, lines, **settings):
-    """How a process ends that is given these lines at once."""
+    """How a process ends that gets all these lines together."""
     return subprocess.run((program, "serve", *words), cwd=room, input=lines, capture_output=True, timeout=SECONDS, **settings)
 
 
 def answers(program, room, words, lines, status=0, err=b""):
-    """What is wrong with the answers to these lines, each of which stands beside its own."""
+    """What is wrong with the answers to these lines, given with their answers."""
     asked, wanted = b"".join(line + b"\n" for line, _ in lines), b"".join(answer + b"\n" for _, answer in lines if answer is not None)
     ran = served(program, room, words, asked)
     is_right = (ran.returncode, ran.stdout, ran.stderr) == (status, wanted, err)
-    return [] if is_right else [f"status {ran.returncode}, {ran.stdout!r} beside {wanted!r}, {ran.stderr!r}"]
+    return [] if is_right else [f"status {ran.returncode}, {ran.stdout!r} instead of {wanted!r}, {ran.stderr!r}"]
 
 
 FIRST = (
@@ -142,14 +142,14 @@ THIRD = ((b"", b"ready run 9 pairs 3"), (b"begin 1", b"begun 1"), (b"get 1 fig",
 
 
 def sessions(program, room):
-    """What a store answers, and goes on with."""
+    """What a store answers, also after it was started again."""
     yield "a store that is made", answers(program, room, ("S", "--create", "--run", "7"), FIRST)
-    yield "a store that goes on", answers(program, room, ("S",), SECOND)
+    yield "a store that is started again", answers(program, room, ("S",), SECOND)
     yield "the same, with --create", answers(program, room, ("S", "--create"), THIRD)
     there = sorted(os.listdir(os.path.join(room, "S")))
-    yield "the generation before is kept, and older ones go", [] if there == ["gen-0000002", "gen-0000003", "lock"] else [f"{there} are there"]
+    yield "the generation before is kept, and older ones are removed", [] if there == ["gen-0000002", "gen-0000003", "lock"] else [f"{there} are there"]
     ran = served(program, room, ("S",), b"begin 1\nput 1 fig 0\nbegin 12\ncommit 1")
-    yield "a line that was cut off is not asked", [] if ran.stdout == b"ready run 10 pairs 3\nbegun 1\nok\nbegun 2\n" else [repr(ran.stdout)]
+    yield "a truncated line is not run", [] if ran.stdout == b"ready run 10 pairs 3\nbegun 1\nok\nbegun 2\n" else [repr(ran.stdout)]
     ran = served(program, room, ("S",), b"begin 1\nget 1 fig\n")
     yield "and nothing was committed by it", [] if ran.stdout == b"ready run 11 pairs 3\nbegun 1\n= 9\n" else [repr(ran.stdout)]
 
@@ -160,7 +160,7 @@ def refusals(program, room):
     written(room, "run/base.pcb", plain_files.Base(1, 0, keyed({})).text())
     written(room, "file", b"")
     served(program, room, ("three", "--create", "--run", "1"), b"begin 1\nput 1 a 1\nput 1 b 1\nput 1 c 1\ncommit 1\n")
-    for words, told in (
+    for words, err in (
         (("none",), b"pcalc: none: NoFile\n"),
         (("empty",), b"pcalc: empty: NoStore\n"),
         (("run",), b"pcalc: run: NoStore\n"),
@@ -169,7 +169,7 @@ def refusals(program, room):
         (("file", "--create"), b"pcalc: file: Device\n"),
         (("three", "--capacity", "2"), b"pcalc: three: Full\n"),
     ):
-        yield f"serve {' '.join(words)} is refused", answers(program, room, words, (), 1, told)
+        yield f"serve {' '.join(words)} is refused", answers(program, room, words, (), 1, err)
     is_left = os.listdir(os.path.join(room, "empty")) or generations_in(os.path.join(room, "three")) != [1]
     yield "what is refused changes nothing", ["something is left"] if is_left else []
     log = os.path.join(room, "three", "gen-0000001", "log.pcl")
@@ -180,15 +180,15 @@ def refusals(program, room):
 
 
 def rolls(program, room):
-    """Generations that begin while a process serves, and points that it takes."""
+    """Generations that begin while a process serves, and the points that it takes."""
     count, words = 500, ("S", "--create", "--roll", "100")
     ran = served(program, room, words, b"".join(map(transaction, range(1, count + 1))))
-    told = [line for line in ran.stdout.splitlines() if line.startswith(b"committed ")]
+    got = [line for line in ran.stdout.splitlines() if line.startswith(b"committed ")]
     wanted = [b"committed %d" % (number % 100 + 1) for number in range(count)]
     lines, _ = faults_of(program, os.path.join(room, "S"), count, count)
-    yield "a generation begins at each hundredth commit", lines + ([] if (ran.returncode, told) == (0, wanted) else [f"status {ran.returncode}, {ran.stderr!r}"])
-    yield "the last two of them stand", [] if generations_in(os.path.join(room, "S")) == [5, 6] else [f"{generations_in(os.path.join(room, 'S'))}"]
-    # session 2 keeps a transaction open, and so the generation goes on
+    yield "a generation begins at each hundredth commit", lines + ([] if (ran.returncode, got) == (0, wanted) else [f"status {ran.returncode}, {ran.stderr!r}"])
+    yield "the last two of them are kept", [] if generations_in(os.path.join(room, "S")) == [5, 6] else [f"{generations_in(os.path.join(room, 'S'))}"]
+    # session 2 keeps a transaction open, so the generation continues
     open_lines = b"begin 2\nput 2 held 1\n" + b"".join(map(transaction, range(1, 21))) + b"run\ncommit 2\nrun\n"
     ran = served(program, room, ("O", "--create", "--run", "1", "--roll", "5"), open_lines)
     runs = [line for line in ran.stdout.splitlines() if line.startswith(b"run ")]
@@ -197,13 +197,13 @@ def rolls(program, room):
     lines, _ = faults_of(program, os.path.join(room, "P"), count, count)
     parts = sorted(name for name in os.listdir(generation(os.path.join(room, "P"), 1)) if name.endswith(".pcp"))
     wanted = ["part-%05d.pcp" % point for point in range(1, len(parts) + 1)]
-    told = ran.stdout.splitlines()[-1].split()[2] if ran.stdout else b""
-    is_right = ran.returncode == 0 and len(parts) >= 3 and parts == wanted and told == b"points=%d" % len(parts)
-    yield "a point is taken behind each hundredth commit", lines + ([] if is_right else [f"status {ran.returncode}, {parts}, {told!r}"])
-    # without its log the generation is what its points have
+    got = ran.stdout.splitlines()[-1].split()[2] if ran.stdout else b""
+    is_right = ran.returncode == 0 and len(parts) >= 3 and parts == wanted and got == b"points=%d" % len(parts)
+    yield "a point is taken after each hundredth commit", lines + ([] if is_right else [f"status {ran.returncode}, {parts}, {got!r}"])
+    # without its log, the generation's state is that of its points
     written(room, os.path.join("P", "gen-0000001", "log.pcl"), b"")
     found = counted_in(state_of(os.path.join(room, "P")))
-    yield "points keep what a lost log had up to them", [] if 300 <= found <= count else [f"{found} transactions are there"]
+    yield "points keep what a lost log had before them", [] if 300 <= found <= count else [f"{found} transactions are there"]
 
 
 def started(program, room, words, **settings):
@@ -224,15 +224,15 @@ def owners(program, room):
         second = served(program, room, ("S",), b"begin 1\n")
         if (second.returncode, second.stdout, second.stderr) != (1, b"", b"pcalc: S: Busy\n"):
             lines.append(f"the second one ends with {second.returncode}, {second.stdout!r}, {second.stderr!r}")
-        lines += [] if asked(first, b"begin 1\n") == b"begun 1\n" else ["the first one doesn't go on"]
+        lines += [] if asked(first, b"begin 1\n") == b"begun 1\n" else ["the first one doesn't continue"]
         first.stdin.close()
         lines += [] if first.wait(SECONDS) == 0 else ["the first one has failed"]
-    yield "of two processes one has the folder", lines
-    yield "and the next one has it then", answers(program, room, ("S",), ((b"", b"ready run 2 pairs 0"),))
+    yield "of two processes one owns the folder", lines
+    yield "and then the next one owns it", answers(program, room, ("S",), ((b"", b"ready run 2 pairs 0"),))
 
 
 def alone(program, room):
-    """A client that asks line by line is answered each at once."""
+    """A client that sends line by line is answered immediately."""
     lines = []
     with started(program, room, ("S", "--create")) as process:
         process.stdout.readline()
@@ -246,21 +246,21 @@ def alone(program, room):
 
 
 def fed(process, numbers):
-    """Asks transactions until the process is gone."""
+    """Sends transactions until the process has ended."""
     with contextlib.suppress(OSError):
         for first in range(numbers.start, numbers.stop, 64):
             process.stdin.write(b"".join(transaction(number) for number in range(first, min(first + 64, numbers.stop))))
 
 
 def fed_to_the_end(process, numbers):
-    """Asks all of these transactions, and then no more."""
+    """Sends all of these transactions, and then ends the input."""
     fed(process, numbers)
     with contextlib.suppress(OSError):
         process.stdin.close()
 
 
 def answered_before_kill(program, room, words, numbers, answered):
-    """How many transactions a process has answered that is killed behind this number of answers, while it is asked more."""
+    """How many transactions a process has answered that is killed after this number of answers, while it gets more."""
     with started(program, room, words) as process:
         feeder = threading.Thread(target=fed, args=(process, numbers))
         feeder.start()
@@ -279,25 +279,25 @@ def answered_before_kill(program, room, words, numbers, answered):
 
 
 def killed(program, room, words, lag, chance):
-    """What is wrong with one folder whose processes are killed at random moments, each of which goes on from the one before. What was seen is printed."""
+    """What is wrong with one folder whose processes are killed at random moments, each of which continues from the one before. The counts are printed."""
     there = answered = 0
     served(program, room, words, b"")
     for number in range(KILLS):
-        behind = chance.choice((0, 1, chance.randrange(1, 100), chance.randrange(1, MOST_ANSWERED)))
-        if behind:
-            told, status = answered_before_kill(program, room, words, range(there + 1, there + 1 + ASKED), behind)
+        after = chance.choice((0, 1, chance.randrange(1, 100), chance.randrange(1, MOST_ANSWERED)))
+        if after:
+            count, status = answered_before_kill(program, room, words, range(there + 1, there + 1 + ASKED), after)
         else:
-            told, status = killed_at_start(program, room, words, chance)
+            count, status = killed_at_start(program, room, words, chance)
         lines = [] if status == -signal.SIGKILL else [f"status {status}"]
-        least, most = there + max(told - lag, 0), there + (ASKED if behind else 0)
-        answered += told
+        least, most = there + max(count - lag, 0), there + (ASKED if after else 0)
+        answered += count
         more, there = faults_of(program, os.path.join(room, "S"), least, most)
-        yield f"serve {' '.join(words)}, killed behind {told} answers, the time {number + 1}", lines + more
+        yield f"serve {' '.join(words)}, killed after {count} answers, the time {number + 1}", lines + more
     print(f"serve {' '.join(words)}: {KILLS} kills, {answered} transactions answered, {there} there in the end")
 
 
 def killed_at_start(program, room, words, chance):
-    """The same of one that is killed within its first milliseconds, and asked nothing."""
+    """The same of one that is killed within its first milliseconds, and sent nothing."""
     with started(program, room, words) as process:
         time.sleep(chance.random() * 0.01)
         process.kill()
@@ -318,7 +318,7 @@ def killed_calls(program, room):
             answered = sum(line.startswith(b"committed ") for line in ran.stdout.splitlines(keepends=True) if line.endswith(b"\n"))
             more, there = faults_of(program, os.path.join(place, "S"), 3 + answered, 8)
             again = served(program, place, ("S", "--keep", str(kept)), b"")
-            more += [] if again.returncode == 0 and b" pairs %d\n" % len(pairs_of(there)) in again.stdout else ["it doesn't go on"]
+            more += [] if again.returncode == 0 and b" pairs %d\n" % len(pairs_of(there)) in again.stdout else ["it doesn't continue"]
             more += [] if len(generations_in(os.path.join(place, "S"))) == kept + 1 else [f"{generations_in(os.path.join(place, 'S'))} are there in the end"]
             yield f"serve {' '.join(words)}, killed at its call {number}", lines + more
             shutil.rmtree(place)
@@ -329,7 +329,7 @@ def killed_calls(program, room):
 
 
 def closed_output(program, room):
-    """A client that reads no more, while it asks."""
+    """A client that stops reading while it sends."""
     with started(program, room, ("S", "--create")) as process:
         feeder = threading.Thread(target=fed, args=(process, range(1, 50_000)))
         feeder.start()
@@ -337,12 +337,12 @@ def closed_output(program, room):
         while count < 100:
             count += process.stdout.readline().startswith(b"committed ")
         process.stdout.close()
-        status, told = process.wait(SECONDS), process.stderr.read()
+        status, err = process.wait(SECONDS), process.stderr.read()
         feeder.join()
         with contextlib.suppress(OSError):
             process.stdin.close()
     more, _ = faults_of(program, os.path.join(room, "S"), count, 50_000)
-    yield "a client that closes its end of the answers", ([] if (status, told) == (1, b"") else [f"status {status}, {told!r}"]) + more
+    yield "a client that closes its end of the output", ([] if (status, err) == (1, b"") else [f"status {status}, {err!r}"]) + more
 
 
 def full_disk(program, room):
@@ -350,21 +350,21 @@ def full_disk(program, room):
     written(room, "lines", b"".join(transaction(number) for number in range(1, 60_000)))
     ran = disk_cases.own_disk(room, ("sh", "-c", 'exec "$0" serve D --create --explain <../lines', program))
     name = b"D/gen-0000001/log.pcl"
-    told = b"pcalc: %s: Device\n  writing %s: %s" % (name, name, disk_cases.FULL)
-    lines = [] if (ran.returncode, ran.stderr) == (1, told) else [f"status {ran.returncode}, {ran.stderr!r}"]
+    err = b"pcalc: %s: Device\n  writing %s: %s" % (name, name, disk_cases.FULL)
+    lines = [] if (ran.returncode, ran.stderr) == (1, err) else [f"status {ran.returncode}, {ran.stderr!r}"]
     answered = sum(line.startswith(b"committed ") for line in ran.stdout.splitlines())
     more, _ = faults_of(program, os.path.join(room, disk_cases.LEFT, "D"), max(1, answered), 60_000)
     return lines + more
 
 
 def full_roll(program, room):
-    """A generation whose base has no room: the one before counts, with all that was answered."""
+    """A generation whose base has no room: the one before is current, with all that was answered."""
     puts = b"".join(b"begin 1\n" + b"".join(b"put 1 key%05d %s\n" % (first + place, b"v" * 100) for place in range(250)) + b"commit 1\n" for first in range(0, 4_500, 250))
     written(room, "lines", puts)
     ran = disk_cases.own_disk(room, ("sh", "-c", 'exec "$0" serve D --create --roll 18 --explain <../lines', program))
     name = b"D/gen-0000002/base.pcb"
-    told = b"pcalc: D: Device\n  writing %s: %s" % (name, disk_cases.FULL)
-    lines = [] if (ran.returncode, ran.stderr) == (1, told) else [f"status {ran.returncode}, {ran.stderr!r}"]
+    err = b"pcalc: D: Device\n  writing %s: %s" % (name, disk_cases.FULL)
+    lines = [] if (ran.returncode, ran.stderr) == (1, err) else [f"status {ran.returncode}, {ran.stderr!r}"]
     place = os.path.join(room, disk_cases.LEFT, "D")
     lines += [] if generations_in(place) == [1] and len(state_of(place)) == 4_500 else [f"{generations_in(place)} are there"]
     return lines + [f"{left} is left" for left in os.listdir(generation(place, 2)) if left != "log.pcl"]
@@ -379,11 +379,11 @@ def kept(program, room):
 
 
 def first_runs(program, room):
-    """The number of a first run, which is drawn."""
-    told = [served(program, room, (name, "--create"), b"").stdout.split() for name in ("A", "B", "C")]
-    runs = {int(words[2]) for words in told}
-    is_right = len(runs) == 3 and all(1 <= run < 2**31 for run in runs) and all(words[3:] == [b"pairs", b"0"] for words in told)
-    yield "the numbers of first runs are drawn", [] if is_right else [repr(told)]
+    """The number of a first run, which is drawn at random."""
+    ready = [served(program, room, (name, "--create"), b"").stdout.split() for name in ("A", "B", "C")]
+    runs = {int(words[2]) for words in ready}
+    is_right = len(runs) == 3 and all(1 <= run < 2**31 for run in runs) and all(words[3:] == [b"pairs", b"0"] for words in ready)
+    yield "the numbers of first runs are drawn", [] if is_right else [repr(ready)]
 
 
 RUN = b"points 1\nclient 1\nfill a 30 x\nclient 2\nfill b 30 y\n"
@@ -395,12 +395,12 @@ def imports(program, room):
     written(room, "run.pcw", RUN)
     os.makedirs(os.path.join(room, "old"))
     lines = [] if call("run", "run.pcw", "--dir", "old", "--run", "6").returncode == 0 else ["no run"]
-    # without its part the folder is what its base and its log have
+    # without its part, the folder's state is that of its base and log
     pairs = plain_files.recover(*files_of(os.path.join(room, "old"))).pairs
     lines += answers(program, room, ("S", "--create", "--import", "old"), ((b"", b"ready run 7 pairs 60"), (b"begin 1", b"begun 1"), (b"get 1 b000007", b"= y"), (b"put 1 z 1", b"ok"), (b"commit 1", b"committed 1")))
-    lines += [] if state_of(os.path.join(room, "S")) == {**pairs, **keyed({b"z": b"1"})} else ["its state is another one"]
+    lines += [] if state_of(os.path.join(room, "S")) == {**pairs, **keyed({b"z": b"1"})} else ["its state differs"]
     yield "a store starts from the folder of a run", lines
-    yield "and no store that is there does", answers(program, room, ("S", "--create", "--import", "old"), (), 1, b"pcalc: S: NotEmpty\n")
+    yield "and no existing store does", answers(program, room, ("S", "--create", "--import", "old"), (), 1, b"pcalc: S: NotEmpty\n")
     yield "nor one of a folder that isn't there", answers(program, room, ("N", "--create", "--import", "none"), (), 1, b"pcalc: base.pcb: NoFile\n")
     yield "but that may be tried again", answers(program, room, ("N", "--create", "--import", "old"), ((b"", b"ready run 7 pairs 60"),))
     yield "a store starts from another one", answers(program, room, ("T", "--create", "--import", "S"), ((b"", b"ready run 8 pairs 61"),), 0, b"generation 1\n")
@@ -409,8 +409,8 @@ def imports(program, room):
     yield "and taken by --damaged", answers(program, room, ("U", "--create", "--import", "old", "--damaged"), ((b"", b"ready run 7 pairs %d" % len(plain_files.recover(*files_of(os.path.join(room, "old"))).pairs)),))
     os.makedirs(os.path.join(room, "new"))
     ran = call("run", "run.pcw", "--from", "S", "--dir", "new", "--times", "S/gen-0000001/times")
-    told = b"generation 1\npcalc: S/gen-0000001/times: it would stand in the folder of --from\n"
-    yield "times of a run aren't written among the files from which it starts", [] if (ran.returncode, ran.stderr) == (2, told) else [f"status {ran.returncode}, {ran.stderr!r}"]
+    err = b"generation 1\npcalc: S/gen-0000001/times: it would stand in the folder of --from\n"
+    yield "times of a run aren't written among the files from which it starts", [] if (ran.returncode, ran.stderr) == (2, err) else [f"status {ran.returncode}, {ran.stderr!r}"]
     ran = call("run", "run.pcw", "--from", "S", "--dir", "new")
     is_right = (ran.returncode, ran.stderr, ran.stdout.split(b"\n")[4]) == (0, b"generation 1\n", b"state pairs 61")
     yield "a run starts from a store", [] if is_right else [f"status {ran.returncode}, {ran.stdout!r}, {ran.stderr!r}"]
@@ -432,20 +432,20 @@ def crowd_line(chance, store, sessions):
 
 
 def crowds(program, room):
-    """Many sessions that wait for one another and die, beside the plain form."""
+    """Many sessions that wait for one another and die, compared with the plain form."""
     chance = random.Random(SEED)
     for sessions, roll, count in CROWDS:
-        store, lines, told = plain_serving.Served(run=1, sessions=sessions, roll=roll), [], []
+        store, lines, wanted = plain_serving.Served(run=1, sessions=sessions, roll=roll), [], []
         for number in range(count):
             lines.append(crowd_line(chance, store, sessions))
-            told.append(store.answer(lines[-1]))
-        lines, told = [*lines, b"stats"], [*told, store.answer(b"stats")]
-        counts = [sum(it.startswith(word) for it in told) for word in (b"wait", b"died", b"committed")] + [sum(it.count(b"granted") for it in told)]
+            wanted.append(store.answer(lines[-1]))
+        lines, wanted = [*lines, b"stats"], [*wanted, store.answer(b"stats")]
+        counts = [sum(it.startswith(word) for it in wanted) for word in (b"wait", b"died", b"committed")] + [sum(it.count(b"granted") for it in wanted)]
         words = (f"S{sessions}", "--create", "--run", "1", "--sessions", str(sessions), "--roll", str(roll))
         ran = served(program, room, words, b"".join(it + b"\n" for it in lines))
-        is_right = (ran.returncode, ran.stderr, ran.stdout) == (0, b"", b"ready run 1 pairs 0\n" + b"".join(told)) and min(counts) > 10
+        is_right = (ran.returncode, ran.stderr, ran.stdout) == (0, b"", b"ready run 1 pairs 0\n" + b"".join(wanted)) and min(counts) > 10
         yield f"{sessions} sessions wait and die", [] if is_right else [f"status {ran.returncode}, {counts}, {ran.stderr!r}, {ran.stdout[:2000]!r}"]
-        more = [] if state_of(os.path.join(room, f"S{sessions}")) == store.pairs() else ["the folder has another state"]
+        more = [] if state_of(os.path.join(room, f"S{sessions}")) == store.pairs() else ["the folder's state differs"]
         yield f"and {sessions} sessions leave what was committed", more
 
 
@@ -453,17 +453,17 @@ LONG = 50_000_000
 
 
 def long_line(program, room):
-    """A line of 50 MB, whole and cut off."""
+    """A line of 50 MB, whole and truncated."""
     line = b"put 1 " + b"k" * LONG + b" 1\n"
     lines = b"begin 1\n" + line + b"put 1 fig 7\ncommit 1\n"
     ran = served(program, room, ("S", "--create", "--run", "1"), lines + line[:-1])
     wanted = b"ready run 1 pairs 0\nbegun 1\nrefused KeyLength\nok\ncommitted 1\n"
     more = [] if (ran.returncode, ran.stdout, ran.stderr) == (0, wanted, b"") else [f"status {ran.returncode}, {ran.stdout[:200]!r}, {ran.stderr[:200]!r}"]
-    yield "a line of 50 MB", more + ([] if state_of(os.path.join(room, "S")) == keyed({b"fig": b"7"}) else ["the folder has another state"])
+    yield "a line of 50 MB", more + ([] if state_of(os.path.join(room, "S")) == keyed({b"fig": b"7"}) else ["the folder's state differs"])
 
 
 def unread(program, room):
-    """A client that asks and reads no answer for a while: the process waits, and takes no memory meanwhile."""
+    """A client that sends and reads no answer for a while: the process waits, and takes no memory meanwhile."""
     count = 30_000
     with started(program, room, ("S", "--create")) as process:
         feeder = threading.Thread(target=fed_to_the_end, args=(process, range(1, count + 1)))
@@ -472,9 +472,9 @@ def unread(program, room):
         sizes = [waiting_size(process.pid) for _ in range(2)]
         lines = [] if ready.startswith(b"ready") and sizes[0] == sizes[1] else [f"its memory grows from {sizes[0]} to {sizes[1]} pages"]
         done = b"committed %d\n" % count
-        told = next((it for it in process.stdout if it == done), b"")
+        got = next((it for it in process.stdout if it == done), b"")
         feeder.join()
-        lines += [] if told == done and process.wait(SECONDS) == 0 else [f"not all is answered: {told!r}"]
+        lines += [] if got == done and process.wait(SECONDS) == 0 else [f"not all is answered: {got!r}"]
     more, _ = faults_of(program, os.path.join(room, "S"), count, count)
     yield "a client that reads nothing for a while", lines + more
 
@@ -493,7 +493,7 @@ def waiting_size(number):
 
 
 def closed_streams(program, room):
-    """A process that is started without one of the standard streams."""
+    """A process started without one of the standard streams."""
     call = lambda words: subprocess.run(("sh", "-c", 'exec "$0" serve ' + words, program), cwd=room, input=b"begin 1\nput 1 a 1\ncommit 1\n", capture_output=True, timeout=SECONDS)
     for words, wanted in (
         ("S --create --run 3 <&-", (0, b"ready run 3 pairs 0\n", b"")),
@@ -505,7 +505,7 @@ def closed_streams(program, room):
         yield f"serve {words}", [] if (ran.returncode, ran.stdout, ran.stderr) == wanted else [f"status {ran.returncode}, {ran.stdout!r}, {ran.stderr!r}"]
 
 
-# each line, its answer, and what stands beside it on standard error before the next prompt
+# each line, its answer, and what standard error has before the next prompt
 TYPED = (
     (b"begin 1", b"begun 1\n", b""),
     (b"put 1 - x", b"refused KeyLength\n", b""),
@@ -521,27 +521,27 @@ TYPED = (
 
 
 def typed(program, room):
-    """Lines that are typed at a terminal: a prompt before each, and behind a bad one why it is one."""
+    """Lines that are typed at a terminal: a prompt before each, and after a bad one its reason."""
     ours, theirs = pty.openpty()
     process = subprocess.Popen((program, "serve", "S", "--create", "--run", "1"), cwd=room, stdin=theirs, stdout=subprocess.PIPE, stderr=subprocess.PIPE)
     os.close(theirs)
-    told, beside = read_until(process.stdout, b"\n"), read_until(process.stderr, b"> ")
-    lines = [] if (told, beside) == (b"ready run 1 pairs 0\n", b"> ") else [f"{told!r} and {beside!r}"]
+    out, err = read_until(process.stdout, b"\n"), read_until(process.stderr, b"> ")
+    lines = [] if (out, err) == (b"ready run 1 pairs 0\n", b"> ") else [f"{out!r} and {err!r}"]
     for line, answer, reason in TYPED:
         os.write(ours, line + b"\n")
-        beside = read_until(process.stderr, b"> ")
-        told = read_until(process.stdout, answer) if answer else b""
-        lines += [] if (told, beside) == (answer, reason + b"> ") else [f"{line!r} is answered {told!r}, and beside it stands {beside!r}"]
+        err = read_until(process.stderr, b"> ")
+        out = read_until(process.stdout, answer) if answer else b""
+        lines += [] if (out, err) == (answer, reason + b"> ") else [f"{line!r} is answered {out!r}, and standard error has {err!r}"]
     # the end of the input, at a terminal
     os.write(ours, b"\x04")
-    status, told, beside = process.wait(SECONDS), process.stdout.read(), process.stderr.read()
-    lines += [] if (status, told, beside) == (0, b"", b"\n") else [f"it ends with {status}, {told!r} and {beside!r}"]
+    status, out, err = process.wait(SECONDS), process.stdout.read(), process.stderr.read()
+    lines += [] if (status, out, err) == (0, b"", b"\n") else [f"it ends with {status}, {out!r} and {err!r}"]
     os.close(ours)
     yield "lines that are typed at a terminal", lines
 
 
 def read_until(stream, end):
-    """What a stream gives, up to an end like this one, or for some seconds."""
+    """What a stream has up to this end, or within some seconds."""
     got, patience = b"", time.monotonic() + 10
     while not got.endswith(end) and time.monotonic() < patience:
         if select.select([stream], [], [], 1)[0]:
@@ -553,7 +553,7 @@ def read_until(stream, end):
 
 
 def synced(program, room):
-    """When files are brought to the disk: s each time, and r where a file gets its name."""
+    """When files are flushed to the disk: s for each flush, and r for each rename."""
     library, notes = preload.built(room, preload.NOTE), os.path.join(room, "notes")
     for words, turns in ((("--sync",), 50), ((), 0)):
         written(room, "notes", b"")
@@ -567,11 +567,11 @@ def synced(program, room):
             process.wait(SECONDS)
         calls = content_of(room, "notes")
         is_right = begun == b"sssrssrs" and calls == begun + b"s" * turns
-        yield f"serve {' '.join(words)} is brought to the disk {turns} times in 50 turns", [] if is_right else [f"{begun} and {calls}"]
+        yield f"serve {' '.join(words)} is flushed to the disk {turns} times in 50 turns", [] if is_right else [f"{begun} and {calls}"]
 
 
 def serves(program, folder):
-    """What each served store differs in, by its name."""
+    """What is wrong with each served store, by its name."""
     chance = random.Random(SEED)
     for cases in (sessions, refusals, owners, alone, rolls, kept, first_runs, imports, crowds, long_line, unread, closed_output, closed_streams, typed, killed_calls, synced):
         room = os.path.join(folder, cases.__name__)
@@ -589,4 +589,4 @@ def serves(program, folder):
         os.makedirs(room)
         yield "a generation that begins on a full disk", full_roll(program, room)
     else:
-        print("no disk of 1 MB is given here: what a full one does to a served store is not tried")
+        print("no disk of 1 MB is available: a served store on a full disk is not tried")

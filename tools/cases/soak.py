@@ -1,18 +1,18 @@
 #!/usr/bin/env python3
-"""Tries the built program on what chance makes, for so many minutes, and compares it with plain forms that know nothing of it.
+"""Tries the built program on random cases for a number of minutes, and compares it with plain forms that share no code with it.
 
     soak.py MINUTES [SEED]
 
-    scripts      lines of each kind, with points, joins, states and texts, beside plain_store.py
-    recoveries   a base, parts and a log, with bytes changed, cut off, put in, and files left out, beside plain_files.py; and a dump of the same, which is
-                 loaded and dumped again, and once more as JSON
-    collapses    parts that overlap, are damaged, of other runs or differ, beside plain_files.py
-    serves       lines asked of a store that is served, and killed, beside plain_serving.py and what each line leaves
-    runs         workloads on threads, each into a folder; what the log has of each client; and the folder recovered with its log cut anywhere and without
-                 any of its parts, beside plain_files.py and what the log says
+    scripts      lines of each kind, with points, joins, states and texts, compared with plain_store.py
+    recoveries   a base, parts and a log, with bytes changed, cut off or inserted, and files left out, compared with plain_files.py; and a dump of the same,
+                 which is loaded and dumped again, and once more as JSON
+    collapses    parts that overlap, are damaged, of other runs or differ, compared with plain_files.py
+    serves       lines sent to a served store, which is killed, compared with plain_serving.py and the state after each line
+    runs         workloads on threads, each into a folder; what the log has of each client; and the folder recovered with its log truncated anywhere and without
+                 any of its parts, compared with plain_files.py and the log
 
-A case follows from the seed, its kind and its number alone, but for how threads mix. Where one differs that is shown, with the smallest case that still
-does, found by leaving out its pieces. In the end it is told how many of each kind were tried; the status is 1 where one differs.
+A case follows from the seed, its kind and its number alone, except for how threads interleave. A difference is printed with the smallest case that still
+has one, found by leaving out pieces. The end prints how many of each kind were tried; the status is 1 if one differs.
 """
 
 import collections
@@ -51,17 +51,17 @@ NEXT = {"rest": [b"point"], "prepare": [b"seal"], "resolve": [b"capture"], "capt
 
 
 def ran(folder, *words):
-    """The status, the output and the error stream of the program with these words; no status where it doesn't end."""
+    """The status, the output and the error stream of the program with these words; no status if it doesn't end."""
     try:
-        told = subprocess.run([PROGRAM, *words], cwd=folder, stdin=subprocess.DEVNULL, capture_output=True, timeout=SECONDS)
+        ended = subprocess.run([PROGRAM, *words], cwd=folder, stdin=subprocess.DEVNULL, capture_output=True, timeout=SECONDS)
     except subprocess.TimeoutExpired:
         return None, b"", b"no end in %d s" % SECONDS
-    return told.returncode, told.stdout, told.stderr
+    return ended.returncode, ended.stdout, ended.stderr
 
 
 def served(folder, words, lines, most):
-    """The status, the output and the error stream of a process that serves with these words and is asked these lines; it is killed once this number of lines
-    was read of it, if a number is given."""
+    """The status, the output and the error stream of a process that serves with these words and gets these lines; it is killed once `most` lines
+    of its output were read, if that is a number."""
     command = [PROGRAM, "serve", *words]
     with subprocess.Popen(command, cwd=folder, stdin=subprocess.PIPE, stdout=subprocess.PIPE, stderr=subprocess.PIPE) as process:
         feeder = threading.Thread(target=fed, args=(process.stdin, lines))
@@ -79,13 +79,13 @@ def served(folder, words, lines, most):
 
 
 def fed(target, lines):
-    """Asks the lines, as far as somebody reads them."""
+    """Sends the lines, as far as they are read."""
     with contextlib.suppress(OSError), target:
         target.write(b"".join(line + b"\n" for line in lines))
 
 
 def smallest(pieces, is_wrong):
-    """A list of some of these pieces, in their order, that is wrong too, and is not without any one of them."""
+    """Some of these pieces, in their order, that are wrong too, and aren't without any one of them."""
     size = len(pieces)
     while size:
         at = 0
@@ -116,7 +116,7 @@ class Scripts:
         return setting, lines
 
     def line(self, chance, store):
-        """A line that mostly fits what the store is at."""
+        """A line that mostly fits the state of the store."""
         session, key = chance.randint(1, store.sessions), chance.choice(KEYS)
         files = len(store.files)
         return chance.choice(
@@ -136,7 +136,7 @@ class Scripts:
         status, out, err = ran(folder, "step", "drawn.pcs", *words)
         if (status, out, err) == (script.status, wanted, b""):
             return []
-        return [f"wanted status {script.status} and {wanted!r}", f"status {status}, {out!r} and {err!r}"]
+        return [f"expected status {script.status} and {wanted!r}", f"status {status}, {out!r} and {err!r}"]
 
     def tried(self, lines):
         return {"lines": len(lines)}
@@ -146,7 +146,7 @@ class Scripts:
 
 
 def history(chance, run):
-    """The base, the parts of the points, by their numbers, and the log of a run of its own. In some all keys are of space 0."""
+    """The base, the parts of the points, by their numbers, and the log of a random run. In some all keys are of space 0."""
     spaces = chance.choice([[0], SPACES])
     key = lambda: (chance.choice(spaces), b"k%d" % chance.randrange(9))
     drawn = lambda count: {key(): chance.choice([None, b"", b"1", b"22", b"x" * 30, bytes(7) + b"7"]) for _ in range(count)}
@@ -173,7 +173,7 @@ def history(chance, run):
 
 
 def drawn_text(chance, file, keys):
-    """The text of a file of these keys, of either format where all are of space 0."""
+    """The text of a file of these keys, of either format if all are of space 0."""
     return file.text(chance.choice([plain_files.FIRST, plain_files.SECOND]) if all(space == 0 for space, _ in keys) else plain_files.SECOND)
 
 
@@ -182,7 +182,7 @@ def keys_of(log):
 
 
 def damaged(text, damage):
-    """The text with a byte changed, its end cut off, or bytes put in."""
+    """The text with a byte changed, its end cut off, or bytes inserted."""
     kind, place, more = damage
     at = int(place * len(text))
     if kind == "change" and at < len(text):
@@ -195,12 +195,12 @@ def damage(chance):
 
 
 def dumped_twice(folder, place, recovered):
-    """What differs in a dump of a folder, by what is recovered of it, and in dumps of what is loaded of that, as words and then as JSON."""
+    """The differences of a dump of a folder from what is recovered of it, and of dumps of what is loaded from that, as words and then as JSON."""
     status, text, _ = recovered
     lines = text[text.index(b"\n", text.index(b"pairs ")) + 1 :] if status == 0 else b""
-    told = ran(folder, "dump", place, "--damaged")
-    if told[:2] != (status, lines):
-        return [f"recovered {recovered}", f"dumped {told}"]
+    dumped = ran(folder, "dump", place, "--damaged")
+    if dumped[:2] != (status, lines):
+        return [f"recovered {recovered}", f"dumped {dumped}"]
     if status:
         return []
     for text, options in ((lines, ()), (None, ("--json",))):
@@ -209,14 +209,14 @@ def dumped_twice(folder, place, recovered):
         again = tempfile.mkdtemp(dir=folder)
         written(folder, "lines", text)
         loaded = ran(folder, "load", again, "lines", *options)
-        told = ran(folder, "dump", again)
-        if (loaded, told) != ((0, b"", b""), (0, lines, b"")):
-            return [f"dumped {text}", f"loaded {loaded}", f"dumped again {told}"]
+        dumped = ran(folder, "dump", again)
+        if (loaded, dumped) != ((0, b"", b""), (0, lines, b"")):
+            return [f"dumped {text}", f"loaded {loaded}", f"dumped again {dumped}"]
     return []
 
 
 class Recoveries:
-    """Pieces are what befalls the files; the setting is their texts by name."""
+    """Pieces are the damages of the files; the setting is their texts by name."""
 
     name = "recoveries"
 
@@ -246,8 +246,8 @@ class Recoveries:
             wanted = 0, plain_files.recover(texts["base.pcb"], parts, texts["log.pcl"] or b"").text(), b""
         except plain_files.Refused as fault:
             wanted = 1, b"", b"pcalc: %s: %s\n" % (place.encode(), fault.name.encode())
-        told = ran(folder, "recover", place)
-        return [f"wanted {wanted}", f"told {told}"] if told != wanted else dumped_twice(folder, place, wanted)
+        got = ran(folder, "recover", place)
+        return [f"expected {wanted}", f"got {got}"] if got != wanted else dumped_twice(folder, place, wanted)
 
     def tried(self, pieces):
         return {"damages": len(pieces)}
@@ -269,7 +269,7 @@ def clashes(parts):
 
 
 def left_at(path):
-    """What a file is refused with as a part, or that it is whole; None where there is no file."""
+    """The fault of a file as a part, or "whole"; None if there is no file."""
     if not os.path.exists(path):
         return None
     with open(path, "rb") as it:
@@ -299,7 +299,7 @@ class Collapses:
         return None, texts
 
     def wanted(self, texts):
-        """What may be told: a part, or the name of a refusal."""
+        """The allowed results: a part, or the name of a refusal."""
         read = [plain_files.read_as_far(text) for text in texts]
         for part, fault in read:
             if part is None:
@@ -321,18 +321,18 @@ class Collapses:
         place = tempfile.mkdtemp(dir=folder)
         names = [written(place, f"{number}.pcp", text) for number, text in enumerate(texts)]
         out = os.path.join(place, "out.pcp")
-        told = ran(folder, "collapse", out, *names)
+        got = ran(folder, "collapse", out, *names)
         wanted = self.wanted(texts)
         for right in wanted:
             if isinstance(right, str):
-                is_right = told == (1, b"", b"pcalc: %s: %s\n" % (out.encode(), right.encode())) and left_at(out) is None
+                is_right = got == (1, b"", b"pcalc: %s: %s\n" % (out.encode(), right.encode())) and left_at(out) is None
             else:
                 line = b"points %s entries %d\n" % (plain_store.points_text(plain_files.points_of(right)), len(right.entries))
                 with open(out if os.path.exists(out) else os.devnull, "rb") as it:
-                    is_right = told == (0, line, b"") and it.read() == right.text()
+                    is_right = got == (0, line, b"") and it.read() == right.text()
             if is_right:
                 return []
-        return [f"told {told}, left {left_at(out)}, where it may be {[it if isinstance(it, str) else it.text().hex() for it in wanted]}"]
+        return [f"got {got}, left {left_at(out)}, allowed are {[it if isinstance(it, str) else it.text().hex() for it in wanted]}"]
 
     def tried(self, texts):
         return {"inputs": len(texts)}
@@ -391,11 +391,11 @@ class Runs:
         return self.log_differences(place, pieces) + self.recovery_differences(place, random.Random(seed))
 
     def log_differences(self, place, pieces):
-        """Each client's commits are its transactions' final writes, in their order."""
+        """Each client's commits are the final writes of its transactions, in order."""
         wanted = {}
         for client, lines in pieces:
             wanted.setdefault(client, []).append(writes_of([line.split(b" ") for line in lines]))
-        return [] if has_commits(wanted)(files_of(place)[2]) else [f"the log hasn't {wanted}"]
+        return [] if has_commits(wanted)(files_of(place)[2]) else [f"the log doesn't have {wanted}"]
 
     def recovery_differences(self, place, chance):
         base, parts, log = files_of(place)
@@ -407,7 +407,7 @@ class Runs:
         return found
 
     def one_recovery(self, base, parts, log, cut):
-        """Of the files with so many bytes of the log: what is told, and the database after the whole entries, or at the point where that is further."""
+        """Of the files with `cut` bytes of the log: the recovery, and the database after the whole entries, or at the point if that is later."""
         wanted = plain_files.recover(base, parts, log[:cut])
         entries = plain_files.read_log(log).entries
         reached = wanted.entries
@@ -416,10 +416,10 @@ class Runs:
         with tempfile.TemporaryDirectory() as folder:
             for name, text in [(b"base.pcb", base), (b"log.pcl", log[:cut]), *parts]:
                 written(folder, os.fsdecode(name), text)
-            told = ran(folder, "recover", ".")
-        if told == (0, wanted.text(), b"") and wanted.pairs == replayed(plain_files.read_base(base), entries[:reached]):
+            got = ran(folder, "recover", ".")
+        if got == (0, wanted.text(), b"") and wanted.pairs == replayed(plain_files.read_base(base), entries[:reached]):
             return []
-        return [f"recovered with {[name for name, _ in parts]} and {cut} bytes of {log.hex()}: {told}"]
+        return [f"recovered with {[name for name, _ in parts]} and {cut} bytes of {log.hex()}: {got}"]
 
     def tried(self, pieces):
         return {"transactions": len(pieces), "folders recovered": self.RECOVERIES}
@@ -429,12 +429,12 @@ class Runs:
 
 
 class Serves:
-    """Pieces are lines; the setting is that of the store, behind how many lines each process but the last is killed, and the other options."""
+    """Pieces are lines; the setting is that of the store, after how many lines each process but the last is killed, and the other options."""
 
     name = "serves"
 
     def draw(self, chance):
-        # points free the places of keys that are gone, and have entries in the log: with them the store has room, and no generation rolls
+        # points free the places of removed keys, and have entries in the log: with them the store has room, and no generation rolls
         every = chance.choice([0, 0, 0, 1, 5])
         capacity, roll = (1024, 1_000_000) if every else (chance.choice([2, 6, 1024]), chance.choice([1, 3, 20, 1_000_000]))
         sessions = chance.choice([1, 2, 5, 64])
@@ -458,7 +458,7 @@ class Serves:
         for most in (*kills, None):
             first = ["--create", "--run=7"] if run == 6 else []
             status, out, err = served(place, ["S", *first, *words], lines[at:], most)
-            # a line that was cut off tells nothing, and with points commits have other numbers in the log
+            # a truncated line is ignored, and with points commits have other numbers in the log
             out = self.unnumbered(out[: out.rfind(b"\n") + 1], every)
             run, found = int((out.split() or [b"ready", b"run", b"0"])[2]), run
             store = plain_serving.Served(pairs, run, sessions, capacity, roll)
@@ -469,11 +469,11 @@ class Serves:
             wanted = b"".join((plain_serving.Served(pairs, run).ready(), *texts))
             is_whole = (status, out) == (0, wanted)
             if err or run <= found or not (is_whole or most is not None and status == -signal.SIGKILL and wanted.startswith(out)):
-                return [f"killed behind {most} lines of {lines[at:]}", f"wanted {wanted!r}", f"status {status}, {out!r} and {err!r}"]
+                return [f"killed after {most} lines of {lines[at:]}", f"expected {wanted!r}", f"status {status}, {out!r} and {err!r}"]
             answered = self.answered(out, wanted, texts)
-            pairs, told = self.recovered(place)
-            if told or pairs not in states[answered:]:
-                return [*told, f"killed behind {answered} answers to {lines[at:]}", f"{pairs} is left, where it may be {states[answered:]}"]
+            pairs, wrong = self.recovered(place)
+            if wrong or pairs not in states[answered:]:
+                return [*wrong, f"killed after {answered} answers to {lines[at:]}", f"{pairs} is left, allowed are {states[answered:]}"]
             at += answered
         return []
 
@@ -481,7 +481,7 @@ class Serves:
         return re.sub(rb"(?m)^committed [0-9]+$", b"committed", text) if every else text
 
     def answered(self, out, wanted, texts):
-        """How many lines are answered whole by this beginning of what is wanted."""
+        """How many lines are answered whole by this prefix of the expected output."""
         end, count = len(wanted) - sum(map(len, texts)), 0
         for text in texts:
             end += len(text)
@@ -491,13 +491,13 @@ class Serves:
         return count
 
     def recovered(self, place):
-        """The pairs that are recovered of the generation that counts, and what is wrong with what `recover` prints of them."""
+        """The pairs recovered of the current generation, and what is wrong with what `recover` prints of them."""
         folder = os.path.join(place, "S")
         name = max(name for name in os.listdir(folder) if os.path.exists(os.path.join(folder, name, "base.pcb")))
         found = plain_files.recover(*files_of(os.path.join(folder, name)))
-        told = ran(place, "recover", "S")
+        got = ran(place, "recover", "S")
         wanted = 0, found.text(), b"generation %d\n" % int(name[4:])
-        return found.pairs, [] if told == wanted else [f"recovered {told} in the place of {wanted}"]
+        return found.pairs, [] if got == wanted else [f"recovered {got} instead of {wanted}"]
 
     def tried(self, lines):
         return {"lines served": len(lines)}
@@ -510,18 +510,18 @@ KINDS = (Scripts(), Recoveries(), Collapses(), Serves(), Runs())
 
 
 def case(kind, seed, number):
-    """What was tried of the kind's case of this number, and what is to be shown of it, nothing where it doesn't differ."""
+    """The counts of the kind's case of this number, and the lines to print of it, none if it doesn't differ."""
     setting, pieces = kind.draw(random.Random(f"{seed} {kind.name} {number}"))
     with tempfile.TemporaryDirectory() as folder:
-        told = kind.tried(pieces)
+        tried = kind.tried(pieces)
         if not kind.differences(folder, setting, pieces):
-            return told, []
+            return tried, []
         pieces = smallest(pieces, lambda fewer: kind.differences(folder, setting, fewer))
-        return told, [f"{kind.name} {number} of seed {seed} differ", *kind.shown(setting, pieces), *kind.differences(folder, setting, pieces)]
+        return tried, [f"{kind.name} {number} of seed {seed} differ", *kind.shown(setting, pieces), *kind.differences(folder, setting, pieces)]
 
 
 def soak(seconds, seed, kinds=KINDS):
-    """Tries one case of each kind after the other, as many as there is time for: how many of what, and how many differ."""
+    """Tries one case of each kind in turn, until the time is over: how many of what, and how many differ."""
     counts, differing, end = collections.Counter(), 0, time.monotonic() + seconds
     numbers = ((kind, number) for number in range(sys.maxsize) for kind in kinds)
     with concurrent.futures.ProcessPoolExecutor(LANES) as pool:
@@ -532,8 +532,8 @@ def soak(seconds, seed, kinds=KINDS):
                 open_cases[pool.submit(case, kind, seed, number)] = kind
             done, _ = concurrent.futures.wait(open_cases, return_when=concurrent.futures.FIRST_COMPLETED)
             for one in done:
-                told, lines = one.result()
-                counts.update({open_cases.pop(one).name: 1, **told})
+                tried, lines = one.result()
+                counts.update({open_cases.pop(one).name: 1, **tried})
                 differing += bool(lines)
                 print(*lines, sep="\n", end="\n" if lines else "", flush=True)
     return counts, differing

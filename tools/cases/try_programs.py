@@ -1,28 +1,28 @@
 #!/usr/bin/env python3
-"""Runs the programs that the gate has built on what is stored of them, and compares what they print: `.ci/run` calls it last.
+"""Runs the programs that the gate has built on stored and generated cases, and compares what they print: `.ci/run` calls it last.
 
     examples/NAME.pcs     `pcalc step` prints NAME.out; the status is that of NAME.status, or 0
     examples/NAME.pcw     `pcalc run` prints NAME.out
-    examples/NAME/        a folder: `pcalc recover` prints NAME.out, or `pcalc collapse` of its files where it has no base
+    examples/NAME/        a folder: `pcalc recover` prints NAME.out, or `pcalc collapse` of its files if it has no base
     bench/counts.txt      a line `$ WORDS` is a command of bench_calls, and the lines up to the next one what it prints
-    program_cases.py      options, files that can't be had, long files, a full output, little memory
+    program_cases.py      options, files that can't be read, long files, a full output, little memory
     look_cases.py         logs that are printed, and files and folders that are verified
     pair_cases.py         pairs that are printed, and folders that are made of lines
     run_cases.py          workloads that are run on threads, and the folders that they leave
-    crash_cases.py        runs that are killed, and what is recovered of their folders
-    kill_cases.py         commands that are killed at each call that changes files, and runs into one folder at the same time
-    disk_cases.py         commands on a disk that gets full, and how often files are brought to the disk
+    crash_cases.py        runs that are killed, and what is recovered from their folders
+    kill_cases.py         commands killed at each call that changes files, and runs into one folder at the same time
+    disk_cases.py         commands on a disk that gets full, and how often files are flushed to the disk
     serve_cases.py        stores that are served over pipes, and killed
     tutorial_cases.py     the commands of docs/TUTORIAL.md
     client_cases.py       the client and the relay of clients/python over served stores: threads, kills, sockets
-    embedding_cases.py    the library of pc_c in programs of C, C++ and Python, where there is a C compiler
+    embedding_cases.py    the library of pc_c in programs of C, C++ and Python, if there is a C compiler
     refused_growths.py    a run and the tests of its crates `TESTERS`, each growth of memory that they ask for refused in turn
-    PAGES                 what tools make of the crates stands in docs/ as they make it, each promise names contracts that are there, and each wrong
-                          body is one, those of house/meetings as they were seen, and none that was refused waits to be tried again since the
-                          function that it changes was another one
-    tests/                the tests of these tools, on what is made up
+    PAGES                 the pages made of the crates in docs/ are current, each promise names existing contracts, and each wrong
+                          body is one, those of house/meetings as they were seen, and no refused one has to be tried again because the
+                          function that it changes has changed since
+    tests/                the tests of these tools, on made-up input
 
-What differs is shown, and what was seen of growths; the last line is 'N passed, M failed'; the status is 1 where one failed.
+Differences are printed, and the counts of growths; the last line is 'N passed, M failed'; the status is 1 if one failed.
 """
 
 import difflib
@@ -84,7 +84,7 @@ def ran(command, **settings):
 
 
 def examples():
-    """The name, the command, the wanted status and output of each example."""
+    """The name, the command, the expected status and output of each example."""
     for script in sorted(glob.glob(os.path.join(ROOT, "examples", "*.pcs"))):
         name = script.removesuffix(".pcs")
         yield os.path.relpath(script, ROOT), (program_of("pcalc"), "step", script), int(text_of(name + ".status", "0")), text_of(name + ".out")
@@ -110,7 +110,7 @@ def counts():
 
 
 def stored():
-    """What each stored example differs in, by its name."""
+    """What is wrong with each stored example, by its name."""
     for name, command, status, wanted in [*examples(), *counts()]:
         yield name, differences(ran(command, cwd=ROOT), status, wanted.encode(), b"")
 
@@ -134,7 +134,7 @@ def settings_of(case, folder):
 
 
 def cases():
-    """What each case of `program_cases.py`, `look_cases.py` and `run_cases.py` differs in, by its name. The program is copied, so that any user may run it."""
+    """What is wrong with each case of `program_cases.py`, `look_cases.py`, `pair_cases.py` and `run_cases.py`, by its name. The program is copied, so that any user may run it."""
     with tempfile.TemporaryDirectory() as folder:
         os.chmod(folder, 0o755)
         program = os.path.join(folder, "pcalc")
@@ -143,70 +143,70 @@ def cases():
         for case in itertools.chain(program_cases.cases(folder), look_cases.cases(folder), pair_cases.cases(folder), run_cases.cases(folder)):
             settings = settings_of(case, folder)
             if case.output is None:
-                told = ran([program, *case.words], **settings)
+                ended = ran([program, *case.words], **settings)
             elif os.path.exists(case.output):
                 with open(case.output, "wb") as output:
-                    told = ran([program, *case.words], stdout=output, **settings)
+                    ended = ran([program, *case.words], stdout=output, **settings)
             else:
                 continue
             wanted = case.parts if case.parts is not None else case.out
-            lines = differences(told, case.status, wanted, case.err)
-            lines += [f"{name} is not as wanted" for name, content in case.files.items() if content_of(folder, name) != content]
-            lines += [f"{name} has not the form that is wanted" for name, is_right in case.checks.items() if not is_right(content_of(folder, name))]
+            lines = differences(ended, case.status, wanted, case.err)
+            lines += [f"{name} is not as expected" for name, content in case.files.items() if content_of(folder, name) != content]
+            lines += [f"{name} doesn't have the expected form" for name, is_right in case.checks.items() if not is_right(content_of(folder, name))]
             yield f"pcalc {' '.join(case.words)}: {case.name}", lines
 
 
 def crashes():
-    """What each killed run differs in, by its name."""
+    """What is wrong with each killed run, by its name."""
     if os.path.exists(program_of("pcalc")):
         with tempfile.TemporaryDirectory() as folder:
             yield from crash_cases.crashes(os.path.abspath(program_of("pcalc")), folder)
 
 
 def kills():
-    """What each command that is killed, and each pair of runs into one folder, differs in, by its name."""
+    """What is wrong with each killed command, and each pair of runs into one folder, by its name."""
     if os.path.exists(program_of("pcalc")):
         with tempfile.TemporaryDirectory() as folder:
             yield from kill_cases.kills(os.path.abspath(program_of("pcalc")), folder)
 
 
 def disks():
-    """What each command on a full disk, and each count of what is brought to the disk, differs in, by its name."""
+    """What is wrong with each command on a full disk, and each count of flushes to the disk, by its name."""
     if os.path.exists(program_of("pcalc")):
         with tempfile.TemporaryDirectory() as folder:
             yield from disk_cases.disks(os.path.abspath(program_of("pcalc")), folder)
 
 
 def serves():
-    """What each store differs in that is served, by its name."""
+    """What is wrong with each served store, by its name."""
     if os.path.exists(program_of("pcalc")):
         with tempfile.TemporaryDirectory() as folder:
             yield from serve_cases.serves(os.path.abspath(program_of("pcalc")), folder)
 
 
 def tutorial():
-    """What each command of the tutorial differs in, by its name."""
+    """What is wrong with each command of the tutorial, by its name."""
     if os.path.exists(program_of("pcalc")):
         with tempfile.TemporaryDirectory() as folder:
             yield from tutorial_cases.tutorial(os.path.abspath(program_of("pcalc")), folder)
 
 
 def clients():
-    """What each use of the client and of the relay differs in, by its name."""
+    """What is wrong with each use of the client and of the relay, by its name."""
     if os.path.exists(program_of("pcalc")):
         with tempfile.TemporaryDirectory() as folder:
             yield from client_cases.clients(os.path.abspath(program_of("pcalc")), folder)
 
 
 def embedded():
-    """What each use of the library in other languages differs in, by its name."""
+    """What is wrong with each use of the library in other languages, by its name."""
     if os.path.exists(program_of("pcalc")):
         with tempfile.TemporaryDirectory() as folder:
             yield from embedding_cases.embedded(os.path.abspath(program_of("pcalc")), folder)
 
 
 def pages():
-    """What each tool finds in the pages, by its name."""
+    """What each tool reports of the pages, by its name."""
     for tool, *words in PAGES:
         status, out, err = ran([sys.executable, os.path.join(ROOT, "tools", "house", tool), *words])
         yield f"tools/house/{tool}", (out + err).decode().splitlines() if status else []
@@ -221,7 +221,7 @@ def tests_in(found):
 
 
 def tests():
-    """What each test of the tools tells, by its name. That there are none is told too."""
+    """The failures of each test of the tools, by its name; one more if there are no tests."""
     count = 0
     for count, test in enumerate(tests_in(unittest.TestLoader().discover(TESTS)), 1):
         result = unittest.TestResult()
@@ -229,11 +229,11 @@ def tests():
         test(result)
         yield f"tools/tests: {test.id()}", [line for _, text in result.failures + result.errors for line in text.splitlines()]
     if count == 0:
-        yield "tools/tests", ["none is found"]
+        yield "tools/tests", ["none found"]
 
 
 def content_of(folder, name):
-    """What a file has, or None where it isn't there."""
+    """What a file has, or None if it doesn't exist."""
     try:
         with open(os.path.join(folder, name), "rb") as it:
             return it.read()
@@ -246,20 +246,20 @@ def is_as_wanted(got, wanted):
     return all(part in got for part in wanted) if isinstance(wanted, list) else got == wanted
 
 
-def differences(told, status, out, err):
-    """Lines that say in what a call differs from what is wanted."""
-    lines = [] if told[0] == status else [f"status {told[0]} (wanted {status})"]
-    for stream, got, wanted in (("printed", told[1], out), ("told", told[2], err)):
+def differences(ended, status, out, err):
+    """Lines that say how a call differs from what is expected."""
+    lines = [] if ended[0] == status else [f"status {ended[0]} (expected {status})"]
+    for stream, got, wanted in (("output", ended[1], out), ("standard error", ended[2], err)):
         if not is_as_wanted(got, wanted):
-            lines.append(f"what it {stream} (+) beside what is wanted (-):")
-            stands = b"\n".join(wanted) if isinstance(wanted, list) else wanted
-            pair = [text.decode(errors="replace").splitlines() for text in (stands, got)]
+            lines.append(f"its {stream} (+) instead of the expected one (-):")
+            expected = b"\n".join(wanted) if isinstance(wanted, list) else wanted
+            pair = [text.decode(errors="replace").splitlines() for text in (expected, got)]
             lines += [line[:200] for line in [*difflib.unified_diff(*pair, lineterm="", n=1)][2:22]]
     return lines
 
 
 def counted(parts):
-    """How many cases passed and how many failed; what failed is shown. A part that breaks off has failed, and the next one is gone on with."""
+    """How many cases passed and how many failed; failures are printed. A part that raises has failed, and the next one is run."""
     passed = failed = 0
     for some in parts:
         try:
@@ -270,7 +270,7 @@ def counted(parts):
                     print(f"{name}:", *lines, sep="\n")
         except Exception:
             failed += 1
-            print(f"{some.__name__} broke off:", traceback.format_exc(), sep="\n")
+            print(f"{some.__name__} raised:", traceback.format_exc(), sep="\n")
     return passed, failed
 
 

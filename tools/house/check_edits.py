@@ -1,13 +1,13 @@
 #!/usr/bin/env python3
 """Looks over the wrong bodies in crates/*/must-fail and crates/*/tried, in a second and without a proof: each must be able to
-change something, and to name the promises that it breaks (promises.py has those).
+change something, and to name the promises that it breaks (listed by promises.py).
 
-An edit is a file of lines `file: PATH`, `old: TEXT` and `new: TEXT`, and one `promise: NAME; NAME ..`. Each text is one line: what stands
-on further lines is not read, so an edit that is spread over several lines may change nothing, and is then proved. Told are a line
-of another form, an old text that doesn't stand exactly once in its file, a new text that is the old one, and one that calls a function
-which no source of its crate names, or a method of a name that no function has in the crate, in those that it stands on, or in
-the kit's library: that is no body at all, and the gate takes no such refusal. (A method is looked for by its name alone, since
-no types are known here.) The status is 1 where anything is told.
+An edit is a file of lines `file: PATH`, `old: TEXT` and `new: TEXT`, and one `promise: NAME; NAME ..`. Each text is one line: what
+is on further lines isn't read, so an edit that is spread over several lines may change nothing, and is then proved. Reported are a line
+of another form, an old text that doesn't occur exactly once in its file, a new text that is the old one, and one that calls a function
+which no source of its crate names, or a method of a name that no function has in the crate, in those on which it depends, or in
+the kit's library: that is no body at all, and the gate doesn't accept such a refusal. (A method is looked up by its name alone, since
+no types are known here.) The status is 1 if anything is reported.
 """
 
 import functools
@@ -48,7 +48,7 @@ def faults_of(edit):
         elif word == "old":
             old = rest
             if text.count(old) != 1:
-                yield "the old text stands %d times in its file: %s" % (text.count(old), old)
+                yield "the old text occurs %d times in its file: %s" % (text.count(old), old)
         elif word == "new" and old is not None:
             changes += 1
             if rest == old:
@@ -66,23 +66,23 @@ def faults_of(edit):
 
 
 def unknown_calls(text, sources):
-    """The functions that the text calls, and that these sources don't make, import or have as a closure."""
+    """The functions that the text calls, and that these sources don't define, import or have as a closure."""
     known = r"\b(?:fn|let|mut) %s\b|\buse [^;]*\b%s\b|[(,] *%s:"
     return [it for it in dict.fromkeys(CALL.findall(text)) if it not in PRELUDE and not re.search(known % (it, it, it), sources)]
 
 
 def unknown_methods(text, crate, edit):
-    """The methods that the text calls, and whose names no function has in the edit, in the crate, or in what it stands on."""
+    """The methods that the text calls, and whose names no function has in the edit, in the crate, or in what it depends on."""
     known = {*functions_near(crate), *FUNCTION.findall(edit)}
     return [it for it in dict.fromkeys(METHOD.findall(text)) if it not in known]
 
 
 @functools.cache
 def functions_near(crate):
-    """The names of the functions of a crate, of those that it stands on, and of the kit's library."""
+    """The names of the functions of a crate, of those on which it depends, and of the kit's library."""
     command = shutil.which("rt")
     if command is None:
-        sys.exit("the command rt, beside which the sources of the kit's library stand, is not there")
+        sys.exit("the command rt, next to which the sources of the kit's library are, is not there")
     kit = os.path.join(os.path.dirname(os.path.dirname(os.path.realpath(command))), "rattle")
     named = {head.split(" ")[0]: names for head, _, names in (line.partition(":") for line in text_of(os.path.join(ROOT, "crates.txt")).splitlines())}
     own = [crate, *below()[crate]]
@@ -115,13 +115,13 @@ def edits():
 
 
 def promises_of(edit):
-    """The names of the promises for which the edit stands."""
+    """The names of the promises that the edit breaks."""
     found = re.search(r"(?m)^promise: (.+)$", text_of(edit))
     return [it.strip() for it in found[1].split(";")] if found else []
 
 
 def bodies():
-    """By the name of a promise its edits: the crate and the name of each, with whether the gate tries it."""
+    """By the name of a promise its edits: the crate and the name of each, and whether the gate tries it."""
     found = {}
     for edit in edits():
         folder, file = os.path.split(edit)
@@ -133,10 +133,10 @@ def bodies():
 def main(words):
     if words:
         sys.exit(__doc__)
-    told = ["%s: %s" % (os.path.relpath(edit, CRATES), fault) for edit in edits() for fault in faults_of(edit)]
-    told += ["%s: it names no promise" % os.path.relpath(edit, CRATES) for edit in edits() if not promises_of(edit)]
-    print("\n".join(told + ["%d edits, %d faults" % (len(edits()), len(told))]))
-    return 1 if told else 0
+    faults = ["%s: %s" % (os.path.relpath(edit, CRATES), fault) for edit in edits() for fault in faults_of(edit)]
+    faults += ["%s: it names no promise" % os.path.relpath(edit, CRATES) for edit in edits() if not promises_of(edit)]
+    print("\n".join(faults + ["%d edits, %d faults" % (len(edits()), len(faults))]))
+    return 1 if faults else 0
 
 
 if __name__ == "__main__":

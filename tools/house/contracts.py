@@ -1,12 +1,12 @@
 #!/usr/bin/env python3
 """Compares the contracts of two trees: of each public function its signature and clauses, word for word.
 
-    contracts.py OLD NEW                    tells what differs between two commits; `.` is the tree as it stands
-    contracts.py OLD NEW --renames FILE     the same, once each word of OLD that begins a line of FILE is the one behind it
+    contracts.py OLD NEW                    prints what differs between two commits; `.` is the working tree
+    contracts.py OLD NEW --renames FILE     the same, with each word of OLD that begins a line of FILE replaced by the one after it
     contracts.py OLD NEW --all              private functions too
 
-A function is known by its type and its name, whatever crate or file it stands in; where two have one name, their texts are compared as a set. Told are
-functions that one tree alone has, and of those whose text differs the lines that changed. The status is 1 where anything is told.
+A function is known by its type and its name, in whatever crate or file it is; if two have one name, their texts are compared as a set. Reported are
+functions that only one tree has, and the changed lines of those whose text differs. The status is 1 if anything is reported.
 """
 
 import argparse
@@ -38,7 +38,7 @@ def sources_of(commit):
 
 
 def contracts_in(text, is_all):
-    """By its type and name, each function's signature with its clauses."""
+    """Each function's signature with its clauses, by its type and name."""
     for item in rt_source.functions_in(text):
         if is_all or rt_source.is_public(item):
             yield rt_source.full_name(item), rt_source.signature_in(item)
@@ -53,7 +53,7 @@ def contracts_of(commit, is_all):
 
 
 def renamed(contracts, words):
-    """The contracts with these words in the place of others."""
+    """The contracts with words replaced by these."""
     if not words:
         return contracts
     known = re.compile(r"(?<![\w])(?:%s)(?![\w])" % "|".join(map(re.escape, words)))
@@ -87,9 +87,9 @@ def main():
     reader.add_argument("--all", action="store_true")
     given = reader.parse_args()
     old, new = (contracts_of(commit, given.all) for commit in (given.old, given.new))
-    told = [*differences(renamed(old, words_of(given.renames)), new)]
-    print("\n".join([*told, f"{sum(map(len, old.values()))} and {sum(map(len, new.values()))} functions, {len(told)} differences"]))
-    return 1 if told else 0
+    found = [*differences(renamed(old, words_of(given.renames)), new)]
+    print("\n".join([*found, f"{sum(map(len, old.values()))} and {sum(map(len, new.values()))} functions, {len(found)} differences"]))
+    return 1 if found else 0
 
 
 if __name__ == "__main__":

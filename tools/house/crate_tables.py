@@ -1,11 +1,11 @@
 #!/usr/bin/env python3
 """Makes the tables of crates in docs/ARCHITECTURE.md, from crates.txt and the first words of each crate's page.
 
-    crate_tables.py           tells whether they are as they are to be; the status is 1 where they aren't
+    crate_tables.py           tests whether they are current; the status is 1 if they aren't
     crate_tables.py --mark    writes them
 
-A table stands behind a line `<!-- crates NAME -->`, where NAME is `store` or `gate`, the two parts of crates.txt, up to the next blank line. Of what a crate
-stands on only those crates are named that none of the others brings with it.
+A table follows a line `<!-- crates NAME -->`, NAME being `store` or `gate`, the two parts of crates.txt, up to the next blank line. Of a crate's
+dependencies only those are named on which none of the others depends.
 """
 
 import os
@@ -20,13 +20,13 @@ from tools import ROOT, text_of
 PAGE = os.path.join(ROOT, "docs", "ARCHITECTURE.md")
 PARTS = ("store", "gate")
 FEW = 4
-# What is added to a sentence behind a comma: for whom, over what, or what is printed in the end.
+# What may follow the first part of a sentence after a comma.
 ADDED = re.compile(r", (?:over|with|by|from|beside|each|shared|and prints|and tells)\b")
 MARK = re.compile(r"(?m)^(<!-- crates (\w+) -->\n)((?:\|.*\n)*)")
 
 
 def graph():
-    """By part the crates in their order, and by crate those of the repository that it stands on."""
+    """By part the crates in their order, and by crate those of the repository on which it depends."""
     parts, below = [], {}
     for line in text_of(ROOT, "crates.txt").splitlines():
         if line.startswith("#"):
@@ -47,13 +47,13 @@ def all_below(name, below):
 
 
 def nearest(name, below):
-    """Those that it stands on but for what others of them bring along."""
+    """Those on which it depends, except those on which others of them depend."""
     brought = set().union(*(all_below(other, below) for other in below[name]))
     return [other for other in below[name] if other not in brought]
 
 
 def page_of(name):
-    """What a crate says of itself: its first sentence, up to a colon or semicolon, or to what is `ADDED`, that has at least `FEW` words before it."""
+    """What a crate says of itself: its first sentence, up to a colon or semicolon, or to what `ADDED` matches, with at least `FEW` words before it."""
     folder = os.path.join("crates", name, "src")
     file = "lib.rt" if os.path.exists(os.path.join(ROOT, folder, "lib.rt")) else "main.rt"
     lines = []
@@ -85,7 +85,7 @@ def main(words):
         with open(PAGE, "w", encoding="utf-8") as it:
             it.write(right)
     elif right != text or len(MARK.findall(text)) != len(PARTS):
-        print("docs/ARCHITECTURE.md: the tables of crates are not as they are to be: tools/house/crate_tables.py --mark")
+        print("docs/ARCHITECTURE.md: the tables of crates are stale: tools/house/crate_tables.py --mark")
         return 1
     return 0
 

@@ -1,17 +1,17 @@
 #!/usr/bin/env python3
-"""Follows the merge gate, tells what it spends, in processor seconds by crate and part, and holds it to the budget in docs/BENCHMARKS.md.
+"""Follows the merge gate, reports what it uses, in processor seconds by crate and part, and compares that with the budget in docs/BENCHMARKS.md.
 
-    gate_times.py follow LOG COMMAND..      what .ci/run does with `rt ci`: runs the command, writes all that it says into LOG, prints what it is at,
-                                            and at its end the minutes by part; where it is stopped, how far it came
+    gate_times.py follow LOG COMMAND..      what .ci/run does with `rt ci`: runs the command, writes its output to LOG, prints its progress,
+                                            and at its end the minutes by part; if it is stopped, how far it got
     gate_times.py run TIMES.json            runs .ci/run, and writes TIMES.json
-    gate_times.py tell TIMES.json           prints the table, and what is over the budget; the status is 1 where something is
+    gate_times.py tell TIMES.json           prints the table, and what is over the budget; the status is 1 if something is
     gate_times.py lanes TIMES.json N        how long the gate would take with N processors
 
 A crate's parts are its proof (with the programs that are built of it), its tests (proved and built), and its wrong bodies with the check from nothing
-that they begin with. Twice a second is looked at what each check has used; those of less than half a second are missed, and the sum of all is exact.
-The gate gives each check one processor (RT_JOBS), since one with several uses up to twice the processor time, and runs as many side by side as there are
-processors, and memory for each. The lanes are those of `rt ci` then: a proof waits for the proofs below it, tests too, wrong bodies for the proof and the
-tests of their crate; what has most lines behind it comes first, and wrong bodies fill what proofs leave free.
+that they begin with. The use of each check is read twice a second; checks of less than half a second are missed, and the sum of all is exact.
+The gate gives each check one processor (RT_JOBS), since one with several uses up to twice the processor time, and runs as many concurrently as there are
+processors, and memory for each. The lanes are then those of `rt ci`: a proof waits for the proofs below it, tests too, wrong bodies for the proof and the
+tests of their crate; the task with the longest chain of lines that wait for it comes first, and wrong bodies fill what proofs leave free.
 """
 
 import glob
@@ -33,8 +33,8 @@ from tools.house.rt_source import without_tests
 
 PARTS = ("proof", "tests", "edits")
 TICKS = os.sysconf("SC_CLK_TCK")
-TOLD = re.compile(r"^rt: (\w+( is kept|:? (its tests are )?(NOT )?proved|: trying its must-fail edits \(\d+\)|.* FAILED))")
-# What one check takes of memory at most, in bytes.
+PROGRESS = re.compile(r"^rt: (\w+( is kept|:? (its tests are )?(NOT )?proved|: trying its must-fail edits \(\d+\)|.* FAILED))")
+# The memory that one check takes at most, in bytes.
 MEMORY = 4e9
 
 
@@ -42,7 +42,7 @@ MEMORY = 4e9
 
 
 def part_of(words):
-    """The crate and the part that a process works for, by its command line; None where it is no check."""
+    """The crate and the part that a process works for, by its command line; None if it is no check."""
     if not words or not words[0].endswith("rattle") or "--crate-name" not in words:
         return None
     crate = words[words.index("--crate-name") + 1]
@@ -63,7 +63,7 @@ def is_below(pid, top):
 
 
 def look(top, seen):
-    """Notes what each check below the top process has used so far, with its ended children, by its number and its part; gives what is at work."""
+    """Notes what each check below the top process has used so far, with its ended children, by its number and its part; returns what is running."""
     working = set()
     for pid in filter(str.isdigit, os.listdir("/proc")):
         try:
@@ -89,43 +89,43 @@ def times_of(seen, began):
 
 
 def lanes_here():
-    """As many checks side by side as there are processors that may be used, and memory for each."""
+    """As many concurrent checks as there are processors that may be used, and memory for each."""
     with open("/proc/meminfo", encoding="ascii") as it:
         free = int(re.search(r"MemAvailable:\s+(\d+)", it.read())[1]) * 1024
     return max(1, min(len(os.sched_getaffinity(0)), int(free / MEMORY)))
 
 
 class Follower:
-    """A run of the gate's checks: what it has said and used so far."""
+    """A run of the gate's checks: its output and its use so far."""
 
     def __init__(self):
-        self.began, self.seen, self.told, self.working, self.ran = time.time(), {}, [], set(), None
+        self.began, self.seen, self.progress, self.working, self.ran = time.time(), {}, [], set(), None
 
     def say(self, text):
         print(f"[{(time.time() - self.began) / 60:5.1f} min] {text}", flush=True)
 
     def read(self, log):
-        """Writes each line of the run into the log, and says those that tell how far it is."""
+        """Writes each line of the run to the log, and prints those that report progress."""
         with open(log, "w", encoding="utf-8") as out:
             for line in self.ran.stdout:
                 out.write(line)
-                found = TOLD.match(line)
+                found = PROGRESS.match(line)
                 if found:
-                    self.told.append(found[1])
+                    self.progress.append(found[1])
                     self.say(found[1])
 
     def stop(self, number, _frame):
-        """Ends the run, and says how far it came."""
-        proved = sum(it.endswith(" proved") and "NOT" not in it for it in self.told)
-        tried = sum("must-fail" in it for it in self.told)
-        self.say(f"stopped by signal {number}: {proved} proofs of crates and tests done, wrong bodies of {tried} crates begun; at work: "
+        """Ends the run, and prints how far it got."""
+        proved = sum(it.endswith(" proved") and "NOT" not in it for it in self.progress)
+        tried = sum("must-fail" in it for it in self.progress)
+        self.say(f"stopped by signal {number}: {proved} proofs of crates and tests done, wrong bodies of {tried} crates begun; running: "
                  + (", ".join(f"{crate} {part}" for crate, part in sorted(self.working)) or "nothing"))
         os.killpg(self.ran.pid, signal.SIGTERM)
         os._exit(128 + number)
 
     def follow(self, log, command):
         lanes = os.environ.get("RT_JOBS") or str(lanes_here())
-        self.say(f"{' '.join(command)}, {lanes} checks side by side")
+        self.say(f"{' '.join(command)}, {lanes} checks at a time")
         self.ran = subprocess.Popen(command, stdin=subprocess.DEVNULL, stdout=subprocess.PIPE, stderr=subprocess.STDOUT, text=True, errors="replace",
                                     env={**os.environ, "RT_JOBS": lanes}, start_new_session=True)
         for it in (signal.SIGTERM, signal.SIGINT, signal.SIGHUP):
@@ -153,13 +153,13 @@ def sums_of(found):
 
 
 def crates_of():
-    """The crates of crates.txt, each with those of the repository on which it stands, all the way down, lowest first."""
+    """The crates of crates.txt, each with those of the repository on which it depends, directly or not, lowest first."""
     with open(os.path.join(ROOT, "crates.txt"), encoding="utf-8") as it:
         return crates_in(it.read())
 
 
 def crates_in(text):
-    """The same by the text of crates.txt."""
+    """The same for the text of crates.txt."""
     named = {}
     for line in text.splitlines():
         name, colon, rest = line.partition("#")[0].strip().partition(":")
@@ -186,7 +186,7 @@ def texts(name, *patterns):
 
 
 def described(name):
-    """A crate's lines and functions, those of its tests, and how many wrong bodies the gate has of it."""
+    """A crate's lines and functions, those of its tests, and the number of its wrong bodies that the gate tries."""
     code = [without_tests(*it) for it in texts(name, "src/**/*.rt")]
     lines, all_lines = (sum(it.count("\n") for it in found) for found in (code, [text for _, text in texts(name, "src/**/*.rt")]))
     return {
@@ -225,7 +225,7 @@ def read_times(file):
         return json.load(it)
 
 
-def tell(file):
+def report(file):
     found = read_times(file)
     print(f"{'crate':16} {'code':>5} {'fns':>4} {'bodies':>6} {'proof':>7} {'tests':>7} {'edits':>7}")
     for name, crate in found["crates"].items():
@@ -233,11 +233,11 @@ def tell(file):
     print("processor minutes: " + sums_of(found))
     most, over = budget()
     if not most:
-        print("docs/BENCHMARKS.md states no budget")
+        print("docs/BENCHMARKS.md has no budget")
         return 1
-    told = [(name, what, value, over.get((name, what), most[what])) for name, crate in found["crates"].items() for what, value in measured(crate).items()]
-    told.append(("all", "processor minutes", round(found["all"] / 60), most["processor minutes"]))
-    faults = [f"{name}: {what} {value}, at most {limit}" for name, what, value, limit in told if value > limit]
+    values = [(name, what, value, over.get((name, what), most[what])) for name, crate in found["crates"].items() for what, value in measured(crate).items()]
+    values.append(("all", "processor minutes", round(found["all"] / 60), most["processor minutes"]))
+    faults = [f"{name}: {what} {value}, at most {limit}" for name, what, value, limit in values if value > limit]
     print("\n".join(faults) or "within the budget")
     return 1 if faults else 0
 
@@ -246,7 +246,7 @@ def tell(file):
 
 
 def tasks_of(crates):
-    """What each task waits for, the lines that it is ranked by, and its seconds; the check that a crate's wrong bodies begin with counts to the first one."""
+    """What each task waits for, the lines that it is ranked by, and its seconds; the check that a crate's wrong bodies begin with is counted for the first one."""
     tasks = {}
     for name, crate in crates.items():
         waits = [(below, "proof") for below in crate["below"]]
@@ -259,18 +259,18 @@ def tasks_of(crates):
     return tasks
 
 
-def behind_of(tasks):
-    behind = {key: it[1] for key, it in tasks.items()}
+def ranks_of(tasks):
+    rank = {key: it[1] for key, it in tasks.items()}
     for key in reversed([*tasks]):
         for below in tasks[key][0]:
-            behind[below] = max(behind[below], tasks[below][1] + behind[key])
-    return behind
+            rank[below] = max(rank[below], tasks[below][1] + rank[key])
+    return rank
 
 
 def lanes(file, count):
     tasks = tasks_of(read_times(file)["crates"])
-    behind = behind_of(tasks)
-    left = sorted(tasks, key=lambda it: (it[1] not in ("proof", "tests"), -behind[it]))
+    rank = ranks_of(tasks)
+    left = sorted(tasks, key=lambda it: (it[1] not in ("proof", "tests"), -rank[it]))
     running, ended, now = {}, set(), 0.0
     while left or running:
         for key in [it for it in left if all(below in ended for below in tasks[it][0])][: count - len(running)]:
@@ -295,7 +295,7 @@ def main(words):
         case ["run", file]:
             return run(file)
         case ["tell", file]:
-            return tell(file)
+            return report(file)
         case ["lanes", file, count]:
             return lanes(file, int(count))
     print(__doc__, file=sys.stderr)

@@ -1,28 +1,28 @@
 #!/usr/bin/env python3
-"""Makes docs/PROMISES.md from docs/promises.txt, and holds each promise against the contracts that it names.
+"""Makes docs/PROMISES.md from docs/promises.txt, and compares each promise with the contracts that it names.
 
-    promises.py           tells what is wrong; the status is 1 where anything is told
+    promises.py           prints what is wrong; the status is 1 if anything is
     promises.py --mark    writes docs/PROMISES.md
 
-docs/promises.txt has the text of the page, with these in the place of tables:
+docs/promises.txt has the text of the page, with these instead of tables:
 
     promise NAME: SENTENCE
       CRATE FUNCTION, FUNCTION: CLAUSE, CLAUSE; FUNCTION     functions, each group with the clauses that carry the promise, or all of theirs
       CRATE law NAME, NAME                                   lemmas of the crate's proofs/ that other crates may use
       CRATE definition MODULE.WORD, MODULE.WORD.FIELD        definitions of the crate's specs/
       CRATE invariant TYPE                                   what each value of the type keeps
-      note TEXT                                              words that are added, which name no code
+      note TEXT                                              words to add, which name no code
 
-Behind `TYPE::name` the type of a further method may be left out. `file::name` is a function of src/file.rt, where several files have one of that name. A
-name with `*` stands for all functions with a clause that it fits, or for those with these clauses. Two entries have such lines too:
+After `TYPE::name` the type of a further method may be left out. `file::name` is a function of src/file.rt, if several files have one of that name. A
+name with `*` means all functions that it matches and that have a clause, or these clauses. Two entries have such lines too:
 
-    laws: TEXT           functions whose contracts are laws: an item of a list, or `Laws:` with their names where there is no text
-    unnamed: REASON      public functions that nothing else names; the page doesn't have these. Behind `*` only functions without a clause count
+    laws: TEXT           functions whose contracts are laws: an item of a list, or `Laws:` with their names if there is no text
+    unnamed: REASON      public functions that nothing else names; the page doesn't have these. With `*` only functions without a clause count
 
-Told are: a function, clause, law, definition or invariant that isn't there; a named function without a clause, unless its contract is that of a trait; a
+Reported are: a missing function, clause, law, definition or invariant; a named function without a clause, unless its contract is that of a trait; a
 name that two promises of a section have, or that wrong bodies name and no promise has; a public function of the product that no entry names, or that is
-named and listed as unnamed; a page that is another one. The wrong bodies of a promise are those whose edits name it (check_edits.py): those that the gate
-tries by name, and behind a plus how many more are tried on demand. Of a name that several promises have, those of the crates in the heading above count.
+named and listed as unnamed; a page that differs. The wrong bodies of a promise are those whose edits name it (check_edits.py): those that the gate
+tries by name, and after a plus how many more are tried on demand. Of a name that several promises have, those of the crates in the heading above count.
 """
 
 import fnmatch
@@ -69,7 +69,7 @@ def reference_in(line):
 
 
 def with_types(crate, names):
-    """The names, each one of a method of the type before it behind that type."""
+    """The names; a method of the type of the name before it is preceded by that type."""
     found, kind = [], ""
     for name in names:
         kind = name.rpartition("::")[0] or kind
@@ -113,7 +113,7 @@ def promises_in(parts):
 
 @functools.cache
 def functions_of(crate):
-    """By its name, and by the name behind that of its file, each function of a crate."""
+    """Each function of a crate, by its name, and by its file's name and its own."""
     found = {}
     for path in rt_source.sources(os.path.join(CRATES, crate)):
         text = rt_source.without_tests(os.path.basename(path), text_of(path))
@@ -135,13 +135,13 @@ def clauses_of(item):
 
 
 def fitting(crate, name, clauses):
-    """The functions that a name with `*` stands for."""
+    """The functions that a name with `*` matches."""
     some = [item for full, items in functions_of(crate).items() for item in items if full == rt_source.full_name(item) and fnmatch.fnmatchcase(full, name)]
     return [item for item in some if clauses_of(item) and set(clauses) <= set(clauses_of(item))]
 
 
 def found_of(crate, name, clauses):
-    """The functions that a reference's name stands for."""
+    """The functions that a reference's name means."""
     return fitting(crate, name, clauses) if "*" in name else functions_of(crate).get(name, [])
 
 
@@ -159,7 +159,7 @@ def has_definition(crate, name):
 
 
 def has_invariant(crate, name):
-    """Whether the type's model states an invariant."""
+    """Whether the type's model has an invariant."""
     for path in rt_source.sources(os.path.join(CRATES, crate)):
         for item in rt_source.items_in(text_of(path), path):
             if item.kind == "impl" and (item.owner, item.trait) == (name, "Model") and "ghost invariant" in item.text:
@@ -171,7 +171,7 @@ def has_invariant(crate, name):
 
 
 def faults_of(reference):
-    """What a reference names that isn't there."""
+    """What a reference names that doesn't exist."""
     if reference.crate not in crates_of():
         yield f"there is no crate {reference.crate}"
     elif reference.kind != "functions":
@@ -212,7 +212,7 @@ def product():
 
 
 def unnamed_by(reference, public, named):
-    """The public functions that a reference lists as unnamed; behind `*` those without a clause that nothing else names."""
+    """The public functions that a reference lists as unnamed; with `*` those without a clause that nothing else names."""
     for names, _ in reference.groups:
         for name in names:
             if "*" in name:
@@ -223,7 +223,7 @@ def unnamed_by(reference, public, named):
 
 
 def faults_of_coverage(parts):
-    """Public functions of the product that nothing names, or that are listed as unnamed and are not."""
+    """Public functions of the product that nothing names, or that are wrongly listed as unnamed."""
     public, listed_ones = product(), set()
     named = {it for part in parts if isinstance(part, (Promise, Laws)) for it in named_by(part.references)}
     for part in parts:
@@ -239,7 +239,7 @@ def faults_of_coverage(parts):
 
 
 def faults_in(parts, found):
-    """What is wrong with the text, where these are the wrong bodies."""
+    """What is wrong with the text, given the wrong bodies."""
     seen = set()
     for promise, crates in promises_in(parts):
         if not promise.references:
@@ -262,7 +262,7 @@ def ticked(names):
 
 
 def functions_text(groups, kind):
-    """The groups of a reference as they are printed, where the type of the function before is `kind`, and the type of the last one."""
+    """The groups of a reference as they are printed, after a function of the type `kind`, and the type of the last one."""
     text, is_wide = "", False
     for names, clauses in groups:
         for at, name in enumerate(names):
@@ -281,7 +281,7 @@ def groups_of(promise):
 
 
 def same_text(promise, before):
-    """What is printed of a promise whose functions are those of the row above, or nothing where they aren't."""
+    """What is printed of a promise whose functions are those of the row above, otherwise nothing."""
     own, other = groups_of(promise), groups_of(before) if before else []
     if not own or own == other:
         return "the same" if own else ""
@@ -289,7 +289,7 @@ def same_text(promise, before):
 
 
 def contract_text(promise, before, crates):
-    """The contract's cell, where the promise `before` is the one in the row above."""
+    """The contract's cell, after the promise `before` in the row above."""
     same = same_text(promise, before)
     texts, crate, kind = [same] if same else [], "", ""
     for it in promise.references:
@@ -307,7 +307,7 @@ def contract_text(promise, before, crates):
 
 
 def laws_text(laws, crates):
-    """The line of laws: their names, each behind its crate where the heading has another one, and what they say."""
+    """The line of laws: their names, each after its crate if the heading has another one, and what they say."""
     names = "; ".join((f"`{it.crate}` " if it.crate not in crates else "") + functions_text(it.groups, "")[0] for it in laws.references)
     names = "; ".join([names, *laws.notes])
     return f"- {names}: {laws.text}" if laws.text else f"Laws: {names}."
@@ -355,14 +355,14 @@ def main(words):
     parts = parts_of(text_of(TEXT))
     found = check_edits.bodies()
     page = page_of(parts, found)
-    told = [f"docs/promises.txt: {fault}" for fault in faults_in(parts, found)]
+    faults = [f"docs/promises.txt: {fault}" for fault in faults_in(parts, found)]
     if words:
         with open(PAGE, "w", encoding="utf-8") as it:
             it.write(page)
     elif not os.path.exists(PAGE) or text_of(PAGE) != page:
-        told.append("docs/PROMISES.md is not what docs/promises.txt makes of it: tools/house/promises.py --mark")
-    print("\n".join([*told, f"{len([*promises_in(parts)])} promises, {len(product())} public functions, {len(told)} faults"]))
-    return 1 if told else 0
+        faults.append("docs/PROMISES.md differs from what docs/promises.txt gives: tools/house/promises.py --mark")
+    print("\n".join([*faults, f"{len([*promises_in(parts)])} promises, {len(product())} public functions, {len(faults)} faults"]))
+    return 1 if faults else 0
 
 
 if __name__ == "__main__":

@@ -1,16 +1,16 @@
-"""What refuses a wrong body, as far as a tool for text can tell: the functions that it changes, and what their proof sees of all else.
+"""What refuses a wrong body, as far as the text shows: the functions that it changes, and what their proof sees of everything else.
 
-`Tree.sums(crate, edit)` gives two checksums of a body, or None where it can't be applied. The first is of the items that it changes: a function with its
+`Tree.sums(crate, edit)` returns two checksums of a body, or None if it can't be applied. The first is of the items that it changes: a function with its
 signature, contract and body, a type, the head of an `impl`; of a file of specs/ or proofs/ the definitions. The second is of what they reach:
 
-- the contracts (signature and clauses) of the functions that these items name, before the change or behind it, and no bodies; where a name stands behind
-  `TYPE::`, those of that type, and else all of that name in the crate and in those below it;
+- the contracts (signature and clauses) of the functions that these items name, before or after the change, and no bodies; if a name follows
+  `TYPE::`, those of that type, and otherwise all of that name in the crate and in those below it;
 - the types and traits that items and contracts name: of the crate itself whole, with views, invariants and the contracts of their traits; of one below
-  with a model its value alone, since no more is seen of it; of enums the variants that anything reached names;
+  with a model its value alone, since no more is seen of it; of enums the variants that something reached names;
 - the constants that they name, and the definitions that clauses, views and constants reach, through the specs/ of all crates.
 
-Comments, blank lines, tests and places don't count. A few things too many are counted, as all methods of one name; what the kit's library has is not.
-`tree_here()` has the repository as it stands; a `Tree` is made of any texts by their paths.
+Comments, blank lines, tests and places don't count. A few things too many do, as all methods of one name; the kit's library doesn't.
+`tree_here()` is the repository's text; a `Tree` is made of any texts by their paths.
 """
 
 import functools
@@ -55,7 +55,7 @@ def changes_in(edit):
 
 
 class Declared:
-    """What the words of a text stand for that are Rust's: types and constants of a crate."""
+    """The Rust types and constants of a crate that the words of a text mean."""
 
     def __init__(self, text):
         self.words = {}
@@ -86,7 +86,7 @@ class Tree:
     # What an edit changes.
 
     def applied(self, crate, edit):
-        """The texts that the edit changes, each before and behind it; None where it can't be applied."""
+        """The texts that the edit changes, each before and after it; None if it can't be applied."""
         found = {}
         for file, old, new in changes_in(edit):
             path = f"crates/{crate}/{file}"
@@ -97,16 +97,16 @@ class Tree:
         return found or None
 
     def changed(self, crate, edit):
-        """The items that the edit changes, before it and behind it; None where it can't be applied."""
+        """The items that the edit changes, before and after it; None if it can't be applied."""
         texts = self.applied(crate, edit)
         if texts is None:
             return None
-        before, behind = [], []
+        before, after = [], []
         for path, (_, text) in texts.items():
             old, new = self.parts(path), parts_of(text, path)
             before += [it for key, it in old.items() if key not in new or new[key].text != it.text]
-            behind += [it for key, it in new.items() if key not in old or old[key].text != it.text]
-        return before, behind
+            after += [it for key, it in new.items() if key not in old or old[key].text != it.text]
+        return before, after
 
     def parts(self, path):
         if ("", path) not in self.kept:
@@ -119,12 +119,12 @@ class Tree:
         found = self.changed(crate, edit)
         if found is None:
             return None
-        own, behind = found
+        own, after = found
         users = self.users(crate, own)
-        return sum_of(it.text for it in own), sum_of({*self.reached(crate, own + users, behind), *(it.text for it in users)})
+        return sum_of(it.text for it in own), sum_of({*self.reached(crate, own + users, after), *(it.text for it in users)})
 
     def users(self, crate, own):
-        """The functions of the crate that name what is changed, where that is no function: their contracts refuse it."""
+        """The functions of the crate that name what is changed, if that is no function: their contracts refuse it."""
         names = {it.name for it in own if it.kind not in ("fn", "impl", "definition")}
         if not names:
             return []
@@ -150,11 +150,11 @@ class Tree:
                 found.update((id(it), it) for it in known)
         return [*found.values()]
 
-    def reached(self, crate, own, behind):
-        """The texts of all that the items reach, but their own."""
+    def reached(self, crate, own, after):
+        """The texts of all that the items reach, except their own."""
         texts, enums, wait, types = set(), set(), [], {}
-        callees = [it for it in self.called(crate, [*own, *behind]) if it not in own]
-        for item in [*own, *behind, *callees]:
+        callees = [it for it in self.called(crate, [*own, *after]) if it not in own]
+        for item in [*own, *after, *callees]:
             whole = item.contract if item in callees else item.text
             if item in callees:
                 texts.add(item.contract)
@@ -180,7 +180,7 @@ class Tree:
                     for it in more:
                         types.setdefault(it, False)
         texts.discard("")
-        words = set().union(*map(words_in, texts), *(words_in(it.text) for it in (*own, *behind))) if enums else ()
+        words = set().union(*map(words_in, texts), *(words_in(it.text) for it in (*own, *after))) if enums else ()
         return texts | {named_variants(it, words) for it in enums}
 
     def type_texts(self, crate, name, is_declared):
@@ -220,7 +220,7 @@ class Tree:
         return self.imported[path]
 
     def words(self, path, text):
-        """The definitions that a clause of the file names, and as such the types and constants."""
+        """The definitions that a clause of the file names, and the types and constants as such."""
         if (path, text) not in self.kept:
             imports, declared = self.imports(path)
             self.kept[path, text] = [*((place_of(at), word) for at, word in imports.reached(text)), *(("", it) for it in declared.reached(text))]
@@ -253,7 +253,7 @@ def spec_path(path):
 
 
 def visible(text, path, crate):
-    """A type's text, of one below without the fields that are not public."""
+    """A type's text; of one below without the private fields."""
     if path.split("/")[1] == crate or not re.search(r"^pub(?:\([a-z]+\))? struct ", text, re.M):
         return text
     return "\n".join(it for it in text.split("\n") if re.match(r"\s*pub ", it))
@@ -281,7 +281,7 @@ def chunks_at(lines, indent):
 
 
 def parts_of(text, path):
-    """The items of a source, or the definitions of a file of those, each by a key that it keeps where its text changes."""
+    """The items of a source, or the definitions of a file of those, each by a key that it keeps if its text changes."""
     if path.endswith(".rt"):
         items = items_of(text, path)
     else:
@@ -298,7 +298,7 @@ def sum_of(texts):
 
 
 def tree_here():
-    """The repository as it stands."""
+    """The repository's present text."""
     texts = {}
     for path in ["crates.txt", *glob.glob("crates/*/*/**/*.*", root_dir=ROOT, recursive=True)]:
         if READ.fullmatch(path):

@@ -1,15 +1,15 @@
 """Tries many wrong bodies of a crate by few checks.
 
-A function is proved by itself, over the contracts of what it calls. So bodies that change different functions can stand in one text, and what one check
-says of each of these functions is said of its body. `rounds_of` puts the bodies of a crate into as few such texts as it can; `try_round` writes one of them
-into a copy of the repository, checks its functions, and gives the reason of each refusal:
+A function is proved by itself, over the contracts of what it calls. So bodies that change different functions can be put into one text, and what one check
+reports of each of these functions is the result of its body. `rounds_of` puts the bodies of a crate into as few such texts as it can; `try_round` writes one of them
+into a copy of the repository, checks its functions, and returns the reason of each refusal:
 
-    clause    a clause isn't proved: a search went through all that it tries, and found no proof
-    fits      a proof no longer fits its goal, or names what is gone, and no clause is told of
+    clause    a clause isn't proved: a search exhausted what it tries, and found no proof
+    fits      a proof no longer fits its goal, or names what is gone, and no clause is reported
     limit     of each clause that isn't proved the search gave up at a limit
     none      the function is proved: the body is refused by nothing
 
-A body that changes anything but functions, as a constant, isn't tried so (`alone`), and nor is one that the check doesn't tell of.
+A body that changes anything but functions, as a constant, isn't tried so (`alone`), nor is one that the check doesn't report.
 """
 
 import os
@@ -27,7 +27,7 @@ GAVE_UP = re.compile(r"; `\w+` gave up")
 
 
 def functions_of(tree, crate, body_text):
-    """The functions that an edit changes, each as its file, owner, trait and name; None where it changes anything else, or two of one file."""
+    """The functions that an edit changes, each as its file, owner, trait and name; None if it changes anything else, or two of one file."""
     found = tree.changed(crate, body_text)
     if found is None or not found[0] or any(it.kind != "fn" for items in found for it in items):
         return None
@@ -36,7 +36,7 @@ def functions_of(tree, crate, body_text):
 
 
 def rounds_of(functions):
-    """Lists of bodies, in each of which no two change one function; `functions` has those of each body."""
+    """Lists of bodies, no two of which in one list change one function; `functions` has those of each body."""
     rounds = []
     for body, own in functions.items():
         fitting = next((it for it in rounds if not any(own & functions[other] for other in it)), None)
@@ -65,16 +65,16 @@ class Copy:
             it.write(text)
 
     def apply(self, text):
-        """Writes the body in; False, and nothing is changed, where one of its old texts doesn't stand there once."""
+        """Writes the body in; returns False, without a change, if one of its old texts doesn't occur exactly once."""
         now = {}
         for path, old, new in changes_in(text):
             before = now.get(path) or self.read(path)
             if before.count(old) != 1:
                 return False
             now[path] = before.replace(old, new)
-        for path, behind in now.items():
+        for path, changed in now.items():
             self.first.setdefault(path, self.read(path))
-            self.write(path, behind)
+            self.write(path, changed)
         return True
 
     def restore(self):
@@ -84,7 +84,7 @@ class Copy:
 
 
 def is_of(full, function):
-    """Whether the name that a check prints is that of the function: crate, modules, owner (of a trait's `impl` with more behind it) and name."""
+    """Whether the name that a check prints is that of the function: crate, modules, owner (of a trait's `impl` with more after it) and name."""
     _, owner, trait, name = function
     parts = full.split("::")
     if parts[-1] != name or len(parts) < 2:
@@ -105,7 +105,7 @@ def check(crate_folder, words):
 
 
 def check_named(crate_folder, functions, run):
-    """The same, with each name written out where several functions have it."""
+    """The same, with each name written out if several functions have it."""
     words = {it: [word_of(it)] for it in functions}
     said = ""
     while words:
@@ -121,7 +121,7 @@ def check_named(crate_folder, functions, run):
 
 
 def reasons_of(said, copy, functions):
-    """Why each of the functions was refused, by what the check said; a function of which nothing was said is left out."""
+    """Why each of the functions was refused, by what the check said; a function without a verdict is left out."""
     owners, notes = {}, {}
     for path, line, rest in NOTE.findall(said):
         if not copy.has(path):
@@ -134,9 +134,9 @@ def reasons_of(said, copy, functions):
     for function in functions:
         own = [verdict for full, verdict in verdicts if is_of(full, function)]
         if own:
-            told = notes.get((function[0], (function[1], function[3])), [])
-            by_limit = all(map(GAVE_UP.search, told))
-            found[function] = "none" if {*own} == {"proved"} else "fits" if not told else "limit" if by_limit else "clause"
+            unproved = notes.get((function[0], (function[1], function[3])), [])
+            by_limit = all(map(GAVE_UP.search, unproved))
+            found[function] = "none" if {*own} == {"proved"} else "fits" if not unproved else "limit" if by_limit else "clause"
     return found
 
 
@@ -150,7 +150,7 @@ def try_round(copy, bodies, functions, texts, run=check):
     finally:
         copy.restore()
     if not reasons and len(applied) > 1:
-        # One of them doesn't compile, so nothing is said of the others.
+        # One of them doesn't compile, so the check says nothing of the others.
         half = len(applied) // 2
         return {**try_round(copy, applied[:half], functions, texts, run), **try_round(copy, applied[half:], functions, texts, run)}
     order = ("clause", "limit", "fits", "none")

@@ -1,8 +1,8 @@
-"""Reads the sources of the crates (`.rt`) as text: their items, the signatures and clauses of functions, and how long bodies are.
+"""Reads the sources of the crates (`.rt`) as text: their items, the signatures and clauses of functions, and the lengths of bodies.
 
 The readers of contracts all go through this module: `contracts.py` compares them, `spec_guide.py` and `reach.py` follow their words to definitions,
-`check_edits.py` asks which functions there are, `rounds.py` which function a line belongs to, and `house.py` counts. Nothing is parsed beyond what the
-layout of `rt fmt` gives: an item begins at the depth of its block, and a body at a `{` at the end of a line.
+`check_edits.py` looks up which functions there are, `rounds.py` which function a line belongs to, and `house.py` counts. Nothing is parsed beyond the
+layout of `rt fmt`: an item begins at the depth of its block, and a body at a `{` at the end of a line.
 """
 
 import glob
@@ -24,7 +24,7 @@ CLAUSE = re.compile(r"(requires|ensures)\*?(?: (\w+))? (?=\{)")
 CLAUSE_WORD = re.compile(r"(?:requires|ensures)\b")
 # An item of a source: its kind, the type (or, of a trait's function, the trait) and the trait that it belongs to, its name, text and contract.
 Item = namedtuple("Item", "kind owner trait name text contract path")
-# A function as it is counted: its file and name, how many parameters it has, and how many lines its body.
+# The size of a function: its file and name, its number of parameters, and the lines of its body.
 Size = namedtuple("Size", "file name parameters body")
 Clause = namedtuple("Clause", "kind name text")
 
@@ -42,7 +42,7 @@ def plain(text):
 
 
 def blanked(text):
-    """The code with nothing in its comments and literals; each line stays."""
+    """The code with empty comments and literals; each line stays."""
     return LITERAL.sub(lambda it: ("" if it[0].startswith("/") else it[0][0] * 2) + "\n" * it[0].count("\n"), text)
 
 
@@ -95,7 +95,7 @@ def owner_of(head):
 
 
 def items_in(text, path):
-    """The items of a source, those of an `impl` or a trait one by one, and what such a block has beside functions as one."""
+    """The items of a source, those of an `impl` or a trait one by one, and the rest of such a block as one."""
     for lines in chunks(plain(text), ""):
         body = [it for it in lines if not it.startswith("#")] or [""]
         named = NAMED.match(body[0])
@@ -119,7 +119,7 @@ def items_in(text, path):
 
 
 def functions_in(text, path=""):
-    """The functions of a source, those of the modules that are written in it too."""
+    """The functions of a source, those of its inline modules too."""
     for item in items_in(text, path):
         if item.kind == "fn":
             yield item
@@ -134,18 +134,18 @@ def sources(folder):
 
 
 def full_name(item):
-    """A function's name, behind that of its type or trait where it has one."""
+    """A function's name, after that of its type or trait if it has one."""
     return f"{item.owner}::{item.name}" if item.owner else item.name
 
 
 def is_public(item):
-    """Whether other crates may call the function, as far as its own words say; those of a trait are as public as the trait."""
+    """Whether other crates may call the function, by its own words; those of a trait are as public as the trait."""
     head = signature_in(item).partition("\n")[0]
     return head.startswith("pub ") or bool(item.trait) and not head.startswith("pub(")
 
 
 def exports(text):
-    """The words that the root of a crate hands on from its modules, and the modules that are public themselves."""
+    """The words that the root of a crate exports from its modules, and the modules that are public themselves."""
     text = without_comments(text)
     uses = re.findall(r"(?m)^pub use (?:self::)?([\w:]+?)(?:::\{([^}]*)\}|::(\w+)(?: as \w+)?)?;", text)
     names = {it.split(" as ")[0].strip() for path, some, one in uses for it in (some or one or path).split(",")}
@@ -192,7 +192,7 @@ def clauses_in(item):
 
 
 def owners_in(text):
-    """By the number of each line of a source, from 1, the owner and name of the function that it is in, or None."""
+    """The owner and name of the function that each line of a source is in, or None, by the number of the line, from 1."""
     owner, name, found = "", None, [None]
     lines = text.split("\n")
     for at, line in enumerate(lines):
@@ -207,7 +207,7 @@ def owners_in(text):
             name = (owner if line.startswith(" ") else "", named[1])
             above = at
             while lines[above - 1].lstrip().startswith("#["):
-                found[above] = name  # the checker tells of a function by the first of its attributes
+                found[above] = name  # the checker reports a function at its first attribute
                 above -= 1
         found.append(name)
     return found
@@ -222,7 +222,7 @@ def filled(text):
 
 
 def past(text, at, pairs):
-    """The place behind what is opened at this one."""
+    """The place after the closing sign of the one at this place."""
     depth = 0
     for at in range(at, len(text)):
         depth += (text[at] in pairs[0]) - (text[at] in pairs[1] and text[at - 1 : at + 1] not in ("->", "=>"))
@@ -232,7 +232,7 @@ def past(text, at, pairs):
 
 
 def parameters_in(text):
-    """How many parameters a list of them has, its receiver too."""
+    """The number of parameters in a list, its receiver too."""
     depth, count, any_of_it = 0, 0, False
     for at, sign in enumerate(text):
         depth += (sign in "([{<") - (sign in ")]}" or (sign == ">" and text[at - 1] not in "-="))
@@ -244,7 +244,7 @@ def parameters_in(text):
 
 
 def body_at(text, at):
-    """The body that follows a function's parameters and clauses, or nothing where it has none."""
+    """The body that follows a function's parameters and clauses, or nothing if it has none."""
     while at < len(text):
         if text[at] in "([":
             at = past(text, at, ("([", ")]"))
@@ -260,7 +260,7 @@ def body_at(text, at):
 
 
 def sizes_in(file, text):
-    """The functions of a source, with how many parameters each has, and how many lines its body."""
+    """The functions of a source, each with its number of parameters, and the lines of its body."""
     text = blanked(text)
     for head in re.finditer(r"\bfn\s+(\w+)", text):
         at = head.end()

@@ -1,15 +1,15 @@
 #!/usr/bin/env python3
-"""Tells which files of definitions have to be read, and believed, with a contract: those that its clauses' words reach.
+"""Lists the files of definitions that have to be read, and believed, with a contract: those that its clauses' words reach.
 
     spec_guide.py                     the lists of the headline contracts
     spec_guide.py --mark              writes them into docs/ARCHITECTURE.md
-    spec_guide.py --check             tells whether they stand there as they are; the status is 1 where they don't
-    spec_guide.py CRATE FUNCTION      that of one function, with the words of each file
-    spec_guide.py CRATE FUNCTION WORD why the word is reached: the way to it from the clauses
+    spec_guide.py --check             tests whether the page has the present lists; the status is 1 if it doesn't
+    spec_guide.py CRATE FUNCTION      the list of one function, with the words of each file
+    spec_guide.py CRATE FUNCTION WORD why the word is reached: the path to it from the clauses
 
 The words of its clauses are followed through the imports of its file to the definition of each, and so on from that definition. A
-file counts where one of its words is reached, with all its lines. The files stand in the order in which they can be read: each
-behind those that it imports words from. Rust's types and the words of the standard library are not followed.
+file counts if one of its words is reached, with all its lines. The files are listed in the order in which they can be read: each
+after those from which it imports words. Rust's types and the words of the standard library are not followed.
 """
 
 import itertools
@@ -43,7 +43,7 @@ def spec_path(crate, module):
 
 
 class Imports:
-    """What the words of a text stand for: a file and a word of it."""
+    """The meanings of the words of a text: a file and a word of it."""
 
     def __init__(self, text):
         self.words, self.modules = {}, {}
@@ -94,7 +94,7 @@ class Spec:
                 self.definitions[name] = self.definitions.get(name, "") + line + "\n"
 
     def reached(self, word, path):
-        """The files and words that the definition names. A constructor stands for its type."""
+        """The files and words that the definition names. A constructor counts as its type."""
         text = self.definitions.get(word)
         if text is None:
             word = next((it for it in self.definitions if re.search(r"^  (pub )?%s :" % re.escape(word), self.definitions[it], re.M)), word)
@@ -107,7 +107,7 @@ class Spec:
 
 
 def clauses_of(crate, function):
-    """The clauses of the function, and what the words of its file stand for."""
+    """The clauses of the function, and the meanings of the words of its file."""
     owner, _, name = function.rpartition("::")
     for path in rt_source.sources(os.path.join(CRATES, crate)):
         text = text_of(path)
@@ -135,7 +135,7 @@ def reach(functions):
 
 
 def in_order(specs):
-    """The files, lower crates first, and each behind those that it imports from."""
+    """The files, lower crates first, and each after those that it imports from."""
     order, seen = [], set()
 
     def visit(path):
@@ -178,7 +178,7 @@ def headlines():
 
 
 def listed(order, specs, known):
-    """The files that no list before has named, in order; of the others how many there are."""
+    """The files that no list before has named, in order; of the others their number."""
     old = [it for it in order if it in known]
     parts = ["%d files named above (%d lines)" % (len(old), sum(specs[it].lines for it in old))] if old else []
     for crate, paths in itertools.groupby((it for it in order if it not in known), crate_of):
@@ -187,11 +187,11 @@ def listed(order, specs, known):
 
 
 def marked(page):
-    """The page with the lists in the place of those that it has."""
+    """The page with the present lists instead of its own."""
     before, title, rest = page.partition("\n## What has to be believed\n")
-    text, plan, behind = rest.partition("\n## What is to be bettered\n")
+    text, plan, after = rest.partition("\n## What is to be bettered\n")
     kept = [line for line in text.rstrip().split("\n") if not line.startswith("- **")]
-    return before + title + "\n".join(kept).rstrip() + "\n\n" + "\n".join(headlines()) + "\n" + plan + behind
+    return before + title + "\n".join(kept).rstrip() + "\n\n" + "\n".join(headlines()) + "\n" + plan + after
 
 
 def mark():
@@ -203,27 +203,27 @@ def mark():
 def check():
     page = text_of(PAGE)
     if marked(page) != page:
-        sys.exit("docs/ARCHITECTURE.md: what has to be believed isn't listed as it is: tools/house/spec_guide.py --mark")
+        sys.exit("docs/ARCHITECTURE.md: the lists of what has to be believed are stale: tools/house/spec_guide.py --mark")
 
 
-def tell_one(crate, function):
+def print_one(crate, function):
     came, specs = reach([(crate, function)])
     total = 0
     for path in in_order(specs):
         words = [word for at, word in came if at == path]
         total += specs[path].lines
         print("%5d  %s: %s" % (specs[path].lines, name_of(path), " ".join(words)))
-    print("%5d  in all" % total)
+    print("%5d  in total" % total)
 
 
-def tell_way(crate, function, word):
+def print_path(crate, function, word):
     came, _ = reach([(crate, function)])
     for at in [it for it in came if it[1] == word]:
-        way = []
+        path = []
         while at:
-            way.append("%s %s" % (name_of(at[0]), at[1]))
+            path.append("%s %s" % (name_of(at[0]), at[1]))
             at = came[at]
-        print(" < ".join(way))
+        print(" < ".join(path))
 
 
 def main():
@@ -235,9 +235,9 @@ def main():
     elif words == ["--check"]:
         check()
     elif len(words) == 2:
-        tell_one(*words)
+        print_one(*words)
     elif len(words) == 3:
-        tell_way(*words)
+        print_path(*words)
     else:
         sys.exit(__doc__)
 

@@ -4,26 +4,26 @@
     try_bodies.py                   tries all of them
     try_bodies.py NAME..            those of these crates
     try_bodies.py NAME/BODY..       these alone
-    try_bodies.py --since           those of which no note is of today's text
-    try_bodies.py --list            tells of each crate how many were refused on today's text, how many notes are void, and how many bodies were never
-                                    tried; then what is to be mended; the last line has the sums
-    try_bodies.py --known           tells which bodies were refused and not tried again since the function that they change was another one; the status
-                                    is 1 where there is one; the last line has the sums
+    try_bodies.py --since           those without a note of today's text
+    try_bodies.py --list            prints for each crate how many were refused on today's text, how many notes are void, and how many bodies were never
+                                    tried; then those to improve; the last line has the sums
+    try_bodies.py --known           prints the bodies that were refused and not tried again after the function that they change has changed; the status
+                                    is 1 if there is one; the last line has the sums
 
-They are tried on a copy of the repository, as many crates side by side as --lanes N says (one where it isn't given), once the libraries below
+They are tried on a copy of the repository, N crates at a time with --lanes N (otherwise one), once the libraries below
 them are built: bodies that change different functions in one text, by one check of these functions (tools/house/rounds.py), and the others
 one by one, by `rt must-fail`. What was refused is noted in tools/house/tried, a line for each crate, reason and date, in which a body has
-three checksums: of its own text, of the items that it changes, and of what these reach (tools/house/reach.py). A note is void once one of them
-is another one. The reason is what `rt` says of the refusal:
+three checksums: of its own text, of the items that it changes, and of what these reach (tools/house/reach.py). A note is void once one of
+them differs. The reason is what `rt` says of the refusal:
 
     clause    a clause isn't proved, or a law: this alone counts as refused
-    fits      a proof no longer fits its goal, or names what is gone: it refuses the shape of the code, and the body is to be mended
-    limit     the prover gave up at each clause that it didn't prove, so it is to be mended too
-    refused   noted before reasons were, and carried over where the text had not changed: it counts as refused
+    fits      a proof no longer fits its goal, or names what is gone: it refuses the shape of the code, and the body must be improved
+    limit     the prover gave up at each clause that it didn't prove, so it must be improved too
+    refused   noted before reasons were, and kept if the text had not changed: it counts as refused
     earlier   noted on an earlier text, without these checksums: it is void
 
-A body stands here, and not in must-fail/, where another one in the gate is refused by the same clause, where it is
-neither named by a promise nor the one of a public function, or where the check that it needs is dear (docs/BENCHMARKS.md, the gate's budget).
+A body is here, and not in must-fail/, if another one in the gate is refused by the same clause, if it is
+neither named by a promise nor the only one of a public function, or if its check is expensive (docs/BENCHMARKS.md, the gate's budget).
 """
 
 import argparse
@@ -48,7 +48,7 @@ from tools.house import reach, rounds
 from tools.house.gate_times import crates_of
 
 RECORD = os.path.join(ROOT, "tools", "house", "tried")
-REFUSED, MENDED = ("clause", "refused"), ("fits", "limit")
+REFUSED, TO_IMPROVE = ("clause", "refused"), ("fits", "limit")
 SAID = re.compile(r"must-fail (\w+)/([\w.-]+)\.edit: refused, as it must be(.*)")
 GAVE_UP = re.compile(r"; `(?:search|grind)` gave up")
 UNPROVED = re.compile(r"it is not proved that|no proof of the law|the law does not hold|`search` did not prove")
@@ -74,13 +74,13 @@ def edit_of(name, body):
 
 
 def body_sum(name, body):
-    """The checksum of what it changes: the promises that it names are no part of it."""
+    """The checksum of what it changes: its promises are no part of it."""
     text = "".join(line for line in edit_of(name, body).splitlines(True) if not line.startswith("promise:"))
     return hashlib.sha256(text.encode()).hexdigest()[:6]
 
 
 class Today:
-    """The three checksums of each body, on the text as it stands."""
+    """The three checksums of each body, on the present text."""
 
     def __init__(self):
         self.tree = reach.tree_here()
@@ -91,7 +91,7 @@ class Today:
 
 
 def reason_of(said):
-    """Why a body was refused, by what `rt` says behind `refused, as it must be`."""
+    """Why a body was refused, by what `rt` says after `refused, as it must be`."""
     if said.startswith(" (only by a limit") or GAVE_UP.search(said):
         return "limit"
     place = re.match(r": (?:note: )?(?:\./)?(\w+)/", said)
@@ -120,7 +120,7 @@ class Record:
         return reason if reason == "never" or reason != "earlier" and sums == today.sums(name, body) else "void"
 
     def is_forgotten(self, name, body, today):
-        """Whether it was refused, and what it changes is another text since."""
+        """Whether it was refused, and what it changes has changed since."""
         reason, _, sums = self.notes.get((name, body), ("never", "", ()))
         return reason in REFUSED and sums[1] != today.sums(name, body)[1]
 
@@ -128,7 +128,7 @@ class Record:
         self.notes[name, body] = reason, str(datetime.date.today()), sums
 
     def write(self):
-        """Writes a line for each crate, reason and date; bodies that are no more are left out."""
+        """Writes a line for each crate, reason and date; bodies that no longer exist are left out."""
         lines = {}
         for (name, body), (reason, date, sums) in sorted(self.notes.items()):
             if os.path.exists(path_of(name, body)):
@@ -150,13 +150,13 @@ def try_crate(copy, name, bodies, tree, check=rounds.check):
     """The reason of each body that was refused; those that no clause refused are printed."""
     texts = {it: edit_of(name, it) for it in bodies}
     functions = {it: rounds.functions_of(tree, name, texts[it]) for it in bodies}
-    told = {}
+    reasons = {}
     for together in rounds.rounds_of({it: own for it, own in functions.items() if own}):
-        told.update(rounds.try_round(rounds.Copy(f"{copy}/crates/{name}"), together, functions, texts, check))
-    alone = [it for it in bodies if it not in told]
+        reasons.update(rounds.try_round(rounds.Copy(f"{copy}/crates/{name}"), together, functions, texts, check))
+    alone = [it for it in bodies if it not in reasons]
     if alone:
-        told.update(try_alone(copy, name, alone))
-    refused = {it: reason for it, reason in told.items() if reason != "none"}
+        reasons.update(try_alone(copy, name, alone))
+    refused = {it: reason for it, reason in reasons.items() if reason != "none"}
     count = sum(it == "clause" for it in refused.values())
     others = [f"{name}/{it}: {refused.get(it, 'NOT REFUSED')}" for it in bodies if refused.get(it) != "clause"]
     print(f"{name}: {count} of {len(bodies)} refused by a clause", *others, sep="\n", flush=True)
@@ -181,7 +181,7 @@ def linked(one, other):
 
 
 def copy_in(folder):
-    """A copy of the repository, in which these crates have no body of the gate."""
+    """A copy of the repository, in which these crates have no wrong body of the gate."""
     shutil.copytree(ROOT, folder, ignore=shutil.ignore_patterns(".git"), copy_function=linked)
     for name in crates():
         shutil.rmtree(f"{folder}/crates/{name}/must-fail", ignore_errors=True)
@@ -189,7 +189,7 @@ def copy_in(folder):
 
 
 def try_all(chosen, lanes):
-    """Tries the chosen bodies, by crate, and notes what came of each crate's once they are tried. The status is 1 where no clause refused one."""
+    """Tries the chosen bodies, by crate, and notes the results of each crate once they are tried. The status is 1 if one wasn't refused by a clause."""
     today = Today()
     with tempfile.TemporaryDirectory(prefix="tried-") as room:
         copy = os.path.join(room, "copy")
@@ -203,7 +203,7 @@ def try_all(chosen, lanes):
 
 
 def note_crate(name, bodies, reasons, today):
-    """Notes why these bodies of a crate were refused, and returns whether a clause refused each; one that wasn't refused has no note any more."""
+    """Notes why these bodies of a crate were refused, and returns whether a clause refused each; one that wasn't refused loses its note."""
     record = Record()
     for body in bodies:
         if body in reasons:
@@ -215,11 +215,11 @@ def note_crate(name, bodies, reasons, today):
 
 
 def counted(states):
-    """So many bodies by their states, in words."""
+    """The numbers of bodies by their states, in words."""
     count = collections.Counter(states)
     refused = sum(count[it] for it in REFUSED)
-    mended = "".join(f", {count[it]} {words}" for it, words in zip(MENDED, ("refused by the shape of a proof", "by a limit")) if count[it])
-    return f"{refused} refused on today's text ({count['clause']} seen by a clause), {count['void']} void, {count['never']} never tried{mended}"
+    improved = "".join(f", {count[it]} {words}" for it, words in zip(TO_IMPROVE, ("refused by the shape of a proof", "by a limit")) if count[it])
+    return f"{refused} refused on today's text ({count['clause']} seen by a clause), {count['void']} void, {count['never']} never tried{improved}"
 
 
 def sum_line(states):
@@ -230,30 +230,30 @@ def states_today(record, today):
     return {(name, body): record.state(name, body, today) for name in crates() for body in bodies_of(name)}
 
 
-def tell():
+def list_states():
     states = states_today(Record(), Today())
     for name in crates():
         own = [state for (crate, _), state in states.items() if crate == name]
         print(f"{name}: {len(own)} bodies, {counted(own)}")
     for (name, body), state in states.items():
-        if state in MENDED:
-            print(f"to be mended ({state}): {name}/{body}")
+        if state in TO_IMPROVE:
+            print(f"to improve ({state}): {name}/{body}")
     print(sum_line(states))
     return 0
 
 
-def tell_known():
+def list_forgotten():
     record, today = Record(), Today()
     states = states_today(record, today)
     forgotten = [f"{name}/{body}" for name, body in states if record.is_forgotten(name, body, today)]
     for it in forgotten:
-        print(f"{it}: what it changes is another text than when it was refused, and it was not tried again: tools/house/try_bodies.py {it}")
+        print(f"{it}: what it changes has changed since it was refused, and it was not tried again: tools/house/try_bodies.py {it}")
     print(sum_line(states))
     return 1 if forgotten else 0
 
 
 def chosen_of(words, is_since):
-    """The bodies that are to be tried, by crate."""
+    """The bodies to try, by crate."""
     known = crates()
     chosen = {}
     for word in words or known:
@@ -276,9 +276,9 @@ def main():
     reader.add_argument("--lanes", type=int, default=1)
     given = reader.parse_args()
     if given.list:
-        return tell()
+        return list_states()
     if given.known:
-        return tell_known()
+        return list_forgotten()
     return try_all(chosen_of(given.names, given.since), given.lanes)
 
 

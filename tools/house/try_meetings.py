@@ -1,25 +1,25 @@
 #!/usr/bin/env python3
-"""Tries bodies that no proof refuses, since nothing is promised of waiting, or since memory may always be wanting: those in
+"""Tries wrong bodies that no proof refuses, since nothing is promised of waiting, or since memory may always run out: those in
 tools/house/meetings/*.edit, each of which must be seen in what the threads of crates/test_threads leave, in a run of a workload, or by a test.
 
     try_meetings.py            tries all of them
     try_meetings.py NAME..     these alone
-    try_meetings.py --since    those that weren't tried on the text of their crates as it is now
-    try_meetings.py --list     tells when each was last tried; the status is 1 where one wasn't on this text
-    try_meetings.py --known    the same, but the status is 1 only where one was never seen as it stands now: the gate asks that
+    try_meetings.py --since    those that weren't tried on the present text of their crates
+    try_meetings.py --list     prints when each was last tried; the status is 1 if one wasn't on this text
+    try_meetings.py --known    the same, but the status is 1 only if one was never seen with its present text: the gate tests that
 
 An edit is written as those of crates/*/must-fail are, with its files named from the folder crates/ on. One more line says where it must be seen:
 
-- `meeting: NAME`: in the meeting's line in what the program prints, which must then have the text behind `shows:`, which it hasn't as it stands (where
+- `meeting: NAME`: in the meeting's line in what the program prints, which must then have the text after `shows:`, which it doesn't have without the edit (if
   none is given, `met false`: the threads miss one another); or, with `ends: never`, by there being no such line once `rt try` stops the
-  program, which has one as it stands;
-- `workload: NAME WORDS`: in a run of examples/NAME.pcw with these words, which must then print something else than examples/NAME.out;
-- `test: CRATE NAME`: by the test, which must then fail, and passes as it stands.
+  program, which prints one without the edit;
+- `workload: NAME WORDS`: in a run of examples/NAME.pcw with these words, whose output must then differ from examples/NAME.out;
+- `test: CRATE NAME`: by the test, which must then fail, and passes without the edit.
 
-Each is tried on a copy of the repository with the libraries that are built in it, by `rt try` of the program or of the tests: a minute or more each. What was seen is noted in
-tools/house/meetings/tried: the body, its checksum, that of the sources of the crates that it changes and of the crate in which it is seen, with the test crates
-that this one stands on, and the date.
-The status is 1 where a body changes nothing, ends without saying so, or isn't seen.
+Each is tried on a copy of the repository with its built libraries, by `rt try` of the program or of the tests: a minute or more each. What was seen is noted in
+tools/house/meetings/tried: the body, its checksum, that of the sources of the crates that it changes and of the crate in which it is seen, with the test crates on which
+this one depends, and the date.
+The status is 1 if a body changes nothing, ends without saying so, or isn't seen.
 """
 
 import argparse
@@ -65,7 +65,7 @@ def crate_of(lines):
 
 
 def sums_of(name):
-    """The checksum of the edit, and that of the sources that it changes, with those in which it is seen."""
+    """The checksum of the edit, and that of the sources that it changes and in which it is seen."""
     lines, found = lines_of(name), hashlib.sha256()
     changed = {rest.split("/")[0] for word, rest in lines if word == "file"}
     seen = crate_of(lines)
@@ -77,7 +77,7 @@ def sums_of(name):
 
 
 def record():
-    """Of each body that was seen the two checksums of then, and the date."""
+    """By each body that was seen its two checksums at that time, and the date."""
     text = text_of(RECORD) if os.path.exists(RECORD) else ""
     words = [line.split(" ") for line in text.splitlines() if not line.startswith("#")]
     return {name: ((own, text), date) for name, own, text, date in words}
@@ -105,15 +105,15 @@ def applied(lines, crates):
         elif word == "old":
             old = rest
             if text.count(old) != 1:
-                sys.exit(f"{path}: the old text stands {text.count(old)} times: {old}")
+                sys.exit(f"{path}: the old text occurs {text.count(old)} times: {old}")
         elif word == "new":
             text = text.replace(old, rest)
             with open(path, "w", encoding="utf-8") as it:
                 it.write(text)
 
 
-def told(lines, crate, *words):
-    """The lines that `rt try` prints in the crate on a copy with the edit; and the end of all that is printed."""
+def run_copy(lines, crate, *words):
+    """The lines that `rt try` prints in the crate in a copy with the edit; and the end of all output."""
     with tempfile.TemporaryDirectory(prefix="meetings-") as room:
         copy = os.path.join(room, "copy")
         shutil.copytree(ROOT, copy, ignore=shutil.ignore_patterns(".git"), copy_function=linked)
@@ -127,45 +127,45 @@ def line_of(begin, printed):
 
 
 def seen_in_meeting(lines):
-    """What is wrong with the meeting under the edit, or nothing."""
+    """What is wrong with the meeting with the edit, or nothing."""
     given = dict(lines)
     meeting, shows = given["meeting"], given.get("shows", MISSED)
     if shows in line_of(f"{meeting}: ", text_of(os.path.join(ROOT, "crates", "test_threads", "stdout")).splitlines()):
-        return f"{meeting} shows it as it stands"
-    printed, end = told(lines, crate_of(lines))
+        return f"{meeting} shows it without the edit"
+    printed, end = run_copy(lines, crate_of(lines))
     line = line_of(f"{meeting}: ", printed)
     return "" if shows in line else line or f"no line: {end}"
 
 
 def seen_without_end(lines):
-    """What is wrong with the meeting as it stands, which must end, or under the edit, which must not, or nothing."""
+    """What is wrong with the meeting without the edit, when it must end, or with it, when it must not, or nothing."""
     begin, crate = f"{dict(lines)['meeting']}: ", crate_of(lines)
-    printed, end = told([], crate)
+    printed, end = run_copy([], crate)
     if not line_of(begin, printed):
-        return f"as it stands: no line: {end}"
-    printed, end = told(lines, crate)
+        return f"without the edit: no line: {end}"
+    printed, end = run_copy(lines, crate)
     return line_of(begin, printed) if NO_END in end else f"with the edit: {end}"
 
 
 def seen_in_workload(lines):
-    """What is wrong with the run under the edit, or nothing."""
+    """What is wrong with the run with the edit, or nothing."""
     name, *words = dict(lines)["workload"].split(" ")
     example = os.path.join(ROOT, "examples", name)
     wanted = text_of(f"{example}.out").splitlines()
-    printed, end = told(lines, crate_of(lines), "--data", f"{name}.pcw={example}.pcw", "--", "run", f"{name}.pcw", *words)
+    printed, end = run_copy(lines, crate_of(lines), "--data", f"{name}.pcw={example}.pcw", "--", "run", f"{name}.pcw", *words)
     if not any(line.startswith("commits ") for line in printed):
         return f"no run: {end}"
-    return "the run prints what it is to" if set(wanted) <= set(printed) else ""
+    return "the run prints what it must" if set(wanted) <= set(printed) else ""
 
 
 def seen_by_test(lines):
-    """What is wrong with the test as it stands, or under the edit, or nothing."""
+    """What is wrong with the test without the edit, or with it, or nothing."""
     crate, name = dict(lines)["test"].split(" ")
     for edit, wanted in (([], "ok"), (lines, "FAILED")):
-        printed, end = told(edit, crate, "--test")
+        printed, end = run_copy(edit, crate, "--test")
         line = line_of(f"test {name} ... ", printed)
         if not line.endswith(wanted):
-            return f"{'with the edit' if edit else 'as it stands'}: {line or end}"
+            return f"{'with the edit' if edit else 'without the edit'}: {line or end}"
     return ""
 
 
@@ -185,12 +185,12 @@ def try_body(name):
 
 
 def is_known(name):
-    """Whether it was seen as it stands now, on whichever text."""
+    """Whether it was seen with its present text, on any text of the crates."""
     return record().get(name, (("",), None))[0][0] == sums_of(name)[0]
 
 
-def tell(is_right):
-    """When each was last tried; the status is 1 where one isn't right."""
+def list_bodies(is_right):
+    """Prints when each was last tried; the status is 1 if one isn't right."""
     for name in bodies():
         date = record().get(name, (None, "never"))[1]
         print(f"{name}: {'tried on this text' if is_tried(name) else 'not tried on this text'}, {date}")
@@ -205,7 +205,7 @@ def main():
     reader.add_argument("--known", action="store_true")
     given = reader.parse_args()
     if given.list or given.known:
-        return tell(is_tried if given.list else is_known)
+        return list_bodies(is_tried if given.list else is_known)
     unknown = [name for name in given.names if name not in bodies()]
     if unknown:
         sys.exit(f"no such body in tools/house/meetings: {' '.join(unknown)}")

@@ -9,15 +9,15 @@ examples, in the words of scripts:
 
     example NAME             a history
     about TEXT               what it shows
-    base K V, capacity N, sessions N      the setting, where it isn't the plain one
-    after NAME               it goes on from that one
-    COMMAND: REPLY           its steps; a value is a digit, `seven` or `nine` of so many bytes, or the number N as `#N`
-    file POINTS: K N V, ..   the files on the shelf, in order; V may be `tombstone`, `none` stands for no entries
-    state F: point N pairs K V, ..        file F laid on the base
-    gap F: N                 the point that file F lacks first
+    base K V, capacity N, sessions N      the setting, if it isn't the plain one
+    after NAME               it continues that one
+    COMMAND: REPLY           its steps; a value is a digit, `seven` or `nine` of that number of bytes, or the number N as `#N`
+    file POINTS: K N V, ..   the files on the shelf, in order; V may be `tombstone`, `none` means no entries
+    state F: point N pairs K V, ..        file F applied to the base
+    gap F: N                 the first point that file F lacks
     contents: K V, ..        the committed contents at the end
     quiet, not quiet         whether no transaction was open outside rest
-    log: E; E; ..            the log's entries: a token as PHASE POINT, or a commit as its session and its writes, parted by commas:
+    log: E; E; ..            the log's entries: a token as PHASE POINT, or a commit as its session and its writes, separated by commas:
                              `sets K V`, `removes K`, `adds N to K`
 
     illegal NAME             a reply that isn't legal
@@ -50,7 +50,7 @@ def number(word):
 
 
 def unfolding(text):
-    """The words that are unfolded for a text of steps: those of numbers too where it has adds."""
+    """The words that are unfolded for a text of steps: those of numbers too if it has adds."""
     return UNFOLDING + (NUMBERS if 'asked.Add' in text else '') + '\n'
 
 
@@ -227,8 +227,8 @@ class Illegal:
         elif words[:2] == ['shown', 'by']:
             self.form = words[2:]
         else:
-            command, _, told = text.partition(': ')
-            self.event, self.reply = event(command), reply(told)
+            command, _, answer = text.partition(': ')
+            self.event, self.reply = event(command), reply(answer)
 
     def statement(self, settings):
         return f'IsIllegal {settings[self.example]} (take {self.count} {self.example}) {self.event} {self.reply}'

@@ -4,7 +4,7 @@
     list_counts.py lists [FAMILY..]     every short list of events, for crates/test_lists/stdout
     list_counts.py crowds               crowds of sessions at one key, fresh keys, and a long walk, for crates/test_crowds/stdout
 
-It goes through the same lists, crowds and walk as the programs, and counts and sums up the replies in the same way (the
+It goes through the same lists, crowds and walk as the programs, and counts and sums the replies in the same way (the
 doc comment of `Sums` in crates/test_support/src/sums.rt has the sum). It shares no code with them. All lists take about three
 minutes on four processors.
 """
@@ -27,7 +27,7 @@ def bytes_items(text):
 
 
 def items_of(reply):
-    """The reply's own numbers, key and value."""
+    """The reply's numbers, key and value."""
     kind, rest = reply[0], reply[1:]
     if kind == "found":
         return bytes_items(rest[0])
@@ -57,7 +57,7 @@ class Sums:
 
     def note(self, reply):
         self.replies += 1
-        # of a reply that came before its name and items are known
+        # a reply that came before has its name and items here
         key = repr(reply) if reply[0] == "file" else reply
         if key not in self.known:
             self.known[key] = (self.lines.setdefault(name_of(reply), [0, START]), items_of(reply))
@@ -80,7 +80,7 @@ CHECK_EACH, CHECK_LONGEST, CHECK_CHANGED = range(3)
 
 
 def events(text):
-    """Events as scripts have them, with commas between them."""
+    """Events as in scripts, separated by commas."""
     found = []
     for line in text.split(","):
         verb, *words = line.split()
@@ -129,7 +129,7 @@ ADDED_IN_RESOLVE = events(
     "begin 1, add 1 a 1, add 1 b 2, commit 1, point, begin 2, add 2 a 10, seal, begin 1, add 1 b -1"
 )
 
-# name: sessions, capacity, start, letters, most events, rule, and how many lists there are, where that is known by a reckoning
+# name: sessions, capacity, start, letters, most events, rule, and the number of lists, if known by a calculation
 # older than both stores
 FAMILIES = {
     "one session": (1, 2, [], ONE_SESSION, 8, CHECK_EACH, 45_331),
@@ -147,16 +147,16 @@ FAMILIES = {
 
 
 def go_through(sums, store, letters, most, rule):
-    """Each list that goes on from what the store has answered, which has room for so many more events."""
+    """Each continuation of the store's list by at most this number of events."""
     for event in letters:
         now = store.copy()
         reply = now.step(event)
         sums.note(reply)
-        goes_on = reply[0] != "refused" and (rule != CHECK_CHANGED or reply[0] not in ("notyet", "noneleft"))
+        continues = reply[0] != "refused" and (rule != CHECK_CHANGED or reply[0] not in ("notyet", "noneleft"))
         is_longest = most == 1
-        if rule == CHECK_EACH or (is_longest and (rule == CHECK_LONGEST or goes_on)):
+        if rule == CHECK_EACH or (is_longest and (rule == CHECK_LONGEST or continues)):
             sums.checks += 1
-        if goes_on and not is_longest:
+        if continues and not is_longest:
             go_through(sums, now, letters, most - 1, rule)
 
 
@@ -201,16 +201,16 @@ class Asker:
 
 
 def wish(session, is_reading):
-    """Every third session reads the key and the others write it, or the other way round."""
+    """Every third session reads the key and the others write it, or the opposite."""
     if (session % 3 == 0) != is_reading:
         return ("get", session, b"a")
     return ("put", session, b"a", b"w" * session)
 
 
 def one_by_one():
-    """The sessions 63, 61, .. 1 each come before the next younger one: the first is granted, the others wait for it, being
-    older than all before them, and all of even numbers die. Each is granted in its turn, and a reader finds what the one
-    before it, by two, has written."""
+    """The sessions 63, 61, .. 1 each ask before the next younger one: the first is granted, the others wait for it, being
+    older than all before them, and all of even numbers die. They are granted in turn, and a reader finds what the one
+    two before it has written."""
     asker = Asker(64, 1)
     for session in range(1, 65):
         asker.wants(("begun", session), "begin", session)
@@ -241,7 +241,7 @@ def one_by_one():
 
 
 def turn(asker, session, is_reading):
-    """The session asks again for what it wishes and commits, or aborts where it has died. Whether it has ended."""
+    """The session repeats its request and commits, or aborts if it has died. Returns whether it has ended."""
     asker.ask(*wish(session, is_reading))
     ended = asker.ask("commit", session)
     if ended == ("refused", "MustAbort"):
@@ -250,7 +250,7 @@ def turn(asker, session, is_reading):
 
 
 def crowd(stride, is_reading):
-    """All begin, and come to the key in steps of so many numbers; then each has a turn, until none ends in it."""
+    """All begin, and request the key in steps of `stride` sessions; then all take turns, until a round ends none."""
     asker = Asker(64, 2)
     for session in range(1, 65):
         asker.wants(("begun", session), "begin", session)
@@ -268,7 +268,7 @@ def crowd(stride, is_reading):
 
 
 def fresh_keys():
-    """1,000 keys come and go in a store with room for two: each is put, removed and taken as a tombstone, alone in its part."""
+    """1,000 keys, one after another, in a store with room for two: each is put, removed and taken as a tombstone, alone in its part."""
     asker = Asker(1, 2)
     for n in range(1000):
         key, number = n.to_bytes(4, "big"), 7 * n
@@ -297,7 +297,7 @@ def print_crowds():
     sys.stdout.write(fresh_keys())
 
 
-# A long walk by chance.
+# A long random walk.
 
 LETTERS = b"ABCDEFGHIJKLMNOPQRSTUVWXYZabcdefghijklmnopqrstuvwx"
 WORD = b"0123456789 is longer than what is inline"
@@ -306,7 +306,7 @@ OTHERS = ("point", "seal", "capture", "take", "done", "rest")
 
 
 class Walk:
-    """What the walk knows of its store, by the replies alone."""
+    """The walk's knowledge of its store, from the replies alone."""
 
     def __init__(self):
         self.seed, self.phase, self.has_more, self.files, self.whole, self.part, self.dead = 20_261_123, "rest", True, 0, 0, 0, 0
@@ -349,7 +349,7 @@ class Walk:
             return ("join", self.drawn(20, self.files + 1), self.drawn(26, self.files + 1))
         return self.session()
 
-    def go_on(self, event, reply):
+    def follow(self, event, reply):
         is_whole, kind = self.part > 1, reply[0]
         if kind == "phase":
             self.phase, self.has_more = reply[1], True
@@ -372,7 +372,7 @@ def print_walk():
     asker, walk = Asker(8, 50), Walk()
     for n in range(100_000):
         event = walk.next_event()
-        walk.go_on(event, asker.ask(*event))
+        walk.follow(event, asker.ask(*event))
         asker.sums.checks += n % 10_000 == 9_999
     asker.sums.checks += 1
     sys.stdout.write(asker.sums.text("a long walk"))

@@ -1,12 +1,12 @@
 #!/usr/bin/env python3
-"""Prints what the program test_locks has to print, by the six rules of waiting and dying alone: its stored output comes from here.
+"""Prints what the program test_locks must print, by the six rules of waiting and dying alone: its stored output comes from here.
 
-A queue is a list of (transaction, is exclusive, is granted) in the order of arrival, the oldest transaction is that of the least number. Lists of events
-are gone through depth first; the queues are copied, so that no list is begun anew. It takes some minutes.
+A queue is a list of (transaction, is exclusive, is granted) in the order of arrival, the oldest transaction has the least number. Lists of events
+are traversed depth first; the queues are copied, so no list is begun again. It takes some minutes.
 """
 
 NOT_ASKED, GRANTED, QUEUED, DIED, RELEASED, NOTHING = "not asked", "granted", "queued", "died", "released", "nothing"
-NOT_FORETOLD = "not foretold"  # no list comes to it
+NOT_FORETOLD = "not foretold"  # in no list
 NAMES = (NOT_ASKED, GRANTED, QUEUED, DIED, RELEASED, NOTHING, NOT_FORETOLD)
 FNV_OFFSET, FNV_PRIME, MASK = 0xCBF29CE484222325, 0x100000001B3, (1 << 64) - 1
 EVENTS = [(transaction, slot, writes) for transaction in (1, 2, 3) for slot, writes in ((0, False), (0, True), (1, False), (1, True), (None, None))]
@@ -17,7 +17,7 @@ def is_waiting(queues, transaction):
 
 
 def requested(queue, transaction, writes):
-    """The answer to a request, and the queue then."""
+    """The answer to a request, and the queue after it."""
     others = [it for it in queue if it[0] != transaction]
     own = next((it for it in queue if it[0] == transaction), None)
     if own:
@@ -47,7 +47,7 @@ def without(queue, transaction):
 
 
 def step(state, event):
-    """The answer to the event, its number, and the state then: the queues, the slots of each transaction's requests in order, and who has died."""
+    """The answer to the event, its number, and the state after it: the queues, the slots of each transaction's requests in order, and the dead transactions."""
     queues, slots, dead = state
     transaction, slot, writes = event
     at = transaction - 1

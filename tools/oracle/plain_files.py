@@ -1,9 +1,9 @@
 #!/usr/bin/env python3
-"""A plain reader of part files, base files and logs, and a slow recovery, which know nothing of the crates: they are written from the formats and
+"""A plain reader of part files, base files and logs, and a slow recovery, which share no code with the crates: they are written from the formats and
 rules of docs/FORMATS.md and docs/MANUAL.md alone. Expected outputs of the gate's programs come from them, and are then stored.
 
-    plain_files.py files LINES    prints what the program test_files is to print of these lines
-    plain_files.py rows ROWS      prints what the program test_scripts is to print of these rows; scripts are run by plain_store.py, beside this file
+    plain_files.py files LINES    prints what the program test_files must print for these lines
+    plain_files.py rows ROWS      prints what the program test_scripts must print for these rows; scripts are run by plain_store.py
 """
 
 import os
@@ -14,12 +14,12 @@ if __name__ == "__main__":
 
 from tools.oracle.plain_store import changed, key_word, keyed, name_text, ranges_of, run_script, word
 
-# The ends of the magics of both formats. In a text of the first the keys are of space 0, which doesn't stand there.
+# The ends of the magics of both formats. In a text of the first the keys are of space 0, which isn't written.
 FIRST, SECOND = b"01", b"02"
 
 
 class Refused(Exception):
-    """Why bytes are no file, or files give none."""
+    """Why bytes are no file, or files can't be joined or applied."""
 
     def __init__(self, name, point=None):
         super().__init__(name)
@@ -27,7 +27,7 @@ class Refused(Exception):
 
 
 class Fields:
-    """Bytes that are read from the left, in the format that their magic tells. A field that isn't all there has the fault that is given."""
+    """Bytes read from the left, in the format of their magic. An incomplete field has the fault `cut`."""
 
     def __init__(self, text, form=None, cut="Short"):
         self.text, self.at, self.form, self.cut = text, 0, form, cut
@@ -42,7 +42,7 @@ class Fields:
         return int.from_bytes(self.bytes(width), "big")
 
     def sized(self, width, least, most):
-        """So many bytes as the number before them says."""
+        """As many bytes as the number before them says."""
         size = self.number(width)
         if not least <= size <= most:
             raise Refused("BadLength")
@@ -53,7 +53,7 @@ class Fields:
         return self.change(1)
 
     def change(self, greatest_kind=2):
-        """What a write does to its key: a value, None for a removal, or the number that is added."""
+        """What a write does to its key: a value, None for a removal, or the number to add."""
         kind = self.number(1)
         if kind > greatest_kind:
             raise Refused("BadKind")
@@ -69,7 +69,7 @@ class Fields:
             raise Refused("BadMagic")
 
     def key(self):
-        """A key, or None for the end mark in the place of its length."""
+        """A key, or None for the end mark instead of its length."""
         size = self.number(2)
         if size > 255:
             raise Refused("BadLength")
@@ -127,10 +127,10 @@ class Base:
 
 
 class Log:
-    """A run, the whole entries with the places behind them, and the fault of the rest or None.
+    """A run, the whole entries with the places after them, and the fault of the rest or None.
 
-    An entry is ("commit", session, writes) or ("token", phase, point). A write is a key with a value, None for a removal, or the number that is
-    added."""
+    An entry is ("commit", session, writes) or ("token", phase, point). A write is a key with a value, None for a removal, or the number to
+    add."""
 
     def __init__(self, run):
         self.run, self.entries, self.ends, self.fault = run, [], [20], None
@@ -147,7 +147,7 @@ class Log:
 
 
 def commit(session, changes, space=0):
-    """The entry of a commit, whose changes are given by own bytes of keys of the space."""
+    """The entry of a commit, its changes given by the own bytes of keys of the space."""
     return "commit", session, [*keyed(changes, space).items()]
 
 
@@ -176,7 +176,7 @@ def body_text(form, entry):
 
 
 PHASES = ("rest", "prepare", "resolve", "capture", "complete")
-# 256 writes of keys and values of the greatest lengths, with what stands before them.
+# 256 writes of keys and values of the greatest lengths, with what precedes them.
 MOST_BODY = {FIRST: 16_844_036, SECOND: 16_844_548}
 
 
@@ -202,7 +202,7 @@ def read_part(text):
 
 
 def read_as_far(text):
-    """The part that a text holds as far as it can be read, None where that isn't so of its header, and the fault, where there is one."""
+    """The part of a text as far as it can be read, None if its header can't, and the fault, if there is one."""
     fields, part = Fields(text), None
     try:
         fields.magic(b"PCALCP")
@@ -249,7 +249,7 @@ def read_base(text):
 
 
 def token_at(place):
-    """The token that stands behind so many others."""
+    """The token number `place`, from 0."""
     return ("token", PHASES[(place + 1) % 5], place // 5 + 1)
 
 
@@ -303,7 +303,7 @@ def read_log(text):
     return log
 
 
-# Joins, laying and recovery.
+# Joins, applying and recovery.
 
 
 def points_of(part):
@@ -346,7 +346,7 @@ def all_joined(parts):
 
 
 def reached(base, parts):
-    """The recovered point: the greatest one such that the parts without a point above it cover all above the base's up to it."""
+    """The recovered point: the greatest one such that the parts without a point above it cover every point above the base's up to it."""
     for point in sorted({part.greatest() for part in parts}, reverse=True):
         used = [points_of(part) for part in parts if part.greatest() <= point]
         if point > base.point and set(range(base.point + 1, point + 1)) <= set().union(*used):
@@ -371,7 +371,7 @@ class Recovered:
 
 
 def recover(base_text, files, log_text):
-    """What a base, parts (names with texts) and a log are worth."""
+    """The state recovered from a base, parts (names with texts) and a log."""
     base = read_base(base_text)
     found = {}
     reasons = {}
@@ -397,21 +397,21 @@ def recover(base_text, files, log_text):
     if log.run != base.run:
         raise Refused("OtherRun")
     pairs = dict(state.pairs)
-    for entry in behind(log.entries, point):
+    for entry in commits_after(log.entries, point):
         for key, change in entry[2]:
             apply(pairs, key, change)
     return Recovered(point, len(log.entries), log.fault, [(files[place][0], reasons[place]) for place in sorted(reasons)], pairs)
 
 
 def apply(pairs, key, change):
-    """The pairs are written over with the change."""
+    """Applies the change to the pairs."""
     value = changed(pairs.pop(key, None), change)
     if value is not None:
         pairs[key] = value
 
 
-def behind(entries, point):
-    """The commits that are applied: all for point 0, else those behind its resolve token, or none where it isn't there."""
+def commits_after(entries, point):
+    """The commits to apply: all for point 0, otherwise those after its resolve token, or none if there is no such token."""
     token = ("token", "resolve", point)
     if point > 0:
         entries = entries[entries.index(token) + 1 :] if token in entries else []
@@ -426,7 +426,7 @@ def read(kind, text):
 
 
 def found(kind, text):
-    """What a text holds, as a line without its end: that it is what is written of that, or how many bytes are written else."""
+    """What a text has, as a line without its end, and whether writing that gives the text again, or how many bytes it gives."""
     try:
         file = read(kind, text)
     except Refused as fault:
@@ -440,7 +440,7 @@ def found(kind, text):
 
 
 def spans(kind, texts, label=""):
-    """Runs of texts in which the same is found, by the first and the last of their numbers."""
+    """Runs of texts with the same result, by the first and the last of their numbers."""
     lines, first, last, before = [], None, None, None
     for number, text in enumerate(texts):
         now = found(kind, text)
@@ -462,7 +462,7 @@ def digits(text):
 
 
 def key_digits(key):
-    """The key in digits: its space, where that isn't 0, and its own bytes."""
+    """The key in digits: its space, if that isn't 0, and its own bytes."""
     return ("%d:" % key[0] if key[0] else "") + digits(key[1])
 
 
@@ -507,7 +507,7 @@ def listed(kind, text):
 
 
 def rewritten(kind, text):
-    """The text that is written of what the text holds, of a log of its whole entries."""
+    """What the text has, written again; of a log its whole entries."""
     return ["text " + digits(read(kind, text).text())]
 
 
@@ -517,7 +517,7 @@ def joined(texts):
 
 
 def streamed(texts):
-    """What is written while the texts are read: the join, or why not; and what goes out before that is read as Short."""
+    """What is written while the texts are read: the join, or why not; and what was written before is read as Short."""
     read = [read_as_far(text) for text in texts]
     try:
         for part, fault in read:
@@ -540,7 +540,7 @@ def laid(texts):
     return base_lines(base) + ["text " + digits(base.text())]
 
 
-def told(lines_of, *arguments):
+def or_refusal(lines_of, *arguments):
     try:
         return lines_of(*arguments)
     except Refused as fault:
@@ -552,14 +552,14 @@ def verb_lines(kind, verb, texts):
     if verb == "read":
         return [found(kind, text)]
     if verb in ("list", "write"):
-        return told(listed if verb == "list" else rewritten, kind, text)
+        return or_refusal(listed if verb == "list" else rewritten, kind, text)
     if verb == "cuts":
         return spans(kind, (text[:cut] for cut in range(len(text))))
     if verb == "changes":
         return [line for at in range(len(text)) for line in spans(kind, with_byte(text, at), "%d " % at)]
     if verb == "longer":
         return spans(kind, with_byte(text + b"\0", len(text)), "%d " % len(text))
-    return told({"join": joined, "stream": streamed, "lay": laid}[verb], texts)
+    return or_refusal({"join": joined, "stream": streamed, "lay": laid}[verb], texts)
 
 
 def print_files(path):
@@ -586,20 +586,20 @@ def folder_of(lines):
 
 
 def lacks_text(log, found):
-    """The line of what a recovery did without, where the log has these bytes, and whether its folder is whole."""
+    """The line of what a recovery lacked, with these bytes of the log, and whether its folder is whole."""
     header = "missing" if log is None else "whole" if len(log) >= 20 else "cut"
     tokens = read_log(log).entries if header == "whole" else []
     is_used = found.point == 0 or ("token", "resolve", found.point) in tokens
     skipped = len(found.skipped)
     is_whole = header == "whole" and is_used and not (found.fault or skipped)
     is_damaged = header != "whole" or found.fault not in (None, "Short") or skipped > 0
-    worth = "whole" if is_whole else "damaged" if is_damaged else "cut off"
+    state = "whole" if is_whole else "damaged" if is_damaged else "cut off"
     unused = "none" if is_used else str(found.entries)
-    return f"lacks header {header} fault {found.fault or 'none'} unused {unused} skipped {skipped}: {worth}\n".encode(), is_whole
+    return f"lacks header {header} fault {found.fault or 'none'} unused {unused} skipped {skipped}: {state}\n".encode(), is_whole
 
 
 def recovered_text(files, is_strict=False, cut=None):
-    """What a recovery of the folder prints, with its status, and with what it did without, where it is strict."""
+    """What a recovery of the folder prints, with its status, and, if it is strict, with what it lacked."""
     name = b"base.pcb"
     try:
         for name in [b"base.pcb", b"."] + [it for it in files if it.endswith(b".pcp")] + [b"log.pcl"]:
@@ -622,7 +622,7 @@ def recovered_text(files, is_strict=False, cut=None):
 
 
 def cuts_text(files, is_strict):
-    """What a recovery prints with each beginning of the log, where it is another than that of the one before, behind its length."""
+    """What a recovery prints with each prefix of the log, if it differs from that of the one before, after its length."""
     text, before = b"", None
     for cut in range(len(files[b"log.pcl"]) + 1):
         now = recovered_text(files, is_strict, cut)

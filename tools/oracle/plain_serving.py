@@ -1,4 +1,4 @@
-"""A slow, plain store that is served, which knows nothing of the crates: what `pcalc serve` has to answer without points, written from "pcalc
+"""A slow, plain served store, which shares no code with the crates: the answers of `pcalc serve` without points, written from "pcalc
 serve" in docs/MANUAL.md, over the plain store.
 """
 
@@ -9,7 +9,7 @@ REFUSED = b"refused WrongPhase\n"
 
 
 class Served:
-    """A store that starts from these pairs, as the run of this number; where its log has `roll` entries and no transaction is open, the next generation
+    """A store that starts from these pairs, as the run of this number; if its log has `roll` entries and no transaction is open, the next generation
     begins before the next line."""
 
     def __init__(self, pairs=(), run=1, sessions=64, capacity=1_048_576, roll=1_000_000):
@@ -24,7 +24,7 @@ class Served:
         self.log, self.waiting = plain_files.Log(run), set()
 
     def ready(self):
-        """The line with which the process says that it serves."""
+        """The line that says that the process serves."""
         return b"ready run %d pairs %d\n" % (self.store.run, len(self.store.base))
 
     def pairs(self):
@@ -32,7 +32,7 @@ class Served:
         return dict(self.store.committed)
 
     def answer(self, line):
-        """What the line, without its end, is answered; nothing once the end was asked for."""
+        """The answer to the line, given without its end; nothing after `quit`."""
         if self.has_ended:
             return b""
         if len(self.log.entries) >= self.roll and not self.store.open:
@@ -45,7 +45,7 @@ class Served:
         return self.answer_script(line, words)
 
     def is_of_the_process(self, words):
-        """Whether a line asks what clients don't: a step of a point, a join, or a pair of the base."""
+        """Whether a line is one that clients may not send: a step of a point, a join, or a pair of the base."""
         if words[0] not in (*CHECKPOINTS, b"join", b"base") or len(words) != 1 + len(plain_store.FORMS[words[0]]):
             return False
         try:
@@ -57,14 +57,14 @@ class Served:
     def answer_script(self, line, words):
         session = self.session_of(words)
         mine = self.store.open.get(session)
-        told = self.script.answer(line)
-        if told == b"wait\n":
+        answer = self.script.answer(line)
+        if answer == b"wait\n":
             self.waiting.add(session)
-        if told.startswith(b"committed "):
+        if answer.startswith(b"committed "):
             self.log.entries.append(("commit", session, [*mine.writes.items()]))
         granted = sorted(it for it in self.waiting if not self.is_waiting(it))
         self.waiting -= set(granted)
-        return told + b"".join(b"granted %d\n" % it for it in granted if it != session)
+        return answer + b"".join(b"granted %d\n" % it for it in granted if it != session)
 
     def session_of(self, words):
         try:
@@ -73,7 +73,7 @@ class Served:
             return 0
 
     def is_waiting(self, session):
-        """Whether a request of the session's transaction stands ungranted."""
+        """Whether a request of the session's transaction waits."""
         mine = self.store.open.get(session)
         if mine is None:
             return False

@@ -1,12 +1,12 @@
 #!/usr/bin/env python3
-"""A slow, plain store, which knows nothing of the crates: what the store of `pcalc step` has to answer, written from the rules in
+"""A slow, plain store, which shares no code with the crates: the answers of the store of `pcalc step`, written from the rules in
 docs/MANUAL.md, docs/FORMATS.md and docs/ARCHITECTURE.md alone. Expected outputs of the gate's programs come from it, and are then stored.
 
-    plain_store.py ROWS            prints what each script of ROWS is to print, in the form of the program test_scripts
+    plain_store.py ROWS            prints what each script of ROWS must print, in the form of the program test_scripts
 
 A row is `== NAME step [--sessions N] [--capacity N] [--run N] [--bare]` and the lines of a script; `--bare` leaves out the script's last byte.
-Rows of another kind are passed over. A key's contents at a point are those that were committed when the point's resolve token was logged, and
-nothing else is kept of them: no versions, no marks, no classes of records.
+Rows of another kind are skipped. A key's contents at a point are those committed when the point's resolve token was logged, and
+nothing else is kept of them: no versions, marks or classes of records.
 """
 
 import re
@@ -20,34 +20,34 @@ TOMBSTONE = None
 GRANTED = "granted"
 
 
-# A key is its space, a number, with its own bytes: keys rise by space, and in one space by these.
+# A key is its space, a number, and its own bytes: keys are ordered by space, and within a space by these.
 
 def keyed(contents, space=0):
-    """What is given by own bytes, by the keys that these are in the space."""
+    """The contents by keys of this space, given by the keys' own bytes."""
     return {(space, own): content for own, content in contents.items()}
 
 
-# What a change is: the bytes that are set, None where the key is removed, or the number that is added.
+# What a change is: the bytes that are set, None if the key is removed, or the number that is added.
 
 def fits(number):
-    """Whether the number has 64 bits with a sign."""
+    """Whether the number fits 64 signed bits."""
     return -(2**63) <= number < 2**63
 
 
 def number_in(there):
-    """The number that a key has with this value, or with none; None where the value isn't one."""
+    """The number of a key with this value, or without one; None if the value is no number."""
     if there is None:
         return 0
     return int.from_bytes(there, "big", signed=True) if len(there) == 8 else None
 
 
 def text_of(number):
-    """The value that stands for the number."""
+    """The value of the number."""
     return number.to_bytes(8, "big", signed=True)
 
 
 def changed(there, change):
-    """What a key has after the change. An add that finds no number, or whose sum doesn't fit, changes nothing."""
+    """The value of a key after the change. An add to what is no number, or whose sum doesn't fit, changes nothing."""
     if not isinstance(change, int):
         return change
     number = number_in(there)
@@ -55,8 +55,8 @@ def changed(there, change):
 
 
 class Transaction:
-    """An open transaction: its number and class, what it does to each key in the order of first writes, the keys it has requests on, and what holds
-    it."""
+    """An open transaction: its number and class, what it does to each key in the order of first writes, the keys it has requests for, and whether it
+    died."""
 
     __slots__ = ("number", "kind", "writes", "requested", "is_dead")
 
@@ -71,7 +71,7 @@ class Transaction:
 
 class Store:
     """Events are tuples, as ("put", session, key, value); so are replies, as ("found", value) or ("refused", name, number).
-    But for the texts of files it asks of keys only that they can be told apart and rise."""
+    Except for the texts of files, keys must only be comparable."""
 
     __slots__ = ("run", "base", "sessions", "capacity", "committed", "open", "begun", "queues", "phase", "point", "log", "opened", "closed", "at_point",
                  "taken", "files")
@@ -81,7 +81,7 @@ class Store:
         self.base, self.committed = dict(base), dict(base)
         self.open, self.begun, self.queues = {}, 0, {}
         self.phase, self.point, self.log = "rest", 0, 0
-        # the keys written since the last point, those left to take, what they had there, and what was taken
+        # the keys written since the last point, those left to take, their contents at the point, and what was taken
         self.opened, self.closed, self.at_point, self.taken = [], [], {}, []
         # files: the points, and by key a point and a value or tombstone
         self.files = []
@@ -103,7 +103,7 @@ class Store:
     # Transactions.
 
     def why_not(self, session):
-        """The refusal that stands before any event of a transaction, but begin and abort."""
+        """The refusal that comes before any event of a transaction, except begin and abort."""
         if not 1 <= session <= self.sessions:
             return ("refused", "NoSession")
         if session not in self.open:
@@ -133,7 +133,7 @@ class Store:
         return len(keys) == self.capacity
 
     def outcome(self, mine, key, is_exclusive):
-        """What a request for the key's lock comes to. The queue has (number, is exclusive, is granted)."""
+        """The outcome of a request for the key's lock. The queue has (number, is exclusive, is granted)."""
         queue = self.queues.get(key, [])
         own = [it for it in queue if it[0] == mine.number]
         others = [it for it in queue if it[0] != mine.number]
@@ -145,7 +145,7 @@ class Store:
         return "wait" if all(mine.number < it[0] for it in others) else "died"
 
     def lock(self, mine, key, is_exclusive):
-        """Asks for the key's lock: what is answered where it isn't granted."""
+        """Requests the key's lock: the answer if it isn't granted."""
         outcome, queue = self.outcome(mine, key, is_exclusive), self.queues.setdefault(key, [])
         if outcome == "died":
             mine.is_dead = True
@@ -158,7 +158,7 @@ class Store:
         return None if outcome == GRANTED else (outcome,)
 
     def seen(self, mine, key):
-        """What the transaction sees of the key: what its own change makes of what is committed."""
+        """What the transaction sees of the key: the committed value with its own change."""
         there = self.committed.get(key)
         return changed(there, mine.writes[key]) if key in mine.writes else there
 
@@ -174,7 +174,7 @@ class Store:
         return ("absent",) if value is None else ("found", value)
 
     def why_no_write(self, session, key):
-        """The refusal that stands before any write of the key."""
+        """The refusal that comes before any write of the key."""
         refusal = self.why_not(session)
         if refusal:
             return refusal
@@ -227,7 +227,7 @@ class Store:
         return ("sum", number)
 
     def end(self, session):
-        """Lets all locks of the session's transaction go, one after the other; each removal grants from the front of its queue."""
+        """Releases all locks of the session's transaction, in order; each removal grants from the front of its queue."""
         mine = self.open.pop(session)
         for key in mine.requested:
             queue = [it for it in self.queues[key] if it[0] != mine.number]
@@ -268,7 +268,7 @@ class Store:
     # Points.
 
     def change(self, before, kind, after):
-        """The phase changes where it is the one before and no transaction of the class is open."""
+        """Changes the phase if it is `before` and no transaction of the class is open."""
         if self.phase != before:
             return ("refused", "WrongPhase")
         held = sum(it.kind == kind for it in self.open.values())
@@ -331,7 +331,7 @@ class Store:
         return ("file", len(self.files), left[0] | right[0], len(joined))
 
     def state(self, number):
-        """The point and the database with the file laid on the base."""
+        """The point and the database with the file applied to the base."""
         file = self.file(number)
         if file is None:
             return ("refused", "NoFile")
@@ -384,12 +384,12 @@ def word(text):
 
 
 def name_text(name):
-    """What is printed of the name of a file: each byte as it is in a word, and nothing of no bytes."""
+    """The printed name of a file: each byte as in a word, and nothing for no bytes."""
     return b"".join(bytes([it]) if 0x21 <= it <= 0x7E and it != 0x5C else b"\\x%02x" % it for it in name)
 
 
 def key_word(key):
-    """The word that is printed for this key: its space, where that isn't 0, and its own bytes."""
+    """The word that is printed for this key: its space, if that isn't 0, and its own bytes."""
     space, own = key
     return (b"\\s%d:" % space if space else b"") + word(own)
 
@@ -442,7 +442,7 @@ def delta(text):
 
 
 def content(text):
-    """The bytes that a value word stands for."""
+    """The bytes of a value's word."""
     if text == b"-":
         return b""
     if not re.fullmatch(rb"(?:[\x21-\x5b\x5d-\x7e]|\\x[0-9a-f]{2})+", text):
@@ -451,7 +451,7 @@ def content(text):
 
 
 def key(text):
-    """The key that a word stands for."""
+    """The key of a word."""
     spaced = re.fullmatch(rb"\\s([1-9][0-9]{0,4}):(.+)", text, re.DOTALL)
     if spaced is None:
         return 0, content(text)
@@ -478,7 +478,7 @@ def wrong_length(verb, words):
 
 
 class Script:
-    """A script's run: the base, as long as only its lines came, and then the store."""
+    """A script's run: the base, as long as there are only `base` lines, and then the store."""
 
     def __init__(self, sessions, capacity, run):
         self.setting, self.base, self.store, self.status = (sessions, capacity, run), {}, None, 0
@@ -514,7 +514,7 @@ class Script:
         return ("check ok",) if verb == b"check" else store.step((verb.decode(), *given))
 
     def answer(self, line):
-        """What the line, without its end, prints; nothing for one without words or a comment."""
+        """The answer to the line, given without its end; nothing for a line without words or a comment."""
         words = [it for it in line.split(b" ") if it]
         if not words or line.startswith(b"#"):
             return b""
@@ -546,7 +546,7 @@ def run_script(head, script):
 
 
 def rows_of(text):
-    """The heads of the input, each as a list of words, with what stands between it and the next."""
+    """The heads of the input, each with the text up to the next."""
     for piece in re.split(rb"(?m)^(?=== )", text):
         if piece:
             head, _, rest = piece.partition(b"\n")

@@ -1,6 +1,6 @@
 #!/usr/bin/env python3
-"""Prints what the program test_walks has to print, by the slow store of plain_store.py and the lengths that docs/FORMATS.md gives: its stored output
-comes from here. That all is recovered right is the promise.
+"""Prints what the program test_walks must print, by the slow store of plain_store.py and the lengths of docs/FORMATS.md: its stored output
+comes from here. The promise is that everything is recovered correctly.
 """
 
 import os
@@ -26,7 +26,7 @@ def drawn(seed, shift, bound):
 
 
 def of_checkpointer(phase, has_more, parts):
-    """What the checkpointer asks next. After three parts it asks for no more."""
+    """The checkpointer's next step. After three parts it begins no more."""
     if phase == "rest":
         return "rest" if parts >= 3 else "point"
     return ASKS.get(phase) or ("take" if has_more else "done")
@@ -48,13 +48,13 @@ def of_session(session, seed):
 
 
 def size_of(writes):
-    """How many bytes a commit of these writes takes in the log."""
+    """The bytes that a commit of these writes takes in the log."""
     sizes = [0 if change is None else 8 if isinstance(change, int) else 4 + len(change) for change in writes.values()]
     return COMMIT + sum(5 + len(key) for key in writes) + sum(sizes)
 
 
 def walked(seed):
-    """How many entries the walk's log has, how many parts there are, and how many bytes the log's text has."""
+    """The entries of the walk's log, its parts, and the bytes of its log: their numbers."""
     store, dead, has_more, size = Store({b"b": b"0"}, 3, 16, 9), 0, True, HEADER
     for _ in range(STEPS):
         session = dead or drawn(seed, 24, 3) + 1

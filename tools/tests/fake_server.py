@@ -1,8 +1,8 @@
 """Serves a plain store over standard input and output as `pcalc serve` does, and keeps nothing: for tests of clients.
 
-    fake_server.py [--fails N] serve DIR [--sessions N] ..      further options are passed over
+    fake_server.py [--fails N] serve DIR [--sessions N] ..      further options are ignored
 
-With DIR `busy` it ends as where another process has the folder. With `--fails` it ends behind so many lines, as where its log can't be written.
+With DIR `busy` it ends as if another process had the folder. With `--fails` it ends after N lines, as if its log couldn't be written.
 """
 
 import os
@@ -23,26 +23,26 @@ class Server:
         return self.script.store.why_not(session) == ("refused", "StillWaiting")
 
     def answer(self, line):
-        """What the line prints, and behind it the sessions that wait no more."""
+        """The answer to the line, and after it the sessions that wait no more."""
         if line in (b"run", b"stats"):
             return b"run 1\n" if line == b"run" else b"entries=%d\n" % self.script.store.log
-        told = self.script.answer(line)
-        own = int(line.split()[1]) if told and line.split()[1:] and line.split()[1].isdigit() else 0
-        if told == b"wait\n":
+        answer = self.script.answer(line)
+        own = int(line.split()[1]) if answer and line.split()[1:] and line.split()[1].isdigit() else 0
+        if answer == b"wait\n":
             self.waiting.add(own)
         granted = sorted(session for session in self.waiting if not self.waits(session))
         self.waiting.difference_update(granted)
-        return told + b"".join(b"granted %d\n" % session for session in granted if session != own)
+        return answer + b"".join(b"granted %d\n" % session for session in granted if session != own)
 
 
-def number_behind(option, otherwise):
+def number_after(option, otherwise):
     return int(sys.argv[sys.argv.index(option) + 1]) if option in sys.argv else otherwise
 
 
 def main():
     if "busy" in sys.argv:
         sys.exit("pcalc: busy: Busy")
-    server, left = Server(number_behind("--sessions", 64)), number_behind("--fails", -1)
+    server, left = Server(number_after("--sessions", 64)), number_after("--fails", -1)
     out = sys.stdout.buffer
     out.write(b"ready run 1 pairs 0\n")
     out.flush()

@@ -28,7 +28,7 @@ class InFolder(unittest.TestCase):
         self.folder = room.name
 
     def write(self, name, text):
-        """Writes a file of the folder, and gives its path."""
+        """Writes a file of the folder, and returns its path."""
         path = os.path.join(self.folder, name)
         os.makedirs(os.path.dirname(path), exist_ok=True)
         with open(path, "w", encoding="utf-8") as it:
@@ -47,13 +47,13 @@ class InFolder(unittest.TestCase):
             self.addCleanup(patch.stop)
 
     def move(self, *modules):
-        """Takes the folder for the repository in these tools while the test runs."""
+        """Makes the folder the repository of these tools while the test runs."""
         for module in modules:
             paths = {name: value for name, value in vars(module).items() if isinstance(value, str) and value.startswith(module.ROOT)}
             self.replace(module, **{name: self.folder + value.removeprefix(module.ROOT) for name, value in paths.items()})
 
     def printed(self, call, *given):
-        """What the call gives, and what it prints."""
+        """What the call returns, and what it prints."""
         with contextlib.redirect_stdout(io.StringIO()) as out:
             found = call(*given)
         return found, out.getvalue()

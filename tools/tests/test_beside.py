@@ -30,9 +30,9 @@ class Counts(unittest.TestCase):
         sent = []
         answers = iter([b"begun 1\nok\ncommi", b"tted 7\n" + b"committed 8\n" * 998, b"committed 9\n", b"committed 1\n" * 1000])
         asker = beside.Asker(beside.Pcalc, lambda _: next(answers), lambda some: sent.append(bytes(some)) or len(some), [b"one\n", b"two\n"])
-        told = []
-        self.assertEqual(len(asker.run(2, told.append)), 2)
-        self.assertEqual((sent, told), ([b"one\n", b"two\n"], [1000, 2000]))
+        counts = []
+        self.assertEqual(len(asker.run(2, counts.append)), 2)
+        self.assertEqual((sent, counts), ([b"one\n", b"two\n"], [1000, 2000]))
 
     def test_rates_leave_the_last_tenth_out(self):
         self.assertEqual([beside.rate_of([(3000, 0), (1000, 1), (1000, 0)], busy) for busy in (0, 1)], [30000, 10000])
@@ -52,11 +52,11 @@ class Pictures(InFolder):
             self.assertIn(part, picture)
         self.assertEqual((picture.count(beside.BARS), picture.count(beside.BUSY)), (6, 2))
 
-    def test_what_is_no_such_file_is_told(self):
-        for times, told in (("", "it has no times"), ("pcalc 1 0 0\n", "line 1 isn't one"), ("other 0 0 0\n", "line 1 isn't one"), ("pcalc 0 0 2\n", "line 1 isn't one"), ("pcalc 0 x 0\n", "line 1 isn't one")):
+    def test_what_is_no_such_file_is_reported(self):
+        for times, message in (("", "it has no times"), ("pcalc 1 0 0\n", "line 1 isn't one"), ("other 0 0 0\n", "line 1 isn't one"), ("pcalc 0 0 2\n", "line 1 isn't one"), ("pcalc 0 x 0\n", "line 1 isn't one")):
             status, error = self.drawn(times)
             self.assertEqual(status, 1)
-            self.assertIn(told, error)
+            self.assertIn(message, error)
 
 
 if __name__ == "__main__":

@@ -1,4 +1,4 @@
-"""Which bodies `try_bodies.py` and `try_meetings.py` try again: those whose text, or that of what refuses them, is another one than when they were tried."""
+"""Which bodies `try_bodies.py` and `try_meetings.py` try again: those whose text, or that of what refuses them, has changed since they were tried."""
 
 import os
 import unittest
@@ -65,11 +65,11 @@ class Bodies(InFolder):
         self.noted(ONE)
         self.noted(TWO, reason="fits")
         self.noted(HIGH, reason="refused")
-        told = ["pc_low: 1 bodies, 1 refused on today's text (1 seen by a clause), 0 void, 0 never tried"]
-        told += ["pc_high: 2 bodies, 1 refused on today's text (0 seen by a clause), 0 void, 0 never tried, 1 refused by the shape of a proof"]
-        told += ["to be mended (fits): pc_high/one"]
+        lines = ["pc_low: 1 bodies, 1 refused on today's text (1 seen by a clause), 0 void, 0 never tried"]
+        lines += ["pc_high: 2 bodies, 1 refused on today's text (0 seen by a clause), 0 void, 0 never tried, 1 refused by the shape of a proof"]
+        lines += ["to improve (fits): pc_high/one"]
         sums = "3 wrong bodies on demand: 2 refused on today's text (1 seen by a clause), 0 void, 0 never tried, 1 refused by the shape of a proof"
-        self.assertEqual(self.printed(try_bodies.tell), (0, "\n".join([*told, sums, ""])))
+        self.assertEqual(self.printed(try_bodies.list_states), (0, "\n".join([*lines, sums, ""])))
 
     def test_a_change_of_what_refuses_it_makes_a_note_void(self):
         self.noted(ONE, TWO, HIGH)
@@ -85,21 +85,21 @@ class Bodies(InFolder):
     def test_a_note_of_an_earlier_text_is_void(self):
         self.write("tools/house/tried", "# one\npc_low earlier 2026-11-28: one:123456\n")
         self.assertEqual(self.states(), {ONE: "void", TWO: "never", HIGH: "never"})
-        self.assertEqual(self.printed(try_bodies.tell_known)[0], 0)
+        self.assertEqual(self.printed(try_bodies.list_forgotten)[0], 0)
 
-    def test_a_function_that_changed_with_nobody_who_tried_its_body_again(self):
+    def test_a_function_that_changed_and_whose_body_was_not_tried_again(self):
         self.noted(ONE, TWO)
         self.noted(HIGH, reason="limit")
         self.change("pc_low", "result < 9", "result < 10")
-        status, told = self.printed(try_bodies.tell_known)
-        self.assertEqual((status, told.splitlines()[0].partition(":")[0], len(told.splitlines())), (1, "pc_low/one", 2))
+        status, out = self.printed(try_bodies.list_forgotten)
+        self.assertEqual((status, out.splitlines()[0].partition(":")[0], len(out.splitlines())), (1, "pc_low/one", 2))
         self.noted(ONE)
-        self.assertEqual(self.printed(try_bodies.tell_known)[0], 0)
+        self.assertEqual(self.printed(try_bodies.list_forgotten)[0], 0)
         self.change("pc_high", "result < 9", "result < 10")
-        told = self.printed(try_bodies.tell_known)[1].splitlines()
-        self.assertEqual([it.partition(":")[0] for it in told[:-1]], ["pc_high/one"])
+        out = self.printed(try_bodies.list_forgotten)[1].splitlines()
+        self.assertEqual([it.partition(":")[0] for it in out[:-1]], ["pc_high/one"])
         self.change("pc_high", "1", "7")
-        self.assertEqual(self.printed(try_bodies.tell_known)[0], 1)
+        self.assertEqual(self.printed(try_bodies.list_forgotten)[0], 1)
 
     def test_why_a_body_was_refused(self):
         goal = "it is not proved that what the function ensures holds when it returns (`returns`)"
@@ -147,15 +147,15 @@ class Bodies(InFolder):
         self.assertFalse(os.path.samefile(os.path.join(copy, "crates.txt"), os.path.join(here, "crates.txt")))
 
     def tried(self, *said):
-        """What is found of both bodies of a crate where checks print these texts, one after the other."""
+        """The results of both bodies of a crate if checks print these texts, in turn."""
         texts, left = iter(said), []
 
         def check(_, words):
             left.append(words)
             return next(texts)
 
-        found, told = self.printed(try_bodies.try_crate, self.folder, "pc_high", ["one", "two"], reach.tree_here(), check)
-        return found, told, left
+        found, out = self.printed(try_bodies.try_crate, self.folder, "pc_high", ["one", "two"], reach.tree_here(), check)
+        return found, out, left
 
     def test_bodies_of_one_function_are_tried_one_by_one(self):
         goal = "note: src/lib.rt:3:1: it is not proved that what the function ensures holds when it returns (`returns`)%s\n"
@@ -164,10 +164,10 @@ class Bodies(InFolder):
             (goal % "" + "fn pc_high::high: no proof", shape + "fn pc_high::high: not proved", {"one": "clause", "two": "fits"}),
             (goal % "; `search` gave up at one of its limits" + "fn pc_high::high: no proof", "fn pc_high::high: proved", {"one": "limit"}),
         ):
-            found, told, left = self.tried(first, second)
+            found, out, left = self.tried(first, second)
             self.assertEqual((found, left), (wanted, [["high"], ["high"]]))
-            self.assertEqual(told.splitlines()[0], f"pc_high: {int('clause' in found.values())} of 2 refused by a clause")
-        self.assertIn("pc_high/two: NOT REFUSED", told)
+            self.assertEqual(out.splitlines()[0], f"pc_high: {int('clause' in found.values())} of 2 refused by a clause")
+        self.assertIn("pc_high/two: NOT REFUSED", out)
         self.assertEqual(self.read("crates/pc_high/src/lib.rt"), SOURCE.replace("fn low", "fn high").replace("    1\n", "    low() + 1\n"))
 
 
@@ -188,18 +188,18 @@ class Meetings(InFolder):
         self.write("tools/house/meetings/test.edit", "test: test_units it_is_one\n" + change)
 
     def wrong(self, name, *printed):
-        """What is wrong with the body where the copies print these lines, one after the other."""
+        """What is wrong with the body if the copies print these lines, in turn."""
         return self.wrong_by(name, *[(lines, "the end") for lines in printed])
 
-    def wrong_by(self, name, *told):
-        """The same where this is what they print, with its end."""
-        with mock.patch.object(try_meetings, "told", side_effect=told):
+    def wrong_by(self, name, *runs):
+        """The same for these lines with their ends."""
+        with mock.patch.object(try_meetings, "run_copy", side_effect=runs):
             return try_meetings.wrong_with(try_meetings.lines_of(name))
 
     def test_the_changes_of_a_body(self):
         try_meetings.applied(try_meetings.lines_of("meet"), os.path.join(self.folder, "crates"))
         self.assertEqual(self.read("crates/pc_low/src/lib.rt"), "let a = 4;\nlet b = 2;\n")
-        self.assertIn("the old text stands 0 times: a = 1", self.ended(try_meetings.applied, try_meetings.lines_of("meet"), os.path.join(self.folder, "crates")))
+        self.assertIn("the old text occurs 0 times: a = 1", self.ended(try_meetings.applied, try_meetings.lines_of("meet"), os.path.join(self.folder, "crates")))
 
     def test_where_a_body_is_seen(self):
         self.assertEqual([try_meetings.crate_of(try_meetings.lines_of(name)) for name in ("meet", "work", "test")], ["test_threads", "pcalc", "test_units"])
@@ -209,28 +209,28 @@ class Meetings(InFolder):
         self.assertEqual(self.wrong("meet", ["two meet: met true, commits 2"]), "two meet: met true, commits 2")
         self.assertEqual(self.wrong("meet", ["three meet: met false"]), "no line: the end")
         self.write("crates/test_threads/stdout", "two meet: met false\n")
-        self.assertEqual(self.wrong("meet", ["two meet: met false"]), "two meet shows it as it stands")
+        self.assertEqual(self.wrong("meet", ["two meet: met false"]), "two meet shows it without the edit")
 
     def test_a_meeting_that_never_ends(self):
         self.write("tools/house/meetings/meet.edit", "meeting: two meet\nends: never\nfile: pc_low/src/lib.rt\nold: a = 1\nnew: a = 5\n")
-        as_it_stands, without_end = (["two meet: met true"], "the end"), ([], try_meetings.NO_END)
-        wrong = lambda *told: self.wrong_by("meet", *told)
-        self.assertEqual(wrong(as_it_stands, without_end), "")
-        self.assertEqual(wrong(as_it_stands, as_it_stands), "with the edit: the end")
-        self.assertEqual(wrong(as_it_stands, (["two meet: met true"], try_meetings.NO_END)), "two meet: met true")
-        self.assertEqual(wrong(without_end), f"as it stands: no line: {try_meetings.NO_END}")
+        without_edit, without_end = (["two meet: met true"], "the end"), ([], try_meetings.NO_END)
+        wrong = lambda *runs: self.wrong_by("meet", *runs)
+        self.assertEqual(wrong(without_edit, without_end), "")
+        self.assertEqual(wrong(without_edit, without_edit), "with the edit: the end")
+        self.assertEqual(wrong(without_edit, (["two meet: met true"], try_meetings.NO_END)), "two meet: met true")
+        self.assertEqual(wrong(without_end), f"without the edit: no line: {try_meetings.NO_END}")
 
     def test_a_workload(self):
         self.assertEqual(self.wrong("work", ["commits 1", "points 0"]), "")
-        self.assertEqual(self.wrong("work", ["commits 2", "points 0", "report"]), "the run prints what it is to")
+        self.assertEqual(self.wrong("work", ["commits 2", "points 0", "report"]), "the run prints what it must")
         self.assertEqual(self.wrong("work", ["broken"]), "no run: the end")
 
     def test_a_test(self):
         passes, fails = ["test it_is_one ... ok"], ["test it_is_one ... FAILED"]
         self.assertEqual(self.wrong("test", passes, fails), "")
         self.assertEqual(self.wrong("test", passes, passes), "with the edit: test it_is_one ... ok")
-        self.assertEqual(self.wrong("test", fails), "as it stands: test it_is_one ... FAILED")
-        self.assertEqual(self.wrong("test", []), "as it stands: the end")
+        self.assertEqual(self.wrong("test", fails), "without the edit: test it_is_one ... FAILED")
+        self.assertEqual(self.wrong("test", []), "without the edit: the end")
 
     def test_what_was_seen_is_noted_with_its_text(self):
         self.assertFalse(try_meetings.is_tried("meet"))
@@ -241,7 +241,7 @@ class Meetings(InFolder):
         self.assertEqual([name for name in try_meetings.bodies() if try_meetings.is_tried(name)], ["work"])
         self.write("crates/pc_low/src/lib.rt", "let a = 1;\n")
         self.assertEqual([name for name in try_meetings.bodies() if try_meetings.is_tried(name)], [])
-        self.assertEqual(self.printed(try_meetings.tell, try_meetings.is_tried)[0], 1)
+        self.assertEqual(self.printed(try_meetings.list_bodies, try_meetings.is_tried)[0], 1)
 
     def test_the_text_has_the_test_crates_below(self):
         with mock.patch.object(try_meetings, "crates_of", return_value={"test_threads": ["pc_high", "test_low"]}):
@@ -253,17 +253,17 @@ class Meetings(InFolder):
 
     def test_a_body_is_known_as_long_as_it_stays(self):
         for name in ("meet", "work", "test"):
-            self.assertEqual(self.printed(try_meetings.tell, try_meetings.is_known)[0], 1)
+            self.assertEqual(self.printed(try_meetings.list_bodies, try_meetings.is_known)[0], 1)
             try_meetings.note(name)
         self.write("crates/pc_low/src/lib.rt", "let a = 1;\n")
-        self.assertEqual(self.printed(try_meetings.tell, try_meetings.is_known)[0], 0)
+        self.assertEqual(self.printed(try_meetings.list_bodies, try_meetings.is_known)[0], 0)
         self.write("tools/house/meetings/meet.edit", "meeting: two meet\nfile: pc_low/src/lib.rt\nold: a = 1\nnew: a = 5\n")
         self.assertEqual([name for name in try_meetings.bodies() if not try_meetings.is_known(name)], ["meet"])
 
     def test_the_record_has_none_that_is_gone(self):
         for name in ("meet", "work", "test"):
             try_meetings.note(name)
-        self.assertEqual(self.printed(try_meetings.tell, try_meetings.is_tried)[0], 0)
+        self.assertEqual(self.printed(try_meetings.list_bodies, try_meetings.is_tried)[0], 0)
         os.remove(os.path.join(self.folder, "tools/house/meetings/work.edit"))
         try_meetings.note("meet")
         self.assertEqual([*try_meetings.record()], ["meet", "test"])
@@ -272,7 +272,7 @@ class Meetings(InFolder):
 class Stored(InFolder):
     """The bodies of the repository."""
 
-    def test_each_of_the_meetings_changes_what_stands(self):
+    def test_each_of_the_meetings_can_be_applied(self):
         self.assertTrue(try_meetings.bodies())
         for name in try_meetings.bodies():
             lines = try_meetings.lines_of(name)

@@ -36,7 +36,7 @@ class Words(unittest.TestCase):
         for key, spelled in ((b"k", b"k"), ((0, b"k"), b"k"), ((7, b":"), b"\\s7::"), ((65535, b"-"), b"\\s65535:\\x2d"), (b"\\s7:k", b"\\x5cs7:k")):
             self.assertEqual(pcalc.key_word(key), spelled)
 
-    def test_what_is_no_key_or_value_is_told(self):
+    def test_what_is_no_key_or_value_is_refused(self):
         for call, given, fault in ((pcalc.key_word, b"", pcalc.Refused), (pcalc.key_word, b"k" * 256, pcalc.Refused), (pcalc.key_word, (65536, b"k"), ValueError),
                                    (pcalc.key_word, "k", TypeError), (pcalc.value_word, bytes(65_536), pcalc.Refused), (pcalc.value_word, 7, TypeError),
                                    (pcalc.delta_word, 2**63, ValueError), (pcalc.number_of, b"7", ValueError)):
@@ -61,7 +61,7 @@ class Words(unittest.TestCase):
 
 
 class OfStore(unittest.TestCase):
-    """A test with a store, of whose process the settings may be changed."""
+    """A test with a store; subclasses may change the settings of its process."""
 
     settings = {}
 
@@ -104,7 +104,7 @@ class Transactions(OfStore):
                 t.add(b"n", 1 // 0)
         self.assertEqual((t.entry, self.value(b"fig")), (None, None))
 
-    def test_a_transaction_may_be_begun_anew(self):
+    def test_a_transaction_may_be_begun_again(self):
         transaction = self.store.transaction()
         for value in (b"1", b"2"):
             with transaction as t:
@@ -121,7 +121,7 @@ class Transactions(OfStore):
                 t.add(b"fig", 1)
         self.assertEqual((refused.exception.word, self.value(b"fig")), ("NotNumber", b"7"))
 
-    def test_a_transaction_that_is_over_is_asked_nothing(self):
+    def test_a_transaction_that_has_ended_takes_no_calls(self):
         with self.store.transaction() as t:
             pass
         with self.assertRaises(pcalc.Error):
@@ -142,7 +142,7 @@ class Transactions(OfStore):
         self.assertEqual((deaths, self.value(b"fig")), ([True, True], b"1"))
 
     def note_death(self, deaths):
-        """Notes that a transaction dies, and that it does so too where what it was told is passed over."""
+        """Notes that a transaction dies, also if the exception is ignored."""
         for is_passed_over in (False, True):
             with contextlib.suppress(pcalc.Died):
                 with self.store.transaction() as t:
@@ -155,7 +155,7 @@ class Transactions(OfStore):
                 continue
             deaths.append(True)
 
-    def test_the_older_one_waits_and_goes_on(self):
+    def test_the_older_one_waits_and_continues(self):
         is_begun, is_locked = threading.Event(), threading.Event()
 
         def younger():
@@ -207,7 +207,7 @@ class Transactions(OfStore):
 
 
 class Pipelines(OfStore):
-    def test_many_are_sent_at_once(self):
+    def test_many_are_sent_together(self):
         with self.store.pipeline(depth=10) as pipeline:
             noted = []
             for number in range(25):
@@ -243,7 +243,7 @@ class Pipelines(OfStore):
                         t.add(key, 1)
         self.assertEqual((refused.exception.word, pipeline.committed, self.value(b"n")), ("NotNumber", 2, pcalc.value_of(1)))
 
-    def test_a_transaction_has_so_many_keys(self):
+    def test_a_transaction_has_at_most_256_keys(self):
         with self.store.pipeline() as pipeline:
             with pipeline.transaction() as t:
                 for number in range(pcalc.MOST_WRITES):
@@ -254,7 +254,7 @@ class Pipelines(OfStore):
         self.assertEqual((len(t.results), self.value(b"0")), (pcalc.MOST_WRITES + 1, b"again"))
 
     def test_pipelines_of_threads_lose_nothing(self):
-        """Two in an opposite order of keys, and one thread of transactions line by line."""
+        """Two with opposite orders of keys, and one thread of transactions line by line."""
         def work(keys):
             with self.store.pipeline(depth=5) as pipeline:
                 for _ in range(40):
@@ -270,35 +270,35 @@ class Pipelines(OfStore):
             thread.join(SECONDS)
         self.assertEqual([pcalc.number_of(self.value(it)) for it in (b"a", b"b")], [100, 100])
 
-    def test_one_that_waits_goes_on_with_what_waited(self):
+    def test_one_that_waits_continues_with_the_waiting_line(self):
         batch, line = pcalc.Batch(), b"put 1 b 2"
         batch[b"a"], batch[b"b"] = b"1", b"2"
         self.assertEqual(batch.take([b"begun 1", b"ok", b"wait", b"refused StillWaiting", b"begun 2"]), b"wait")
         self.assertEqual(batch.spelled(1), [line, b"commit 1"])
         self.assertEqual((batch.take([b"ok", b"committed 3"]), batch.entry, batch.results), (None, 3, [None, None]))
 
-    def test_a_log_that_is_full_is_told(self):
+    def test_a_full_log_is_reported(self):
         for answers in ([b"refused LogFull", b"refused NoTransaction"], [b"begun 1", b"refused LogFull"]):
             self.assertEqual(pcalc.Batch().take(answers), b"refused LogFull")
 
 
 class Ends(unittest.TestCase):
-    def test_a_store_that_cant_be_opened_tells_why(self):
+    def test_a_store_that_cant_be_opened_says_why(self):
         with self.assertRaises(pcalc.Ended) as ended:
             pcalc.Store("busy", program=FAKE)
         self.assertEqual((str(ended.exception), ended.exception.status), ("pcalc: busy: Busy", 1))
 
-    def test_a_program_that_isnt_there_is_told(self):
+    def test_a_missing_program_is_reported(self):
         with self.assertRaises(pcalc.Ended):
             pcalc.Store("shop", program="/none/pcalc")
 
-    def test_a_program_that_is_another_one_is_told(self):
+    def test_another_program_is_reported(self):
         with self.assertRaises(pcalc.Ended):
             pcalc.Store("shop", program=[sys.executable, "-c", "print('hello'); import time; time.sleep(60)"])
 
-    def test_a_process_that_tells_more_than_was_asked_is_ended(self):
-        told = "import sys, time; print('ready run 1 pairs 0', flush=True); sys.stdin.readline(); print('begun 1', 'ok', sep='\\n', flush=True); time.sleep(60)"
-        store = pcalc.Store("shop", program=[sys.executable, "-c", told])
+    def test_a_process_that_answers_more_than_was_sent_is_ended(self):
+        program = "import sys, time; print('ready run 1 pairs 0', flush=True); sys.stdin.readline(); print('begun 1', 'ok', sep='\\n', flush=True); time.sleep(60)"
+        store = pcalc.Store("shop", program=[sys.executable, "-c", program])
         with unittest.mock.patch.object(threading, "excepthook"):
             with self.assertRaises(pcalc.Ended):
                 with store.transaction():
@@ -306,7 +306,7 @@ class Ends(unittest.TestCase):
         with self.assertRaises(pcalc.Ended):
             store.close()
 
-    def test_a_process_that_fails_is_told_to_all(self):
+    def test_a_process_that_fails_is_reported_to_all(self):
         store = pcalc.Store("shop", program=[*FAKE], sessions=4)
         store.process.kill()
         for _ in range(2):
@@ -317,7 +317,7 @@ class Ends(unittest.TestCase):
             store.close()
         store.close()
 
-    def test_what_it_tells_is_passed_on(self):
+    def test_its_message_is_passed_on(self):
         with self.assertRaises(pcalc.Ended) as ended:
             with pcalc.Store("shop", program=[*FAKE, "--fails", "2"]) as store:
                 with store.transaction() as t:
@@ -344,7 +344,7 @@ class Commands(unittest.TestCase):
             for end in range(found[1] - 1):
                 self.assertIsNone(relay.command_in(bytearray(text[:end])))
 
-    def test_what_is_no_command_is_told(self):
+    def test_what_is_no_command_is_refused(self):
         for text in (b"*x\r\n", b"*1\r\n:1\r\n", b"*1\r\n$-1\r\n", b"*-1\r\n", b"*1\r\n$999999999\r\n", b"*999999999\r\n"):
             with self.assertRaises(relay.Malformed):
                 relay.command_in(bytearray(text))
@@ -364,7 +364,7 @@ class Commands(unittest.TestCase):
             operation = relay.Operation(words)
             self.assertEqual((operation.lines, operation.told(answers)), (lines, told))
 
-    def test_numbers_that_arent_are_told(self):
+    def test_what_is_no_number_is_refused(self):
         for words in ((b"INCRBY", b"n", b"x"), (b"INCRBY", b"n", b"9223372036854775808"), (b"DECRBY", b"n", b"-9223372036854775808"), (b"INCRBY", b"n", b"1.5")):
             with self.assertRaises(relay.Malformed):
                 relay.Operation(words)
@@ -394,12 +394,12 @@ class Relays(InFolder):
         sock.connect(self.path)
         return sock
 
-    def tell(self, sock, text, wanted):
-        """Sends the text, which is to be answered so."""
+    def ask(self, sock, text, wanted):
+        """Sends the text and tests its answer."""
         sock.sendall(text)
-        self.assertEqual(self.told(sock, len(wanted)), wanted)
+        self.assertEqual(self.received(sock, len(wanted)), wanted)
 
-    def told(self, sock, length):
+    def received(self, sock, length):
         got = b""
         while len(got) < length:
             chunk = sock.recv(length - len(got))
@@ -410,40 +410,40 @@ class Relays(InFolder):
 
     def test_lines_of_two_clients(self):
         one, two = self.connected(), self.connected()
-        self.tell(one, b"begin 1\n# x\n\n  \nput 1 k 1\nrun\n", b"begun 1\nok\nrun 1\n")
-        self.tell(two, b"begin 1\r\nget 1 k\nget 2 k\nget 1\nabort 01\n", b"begun 2\ndied\nrefused NoSession\nbad line\naborted\n")
-        self.tell(two, b"begin 1\nput 1 m 2\n", b"begun 3\nok\n")
+        self.ask(one, b"begin 1\n# x\n\n  \nput 1 k 1\nrun\n", b"begun 1\nok\nrun 1\n")
+        self.ask(two, b"begin 1\r\nget 1 k\nget 2 k\nget 1\nabort 01\n", b"begun 2\ndied\nrefused NoSession\nbad line\naborted\n")
+        self.ask(two, b"begin 1\nput 1 m 2\n", b"begun 3\nok\n")
         one.sendall(b"put 1 m 1\ncommit 1\n")
-        self.tell(two, b"commit 1\n", b"committed 1\n")
-        self.assertEqual(self.told(one, 15), b"ok\ncommitted 2\n")
-        self.tell(two, b"begin 1\nget 1 m\nquit\nget 1 m\n", b"begun 4\n= 1\n")
+        self.ask(two, b"commit 1\n", b"committed 1\n")
+        self.assertEqual(self.received(one, 15), b"ok\ncommitted 2\n")
+        self.ask(two, b"begin 1\nget 1 m\nquit\nget 1 m\n", b"begun 4\n= 1\n")
         self.assertEqual(two.recv(1), b"")
 
-    def test_a_transaction_goes_with_its_connection(self):
+    def test_a_transaction_ends_with_its_connection(self):
         one, two = self.connected(), self.connected()
-        self.tell(one, b"begin 1\nput 1 k 1\n", b"begun 1\nok\n")
-        self.tell(two, b"MULTI\r\nSET k 2\r\n", b"+OK\r\n+QUEUED\r\n")
+        self.ask(one, b"begin 1\nput 1 k 1\n", b"begun 1\nok\n")
+        self.ask(two, b"MULTI\r\nSET k 2\r\n", b"+OK\r\n+QUEUED\r\n")
         two.sendall(b"EXEC\r\n")
         one.close()
-        self.assertEqual(self.told(two, 9), b"*1\r\n+OK\r\n")
-        self.tell(two, b"GET k\r\n", b"$1\r\n2\r\n")
+        self.assertEqual(self.received(two, 9), b"*1\r\n+OK\r\n")
+        self.ask(two, b"GET k\r\n", b"$1\r\n2\r\n")
 
     def test_more_clients_than_sessions(self):
         for _ in range(5):
             clients = [self.connected() for _ in range(3)]
             for sock in clients:
-                self.tell(sock, b"PING\r\n", b"+PONG\r\n")
-            for text, told in ((b"stats\n", b"refused NoSession\n"), (b"PING\r\n", b"-ERR max number of clients reached\r\n")):
+                self.ask(sock, b"PING\r\n", b"+PONG\r\n")
+            for text, answer in ((b"stats\n", b"refused NoSession\n"), (b"PING\r\n", b"-ERR max number of clients reached\r\n")):
                 sock = self.connected()
-                self.tell(sock, text, told)
+                self.ask(sock, text, answer)
                 self.assertEqual(sock.recv(1), b"")
             for sock in clients:
-                self.tell(sock, b"QUIT\r\n", b"+OK\r\n")
+                self.ask(sock, b"QUIT\r\n", b"+OK\r\n")
                 self.assertEqual(sock.recv(1), b"")
 
     def test_commands(self):
         sock = self.connected()
-        for text, told in (
+        for text, answer in (
             (b"*1\r\n$4\r\nPING\r\n", b"+PONG\r\n"),
             (b"SET a 1\r\nget a\r\nGET b\r\n", b"+OK\r\n$1\r\n1\r\n$-1\r\n"),
             (b"INCR n\r\nINCRBY n 9\r\nDECR n\r\nDECRBY n 10\r\n", b":1\r\n:10\r\n:9\r\n:-1\r\n"),
@@ -460,20 +460,20 @@ class Relays(InFolder):
             (b"SET a\r\nSET a 1 EX 5\r\n", b"-ERR wrong number of arguments for 'set' command\r\n" * 2),
             (b"GET a\r\n*1\r\n:\r\n", b"$1\r\n1\r\n-ERR Protocol error\r\n"),
         ):
-            self.tell(sock, text, told)
+            self.ask(sock, text, answer)
         self.assertEqual(sock.recv(1), b"")
 
-    def test_clients_that_want_the_same_key(self):
+    def test_clients_that_use_the_same_key(self):
         line, *clients = [self.connected() for _ in range(3)]
-        self.tell(line, b"begin 1\nadd 1 n 1000\n", b"begun 1\nsum 1000\n")
+        self.ask(line, b"begin 1\nadd 1 n 1000\n", b"begun 1\nsum 1000\n")
         for sock in clients:
             sock.sendall(b"INCR n\r\nMULTI\r\nINCR m\r\nINCR n\r\nEXEC\r\n" * 40)
-        self.tell(line, b"commit 1\n", b"committed 1\n")
+        self.ask(line, b"commit 1\n", b"committed 1\n")
         for sock in clients:
             got = b""
             while got.count(b"*2\r\n") < 40 or not got.endswith(b"\r\n") or got.count(b":") < 120:
                 got += sock.recv(65_536)
-        self.tell(clients[0], b"MULTI\r\nINCRBY n 0\r\nINCRBY m 0\r\nEXEC\r\n", b"+OK\r\n+QUEUED\r\n+QUEUED\r\n*2\r\n:1160\r\n:80\r\n")
+        self.ask(clients[0], b"MULTI\r\nINCRBY n 0\r\nINCRBY m 0\r\nEXEC\r\n", b"+OK\r\n+QUEUED\r\n+QUEUED\r\n*2\r\n:1160\r\n:80\r\n")
 
 
 if __name__ == "__main__":

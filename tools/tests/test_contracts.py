@@ -1,4 +1,4 @@
-"""What `contracts.py` tells of contracts that differ."""
+"""What `contracts.py` reports of contracts that differ."""
 
 import subprocess
 import unittest
@@ -54,7 +54,7 @@ class Contracts(InFolder):
         self.assertEqual(read(SOURCE), {"Chest::open": [OPEN], "open": ["pub fn open(a: u64) -> u64"], "Lid::lift": [lid]})
         self.assertEqual(read(SOURCE, True).keys() - read(SOURCE), {"Chest::hidden", "lowered"})
 
-    def test_what_stands_in_bodies_and_comments_is_no_contract(self):
+    def test_bodies_and_comments_are_no_contract(self):
         self.assertEqual(read(SOURCE.replace("        1\n", "        3\n").replace("It opens", "It shuts")), read(SOURCE))
 
     def test_a_clause_that_is_lost_or_changed(self):

@@ -1,4 +1,4 @@
-"""What `check_edits.py` tells of wrong bodies."""
+"""What `check_edits.py` reports of wrong bodies."""
 
 import shutil
 import unittest
@@ -34,11 +34,11 @@ class Edits(InFolder):
     def test_a_body_without_a_fault(self):
         self.assertEqual(self.faults("old: lowest(a) + lowest(a)", "new: lowest(a)", "promise: doubling"), [])
 
-    def test_an_old_text_that_is_not_there_or_stands_twice(self):
-        self.assertEqual(self.faults("old: lowest(b)", "new: lowest(a)"), ["the old text stands 0 times in its file: lowest(b)"])
-        self.assertEqual(self.faults("old: lowest(a)", "new: a"), ["the old text stands 2 times in its file: lowest(a)"])
+    def test_an_old_text_that_does_not_occur_once(self):
+        self.assertEqual(self.faults("old: lowest(b)", "new: lowest(a)"), ["the old text occurs 0 times in its file: lowest(b)"])
+        self.assertEqual(self.faults("old: lowest(a)", "new: a"), ["the old text occurs 2 times in its file: lowest(a)"])
 
-    def test_a_second_change_is_one_of_the_text_behind_the_first(self):
+    def test_a_second_change_is_applied_after_the_first(self):
         self.assertEqual(self.faults("old: + lowest(a)", "new: + 7", "old: + 7", "new: + 8"), [])
 
     def test_a_body_that_changes_nothing(self):

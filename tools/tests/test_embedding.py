@@ -1,5 +1,5 @@
-"""The numbers of the border are the same in `crates/pc_wire`, in `embedding/include/pcalc.h`, and in `embedding/python/pcalc_embedded.py`; what the pages show
-of the examples stands there; what `embedding_cases` and `embedding_border` decide."""
+"""The numbers of the border are the same in `crates/pc_wire`, in `embedding/include/pcalc.h`, and in `embedding/python/pcalc_embedded.py`; the parts of
+the examples that the pages show are theirs; what `embedding_cases` and `embedding_border` decide."""
 
 import contextlib
 import io
@@ -21,7 +21,7 @@ def bare(text):
 
 
 def enum_of(header, name):
-    """The numbers of an enum by their names, without the beginning that all have."""
+    """The numbers of an enum by their names, without their common prefix."""
     number, found = -1, {}
     for item in re.search(rf"enum {name} {{(.*?)}}", bare(header), re.DOTALL)[1].split(","):
         word, _, given = item.partition("=")
@@ -32,7 +32,7 @@ def enum_of(header, name):
 
 
 def constants_of(source):
-    """The constants in their order, in groups that comments part."""
+    """The constants in their order, in groups separated by comments."""
     return [dict((name, int(number)) for name, number in re.findall(r"pub const (\w+): u32 = (\d+);", group)) for group in source.split("// ---- ")[1:]]
 
 
@@ -89,7 +89,7 @@ class Pages(unittest.TestCase):
 
 
 class Wrong(plain_store.Store):
-    """A store whose third number that is added is one too large."""
+    """A store whose third add gives a sum that is one too large."""
 
     added = 0
 
@@ -109,16 +109,16 @@ class Scripts(unittest.TestCase):
         with mock.patch.object(embedding_border, "Border", store):
             return list(embedding_border.different_script((1, 10, 1), lines))
 
-    def test_a_line_that_is_answered_otherwise_is_found(self):
+    def test_a_line_with_another_answer_is_found(self):
         self.assertEqual(self.differences(Wrong, self.LINES[:4]), [])
-        self.assertEqual(self.differences(Wrong, self.LINES), ["line 5, b'add 1 a 1': b'sum 4\\n' beside b'sum 3\\n'"])
+        self.assertEqual(self.differences(Wrong, self.LINES), ["line 5, b'add 1 a 1': b'sum 4\\n' instead of b'sum 3\\n'"])
 
     def test_rows_are_of_steps(self):
         self.assertGreater(sum(1 for _ in embedding_border.rows()), 300)
 
 
 class Archives(InFolder):
-    def test_an_archive_is_current_behind_its_sources(self):
+    def test_an_archive_is_current_after_its_sources(self):
         source, archive = self.write("a.rt", "a"), os.path.join(self.folder, "a.a")
         self.assertFalse(embedding_cases.is_current(archive, [source]))
         self.write("a.a", "")
@@ -135,10 +135,10 @@ class Archives(InFolder):
         self.assertEqual(embedding_cases.unmarked((1, b"why", b""), "none"), ["status 1", "why"])
 
     def test_without_a_compiler_nothing_is_counted(self):
-        told = io.StringIO()
-        with mock.patch("shutil.which", lambda name: None if name == "cc" else name), contextlib.redirect_stdout(told):
+        out = io.StringIO()
+        with mock.patch("shutil.which", lambda name: None if name == "cc" else name), contextlib.redirect_stdout(out):
             self.assertEqual(list(embedding_cases.embedded("pcalc", self.folder)), [])
-        self.assertEqual(told.getvalue(), "embedding: there is no cc, so that nothing is tried\n")
+        self.assertEqual(out.getvalue(), "embedding: there is no cc, so nothing is tried\n")
 
 
 if __name__ == "__main__":

@@ -1,4 +1,4 @@
-"""The bytes that docs/FORMATS.md shows are those of the files that it says they are, by the plain readers."""
+"""The bytes in docs/FORMATS.md are those of the files named there, by the plain readers."""
 
 import re
 import unittest
@@ -8,7 +8,7 @@ from support import stored
 from tools.oracle import plain_files
 
 KINDS = {b"P": "part", b"B": "base", b"L": "log"}
-# Two hexadecimal digits a byte, up to what is said of them.
+# Two hexadecimal digits a byte, up to the words about them.
 LINE = re.compile(r"((?:[0-9a-f]{2} {1,12})*[0-9a-f]{2})(?:   .*)?")
 
 

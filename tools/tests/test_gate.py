@@ -14,7 +14,7 @@ from support import ROOT, TOOLS, InFolder
 from tools.cases import try_programs
 from tools.house import gate_times
 
-# After so long a program that is waited for has got stuck.
+# A program that takes longer than this is stuck.
 SECONDS = 120
 SOURCE = """\
 //! What is low.
@@ -90,8 +90,8 @@ class Times(InFolder):
         self.assertIsNone(gate_times.part_of(["/kit/bin/other", *check[1:]]))
 
     def test_checks_at_work(self):
-        """Those below a process are noted, with the most that was seen of them."""
-        # A shell that waits for a line, and so starts no process of its own: until that runs its program it has the shell's words.
+        """Those below a process are noted, with their greatest use."""
+        # A shell that waits for a line, and so starts no process of its own, which would have the shell's words until it runs its program.
         words = ["/kit/bin/rattle", "-c", "read line", "--crate-name", "pc_low"]
         settings = {"stdin": subprocess.PIPE, "start_new_session": True}
         with subprocess.Popen(words, executable="/bin/sh", **settings) as check, subprocess.Popen(["sleep", str(SECONDS)], **settings) as idle:
@@ -112,21 +112,21 @@ class Times(InFolder):
             return it.read().split("\0")
 
     def test_a_run_within_the_budget(self):
-        status, told = self.printed(gate_times.tell, self.times(180, pc_low=crate(proof=180.4, edits=480), pc_high=crate(proof=200)))
-        self.assertEqual((status, told.splitlines()[-2:]), (0, ["processor minutes: proof 6, tests 0, edits 8; all 180, in 30 minutes", "within the budget"]))
+        status, out = self.printed(gate_times.report, self.times(180, pc_low=crate(proof=180.4, edits=480), pc_high=crate(proof=200)))
+        self.assertEqual((status, out.splitlines()[-2:]), (0, ["processor minutes: proof 6, tests 0, edits 8; all 180, in 30 minutes", "within the budget"]))
 
     def test_a_run_over_the_budget(self):
-        status, told = self.printed(gate_times.tell, self.times(181, pc_low=crate(proof=200, edits=481), pc_high=crate(proof=201)))
+        status, out = self.printed(gate_times.report, self.times(181, pc_low=crate(proof=200, edits=481), pc_high=crate(proof=201)))
         faults = ["pc_low: proof from nothing 200, at most 180", "pc_low: wrong bodies with their first check 481, at most 480"]
         faults += ["pc_high: proof from nothing 201, at most 200", "all: processor minutes 181, at most 180"]
-        self.assertEqual((status, told.splitlines()[-4:]), (1, faults))
+        self.assertEqual((status, out.splitlines()[-4:]), (1, faults))
 
     def test_a_page_without_a_budget(self):
         self.write("docs/BENCHMARKS.md", "")
-        self.assertEqual(self.printed(gate_times.tell, self.times(1))[0], 1)
+        self.assertEqual(self.printed(gate_times.report, self.times(1))[0], 1)
 
     def test_lanes(self):
-        """Two crates of a minute each, one over the other, and four wrong bodies of a minute beside the check that they begin with: 1 + 1 + 1 + 4."""
+        """Two crates of a minute each, one over the other, and four wrong bodies of a minute after the check that they begin with: 1 + 1 + 1 + 4."""
         one, other = crate(proof=60), crate(["pc_low"], proof=60, edits=300, bodies=4)
         times = self.times(pc_low=one, pc_mid=other)
         self.assertEqual(self.printed(gate_times.lanes, times, 1), (0, "7 minutes with 1 processors\n"))
@@ -134,7 +134,7 @@ class Times(InFolder):
         self.assertEqual(self.printed(gate_times.lanes, times, 4), (0, "3 minutes with 4 processors\n"))
 
     def test_what_each_check_has_used(self):
-        """Each is counted once, with the most that was seen of it; one of no crate of the repository is left out."""
+        """Each is counted once, with its greatest use; one of no crate of the repository is left out."""
         seen = {("1", "pc_low", "proof"): 1.5, ("2", "pc_low", "proof"): 2.0, ("3", "pc_low", "edits"): 4.0, ("4", "other", "proof"): 8.0}
         crates = gate_times.times_of(seen, 0)["crates"]
         self.assertEqual([crates["pc_low"][part] for part in gate_times.PARTS], [3.5, 0.0, 4.0])
@@ -157,7 +157,7 @@ class Follower(InFolder):
         return [line.partition("] ")[2] for line in text.splitlines()]
 
     def test_a_run_that_ends(self):
-        """What it says goes into the log, what tells how far it is is said on, its status is kept, and what it used is written."""
+        """Its output goes into the log, the lines of its progress are printed, its status is kept, and its use is written."""
         printed = "rt: pc_low proved\nrt: pc_low: its tests are NOT proved\n| other\nrt: pc_low: trying its must-fail edits (2)\nrt: pc_low: 1 FAILED\n"
         with self.follow(f"printf '{printed}'\necho jobs $RT_JOBS >&2\nexit 3\n") as run:
             lines = self.said(run.communicate(timeout=SECONDS)[0])
@@ -173,19 +173,19 @@ class Follower(InFolder):
             run.terminate()
             lines = self.said(run.communicate(timeout=SECONDS)[0])
         self.assertEqual(self.said(begun[2]), ["pc_low: trying its must-fail edits (2)"])
-        self.assertEqual((run.returncode, lines), (143, ["stopped by signal 15: 1 proofs of crates and tests done, wrong bodies of 1 crates begun; at work: nothing"]))
+        self.assertEqual((run.returncode, lines), (143, ["stopped by signal 15: 1 proofs of crates and tests done, wrong bodies of 1 crates begun; running: nothing"]))
 
 
 class Programs(InFolder):
-    def test_what_is_as_wanted(self):
+    def test_what_is_as_expected(self):
         self.assertEqual(try_programs.differences((0, b"a\nb\n", b""), 0, b"a\nb\n", b""), [])
         self.assertEqual(try_programs.differences((2, b"a\nb\n", b"of c and d"), 2, [b"b", b"a"], [b"c", b"d"]), [])
 
     def test_what_is_not(self):
-        self.assertEqual(try_programs.differences((1, b"", b""), 0, b"", b""), ["status 1 (wanted 0)"])
-        told = ["what it printed (+) beside what is wanted (-):", "@@ -1,2 +1 @@", " a", "-b"]
-        self.assertEqual(try_programs.differences((0, b"a\n", b""), 0, b"a\nb\n", b""), told)
-        self.assertEqual(try_programs.differences((0, b"", b"c"), 0, b"", b"")[0], "what it told (+) beside what is wanted (-):")
+        self.assertEqual(try_programs.differences((1, b"", b""), 0, b"", b""), ["status 1 (expected 0)"])
+        lines = ["its output (+) instead of the expected one (-):", "@@ -1,2 +1 @@", " a", "-b"]
+        self.assertEqual(try_programs.differences((0, b"a\n", b""), 0, b"a\nb\n", b""), lines)
+        self.assertEqual(try_programs.differences((0, b"", b"c"), 0, b"", b"")[0], "its standard error (+) instead of the expected one (-):")
         self.assertEqual(try_programs.differences((0, b"", b"c"), 0, b"", [b"c", b"d"])[1:], ["@@ -1,2 +1 @@", " c", "-d"])
 
     def test_calls(self):
@@ -194,7 +194,7 @@ class Programs(InFolder):
 
     def test_the_stored_calls_of_the_measuring_program(self):
         self.replace(try_programs, ROOT=self.folder)
-        self.write("bench/counts.txt", "# told\n$ one 1\na\nb\n$ two\n")
+        self.write("bench/counts.txt", "# a comment\n$ one 1\na\nb\n$ two\n")
         program = try_programs.program_of("bench_calls")
         self.assertEqual([*try_programs.counts()], [("bench_calls one 1", (program, "one", "1"), 0, "a\nb\n"), ("bench_calls two", (program, "two"), 0, "")])
 
@@ -209,7 +209,7 @@ class Programs(InFolder):
 
 
     def test_cases_are_counted(self):
-        """What breaks off has failed, and all behind it is counted still."""
+        """A part that raises has failed, and those after it are counted too."""
 
         def one():
             yield "a", []
@@ -220,21 +220,21 @@ class Programs(InFolder):
             yield "d", []
             raise OSError("gone")
 
-        found, told = self.printed(try_programs.counted, (one, broken, one))
+        found, out = self.printed(try_programs.counted, (one, broken, one))
         self.assertEqual(found, (5, 3))
-        self.assertEqual(told.splitlines()[:3], ["b:", "differs", "broken broke off:"])
-        self.assertIn("OSError: gone", told)
+        self.assertEqual(out.splitlines()[:3], ["b:", "differs", "broken raised:"])
+        self.assertIn("OSError: gone", out)
 
 
 class Gate(InFolder):
-    """A gate whose two parts say what they are told to."""
+    """A gate whose two parts print given texts."""
 
     def run_with(self, checks, programs, statuses=(0, 0)):
         shutil.copytree(os.path.join(ROOT, ".ci"), os.path.join(self.folder, ".ci"), dirs_exist_ok=True)
-        tell = "import sys\nsys.stdout.write(%r)\nsys.exit(%d)\n"
+        script = "import sys\nsys.stdout.write(%r)\nsys.exit(%d)\n"
         self.write("tools/house/gate_times.py", "import sys\nopen(sys.argv[2], 'w').write(%r)\nsys.exit(%d)\n" % (checks, statuses[0]))
-        self.write("tools/cases/try_programs.py", tell % (programs, statuses[1]))
-        self.write("tools/house/try_bodies.py", tell % ("forgotten\n5 bodies\n", 1))
+        self.write("tools/cases/try_programs.py", script % (programs, statuses[1]))
+        self.write("tools/house/try_bodies.py", script % ("forgotten\n5 bodies\n", 1))
         os.chmod(self.write("bin/rt", "#!/bin/sh\n"), 0o755)
         env = {**os.environ, "PATH": os.path.join(self.folder, "bin") + os.pathsep + os.environ["PATH"]}
         ran = subprocess.run(["bash", ".ci/run"], cwd=self.folder, env=env, capture_output=True, text=True, timeout=SECONDS)
@@ -258,8 +258,8 @@ class Gate(InFolder):
 
     def test_a_body_that_was_not_read(self):
         checks = "must-fail pc_low/a.edit: BAD EDIT: b\nmust-fail pc_low/a.edit: BAD EDIT: b\n600 passed, 0 failed\n"
-        status, told = self.run_with(checks, "7 passed, 0 failed\n")
-        self.assertEqual((status, told[0], told[-1]), (1, "must-fail pc_low/a.edit: BAD EDIT: b", "607 passed, 1 failed"))
+        status, lines = self.run_with(checks, "7 passed, 0 failed\n")
+        self.assertEqual((status, lines[0], lines[-1]), (1, "must-fail pc_low/a.edit: BAD EDIT: b", "607 passed, 1 failed"))
 
 
 if __name__ == "__main__":

@@ -1,4 +1,4 @@
-"""What `house.py` counts, of made-up crates and of the repository."""
+"""What `house.py` counts in made-up crates and in the repository."""
 
 import unittest
 
@@ -68,6 +68,19 @@ class Counts(InFolder):
         self.assertEqual(house.size(found["words to avoid"]), 5)
         self.assertEqual(found["lower-case words of definitions with two homes"], [])
 
+    def test_words_to_avoid_in_comments_and_docstrings(self):
+        self.write("README.md", "it stands\n")
+        self.write("embedding/include/a.h", 'char *text = "// it stands"; /* it\nstands */ // worth\n')
+        self.write("embedding/tests/b.cpp", "// exactly where it stood\n")
+        self.write("bench/c.c", "int worth; /* it is told */\n")
+        self.write("clients/python/d.py", '"""It stands."""\n\n\nclass Worth:\n    """It lends."""\n\n    def stood(self):\n        """It\n        stood."""\n        return "it stands"  # it was told\n')
+        self.write("tools/cases/e.py", "stands = 'worth'  # so many\n")
+        for name in ("tools/tests/f.py", "tools/house/house.py", "bench/deeper/g.c"):
+            self.write(name, "# it stands\n// it stands\n")
+        found = house.counted()[1]["words to avoid"]
+        wanted = {"README.md": 1, "embedding/include/a.h": 2, "embedding/tests/b.cpp": 2, "bench/c.c": 1, "clients/python/d.py": 4, "tools/cases/e.py": 1}
+        self.assertEqual({name: count for name, count in found.items() if count and not name.startswith("crates/")}, wanted)
+
     def test_words_with_two_homes(self):
         self.write("crates/pc_mid/specs/Other.antt", SPECS)
         self.write("crates/test_low/specs/Other.antt", SPECS)
@@ -85,8 +98,8 @@ class Counts(InFolder):
         self.replace(house, LIMITS={what: (100, 0) for what in house.LIMITS})
         self.assertEqual(self.printed(house.main, [])[0], 0)
         self.replace(house, LIMITS={**house.LIMITS, "longest chain of crates": (2, 2)})
-        status, told = self.printed(house.main, [])
-        self.assertEqual((status, told.splitlines()[-1]), (1, "over its limit: longest chain of crates"))
+        status, out = self.printed(house.main, [])
+        self.assertEqual((status, out.splitlines()[-1]), (1, "over its limit: longest chain of crates"))
 
     def test_what_is_over_its_goal_is_named(self):
         self.replace(house, LIMITS={**{what: (100, 100) for what in house.LIMITS}, "longest chain of crates": (100, 2)})
@@ -95,13 +108,13 @@ class Counts(InFolder):
 
 class House(InFolder):
     def test_the_repository_keeps_its_limits(self):
-        status, told = self.printed(house.main, [])
-        self.assertEqual(status, 0, told)
+        status, out = self.printed(house.main, [])
+        self.assertEqual(status, 0, out)
         self.assertTrue(all(most >= goal for most, goal in house.LIMITS.values()))
 
     def test_each_crate_has_its_line(self):
-        _, told = self.printed(house.main, ["--crates"])
-        self.assertEqual([line.split()[0] for line in told.splitlines()[1:]], [*gate_times.crates_of()])
+        _, out = self.printed(house.main, ["--crates"])
+        self.assertEqual([line.split()[0] for line in out.splitlines()[1:]], [*gate_times.crates_of()])
 
 
 if __name__ == "__main__":

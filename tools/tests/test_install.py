@@ -24,7 +24,7 @@ def loaded():
 build = loaded()
 
 HELP = """\
-Prints what stands there
+Prints what is there
 
 Usage: pcalc show [OPTIONS] <DIR>
 
@@ -42,34 +42,34 @@ What each fault means: docs/MANUAL.md
 
 
 class Builds(unittest.TestCase):
-    def test_a_crate_has_all_that_it_stands_on_once(self):
-        stands_on = build.graph("# Lowest first.\nlow: kit_b\nmid may_wait=2: low kit_a # why\npcalc: mid low\n")
-        self.assertEqual(stands_on, {"low": ["kit_b"], "mid": ["low", "kit_a"], "pcalc": ["mid", "low"]})
-        self.assertEqual(build.closure("pcalc", stands_on), ["pcalc", "mid", "low", "kit_a", "kit_b"])
+    def test_a_crate_has_all_its_dependencies_once(self):
+        depends_on = build.graph("# Lowest first.\nlow: kit_b\nmid may_wait=2: low kit_a # why\npcalc: mid low\n")
+        self.assertEqual(depends_on, {"low": ["kit_b"], "mid": ["low", "kit_a"], "pcalc": ["mid", "low"]})
+        self.assertEqual(build.closure("pcalc", depends_on), ["pcalc", "mid", "low", "kit_a", "kit_b"])
 
     def test_the_version_says_that_nothing_is_proved(self):
-        self.assertEqual(build.told_version('a\nconst VERSION: &str = "1.2.3";\nb\n', "commit 1"), 'a\nconst VERSION: &str = "1.2.3 (not proved; commit 1)";\nb\n')
+        self.assertEqual(build.marked_version('a\nconst VERSION: &str = "1.2.3";\nb\n', "commit 1"), 'a\nconst VERSION: &str = "1.2.3 (not proved; commit 1)";\nb\n')
         with self.assertRaises(SystemExit):
-            build.told_version("const OTHER: u8 = 1;\n", "commit 1")
+            build.marked_version("const OTHER: u8 = 1;\n", "commit 1")
 
     def test_the_options_have_one_version(self):
-        build.told_version(stored("crates", build.OPTIONS, "src", build.OPTIONS_FILE).decode(), "commit 1")
+        build.marked_version(stored("crates", build.OPTIONS, "src", build.OPTIONS_FILE).decode(), "commit 1")
 
-    def test_checks_are_left_out_only_where_that_is_asked_for(self):
+    def test_checks_are_left_out_only_on_request(self):
         lines = ['define void @"rattle-llvm-checks::x"() {\n', "  call void @llvm.trap()\n", "}\n", "define void @f() {\n"]
         lines += ['  call void @"rattle-llvm-checks::x"()\n', "  call void @llvm.memset.p0.i64(ptr %a, i8 -86, i64 8, i1 false)\n", "  call void @g()\n", "}\n"]
         attributes = "attributes #0 = { sanitize_address }\n"
         self.assertEqual(list(build.rewritten([*lines, attributes], False)), [*lines, "attributes #0 = {  }\n"])
         self.assertEqual(list(build.rewritten(lines, True)), lines[:4] + lines[6:])
 
-    def test_what_the_library_hands_out_is_seen_from_outside(self):
+    def test_what_the_library_exports_is_visible_outside(self):
         source = 'pub extern "C" fn one(\n    alloc: Global,\n    bytes: &[u8],\n) -> u32\n    ensures x { y }\npub extern "C" fn two(handle: &mut Handle)\npub fn three(a: u8)\n'
         self.assertEqual(build.exported(source), {"one": 2, "two": 1})
         lines = ['define internal i32 @"pc_c::one"(ptr %a) #0 {\n', '  call void @"pc_c::main"()\n', "define i32 @main() #0 {\n", 'define internal void @"pc_c::oneself"() {\n']
         wanted = ["define i32 @one(ptr %a) #0 {\n", lines[1], "define internal i32 @main() #0 {\n", lines[3], 'module asm ".ident \\22pc_c: not proved; commit 1\\22"\n']
-        self.assertEqual(list(build.handed_out(lines, ["one", "two"], "commit 1")), wanted)
+        self.assertEqual(list(build.exported_only(lines, ["one", "two"], "commit 1")), wanted)
 
-    def test_the_library_hands_out_what_its_header_declares(self):
+    def test_the_library_exports_what_its_header_declares(self):
         header = stored("embedding", "include", "pcalc.h").decode()
         declared = set(re.findall(r"(?m)^(?:uint32_t|void) (pcalc_\w+)\(", header))
         self.assertEqual(set(build.exported(stored("crates", build.LIBRARY, "src", "lib.rt").decode())), declared)
@@ -81,17 +81,17 @@ class Pages(unittest.TestCase):
         self.commands = {"show": self.help}
 
     def test_a_help_is_taken_apart(self):
-        self.assertEqual((self.help.about, self.help.usage), ("Prints what stands there", "pcalc show [OPTIONS] <DIR>"))
+        self.assertEqual((self.help.about, self.help.usage), ("Prints what is there", "pcalc show [OPTIONS] <DIR>"))
         self.assertEqual(self.help.sections["Arguments"], [("<DIR>", "The folder - it's there")])
         options = [("--many <N>", "How many [default: 1]"), ("--from <OLD>", "A folder of before"), ("-h, --help", "Print help")]
         self.assertEqual(self.help.sections["Options"], options)
-        self.assertEqual(self.help.behind, ["What each fault means: docs/MANUAL.md"])
+        self.assertEqual(self.help.after, ["What each fault means: docs/MANUAL.md"])
 
     def test_the_man_page_has_each_option(self):
         page = shell_pages.man_page("pcalc 1.2.3", shell_pages.help_of("A store\n\nUsage: pcalc <COMMAND>\n"), self.commands)
         self.assertIn('.TH PCALC 1 "" "pcalc 1.2.3"', page)
         self.assertIn(".B \\-\\-many <N>\nHow many [default: 1]\n", page)
-        self.assertIn('.SH "pcalc show"\nPrints what stands there.\n', page)
+        self.assertIn('.SH "pcalc show"\nPrints what is there.\n', page)
 
     def test_completions_know_what_takes_a_file(self):
         self.assertIn("show) words='--many --from --help' ;;", shell_pages.bash_completion(self.commands))
@@ -106,8 +106,8 @@ class Installs(InFolder):
     def installed(self):
         """The program that `make install` takes."""
         words = ["make", "-n", "-f", os.path.join(os.path.dirname(TOOLS), "Makefile"), "install", "PREFIX=/p"]
-        told = subprocess.run(words, cwd=self.folder, capture_output=True, text=True, check=True).stdout
-        return [line for line in told.splitlines() if line.startswith("install -m 755")]
+        out = subprocess.run(words, cwd=self.folder, capture_output=True, text=True, check=True).stdout
+        return [line for line in out.splitlines() if line.startswith("install -m 755")]
 
     def test_the_proved_program_goes_first(self):
         for name in ("crates.txt", "tools/build", "out/pcalc"):

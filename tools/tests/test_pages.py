@@ -1,4 +1,4 @@
-"""What `crate_tables.py` and `spec_guide.py` write into pages, and what they tell of a page that has something else."""
+"""What `crate_tables.py` and `spec_guide.py` write into pages, and what they report of a stale page."""
 
 import re
 import unittest
@@ -23,7 +23,7 @@ Between them.
 |---|---|---|
 | `test_low` | Tests of what is low. | `pc_low` |
 
-Behind them.
+After them.
 """
 
 
@@ -37,13 +37,13 @@ class Tables(InFolder):
         self.write("crates/test_low/src/main.rt", "//! Tests of what is low.\n")
         self.write("docs/ARCHITECTURE.md", TABLES)
 
-    def test_tables_that_are_as_they_are_to_be(self):
+    def test_tables_that_are_current(self):
         self.assertEqual(self.printed(crate_tables.main, []), (0, ""))
 
     def test_tables_that_are_not(self):
-        told = "docs/ARCHITECTURE.md: the tables of crates are not as they are to be: tools/house/crate_tables.py --mark\n"
+        message = "docs/ARCHITECTURE.md: the tables of crates are stale: tools/house/crate_tables.py --mark\n"
         self.write("docs/ARCHITECTURE.md", TABLES.replace("What is high.", "What was high."))
-        self.assertEqual(self.printed(crate_tables.main, []), (1, told))
+        self.assertEqual(self.printed(crate_tables.main, []), (1, message))
         self.assertEqual(self.printed(crate_tables.main, ["--mark"]), (0, ""))
         self.assertEqual(self.read("docs/ARCHITECTURE.md"), TABLES)
 
@@ -73,7 +73,7 @@ def tokens_of(code):
 
 
 class Example(unittest.TestCase):
-    def test_the_example_of_the_readme_stands_in_its_crate(self):
+    def test_the_example_of_the_readme_is_in_its_crate(self):
         code = re.search(r"(?s)```rust\n(.*?)```", stored("README.md").decode())[1]
         self.assertIn(tokens_of(code), tokens_of(stored("crates", "example_store", "src", "lib.rt").decode()))
 
@@ -142,29 +142,29 @@ class Guide(InFolder):
         self.write("docs/ARCHITECTURE.md", PAGE % LIST)
 
     def test_the_files_that_a_contract_reaches(self):
-        self.assertEqual(self.printed(spec_guide.tell_one, "pc_high", "Chest::open")[1], "    8  `pc_low` `Small`: IsSmall least\n    6  `pc_high` `Shut`: IsShut\n   14  in all\n")
-        self.assertEqual(self.printed(spec_guide.tell_one, "pc_high", "Lid::open")[1], "    0  in all\n")
+        self.assertEqual(self.printed(spec_guide.print_one, "pc_high", "Chest::open")[1], "    8  `pc_low` `Small`: IsSmall least\n    6  `pc_high` `Shut`: IsShut\n   14  in total\n")
+        self.assertEqual(self.printed(spec_guide.print_one, "pc_high", "Lid::open")[1], "    0  in total\n")
 
-    def test_a_word_behind_a_module(self):
+    def test_a_word_after_a_module(self):
         self.write("crates/pc_high/specs/Shut.antt", HIGH.replace("Tiny n", "other.other ≡ n"))
-        self.assertEqual(self.printed(spec_guide.tell_one, "pc_high", "Chest::open")[1], "    2  `pc_low` `Other`: other\n    6  `pc_high` `Shut`: IsShut\n    8  in all\n")
+        self.assertEqual(self.printed(spec_guide.print_one, "pc_high", "Chest::open")[1], "    2  `pc_low` `Other`: other\n    6  `pc_high` `Shut`: IsShut\n    8  in total\n")
 
-    def test_the_way_to_a_word(self):
-        told = "`pc_low` `Small` least < `pc_low` `Small` IsSmall < `pc_high` `Shut` IsShut\n"
-        self.assertEqual(self.printed(spec_guide.tell_way, "pc_high", "Chest::open", "least")[1], told)
+    def test_the_path_to_a_word(self):
+        path = "`pc_low` `Small` least < `pc_low` `Small` IsSmall < `pc_high` `Shut` IsShut\n"
+        self.assertEqual(self.printed(spec_guide.print_path, "pc_high", "Chest::open", "least")[1], path)
 
-    def test_a_page_that_is_as_it_is_to_be(self):
+    def test_a_page_that_is_current(self):
         spec_guide.check()
 
     def test_a_page_that_is_not(self):
         self.write("docs/ARCHITECTURE.md", PAGE % LIST.replace("14", "15"))
-        self.assertIn("isn't listed as it is", self.ended(spec_guide.check))
+        self.assertIn("are stale", self.ended(spec_guide.check))
         spec_guide.mark()
         self.assertEqual(self.read("docs/ARCHITECTURE.md"), PAGE % LIST)
 
     def test_a_definition_that_is_longer(self):
         self.write("crates/pc_low/specs/Small.antt", LOW + "\n-- one line more\n")
-        self.assertIn("isn't listed as it is", self.ended(spec_guide.check))
+        self.assertIn("are stale", self.ended(spec_guide.check))
 
     def test_a_function_that_is_not_there(self):
         self.assertEqual(self.ended(spec_guide.reach, [("pc_high", "gone")]), "spec_guide: pc_high has no public function gone")

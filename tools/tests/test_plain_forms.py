@@ -1,4 +1,4 @@
-"""What plain forms print is what is stored of the programs, and they agree with one another where they say the same of locks."""
+"""The output of plain forms is what is stored for the programs, and they agree with one another in their answers about locks."""
 
 import collections
 import contextlib
@@ -11,13 +11,13 @@ import unittest
 from support import ROOT, InFolder, stored
 
 from tools.cases import soak
-from tools.cases.program_cases import ADDS, ADDS_TOLD
+from tools.cases.program_cases import ADDS, ADDS_OUT
 from tools.house import worked_examples
 from tools.oracle import list_counts, lock_counts, plain_files, plain_store, walk_counts
 from tools.oracle.plain_files import FIRST, SECOND, commit
 from tools.oracle.plain_store import keyed
 
-# Of longer texts each change of a byte takes seconds.
+# For longer texts, each change of a byte takes seconds.
 LONGEST_CHANGED = 45
 
 
@@ -40,7 +40,7 @@ class Stored(unittest.TestCase):
         self.assertEqual(written(plain_files.print_rows, f"{ROOT}/crates/test_scripts/stdin"), stored("crates/test_scripts/stdout"))
 
     def test_scripts_by_their_own_reader(self):
-        """`plain_store.py` finds of the same rows those that are scripts, and prints the same of them."""
+        """`plain_store.py` finds the scripts among the same rows, and prints the same for them."""
         rows = {row for row in rows_of(stored("crates/test_scripts/stdout").decode(), "== ") if row.split("\n")[0].split(" ")[2] == "step"}
         found = rows_of(written(plain_store.main, f"{ROOT}/crates/test_scripts/stdin").decode(), "== ")
         self.assertEqual(set(found), rows)
@@ -67,7 +67,7 @@ class Stored(unittest.TestCase):
         self.assertEqual(written(both), stored("crates/test_crowds/stdout"))
 
     def test_lists(self):
-        """Of the quickest families all, and of each whose lists were counted before how many there are."""
+        """The quickest families whole, and the number of lists of each family in which it is known."""
         rows = {row.split("\n")[0].removeprefix("== "): row for row in rows_of(stored("crates/test_lists/stdout").decode(), "== ")}
         self.assertEqual([*rows], [*list_counts.FAMILIES])
         for name in ("one session", "two sessions that add"):
@@ -107,7 +107,7 @@ REPLIES = {("absent",): lock_counts.GRANTED, ("ok",): lock_counts.GRANTED, ("fou
 
 
 def by_locks(events):
-    """What the rules of locks answer to each request; at an end all of the transaction's requests are released."""
+    """The answers of the lock rules to each request; an end releases all of the transaction's requests."""
     state = NOTHING_YET
     for event in events:
         answer, _, state = lock_counts.step(state, event)
@@ -118,7 +118,7 @@ def by_locks(events):
 
 
 def by_store(events):
-    """What the plain store answers to the same, of transactions that begin once and end in aborts."""
+    """The plain store's answers to the same, with transactions that begin once and end in aborts."""
     store, ended = plain_store.Store((), 3, 2), set()
     for session in (1, 2, 3):
         store.step(("begin", session))
@@ -133,7 +133,7 @@ def by_store(events):
 
 class Locks(unittest.TestCase):
     def test_both_plain_forms_answer_the_same(self):
-        """Each list of three requests and ends, and of four that begins with a request of the second transaction. None asks behind its end."""
+        """Each list of three requests and ends, and of four that begins with a request of the second transaction. None asks after its end."""
         beginnings = [(letter,) for letter in LETTERS if letter[0] == 2]
         count = 0
         for events in itertools.chain(itertools.product(LETTERS, repeat=3), (begin + rest for begin in beginnings for rest in itertools.product(LETTERS, repeat=3))):
@@ -144,13 +144,13 @@ class Locks(unittest.TestCase):
         self.assertGreater(count, 10_000)
 
     def test_lists_of_one_event(self):
-        """Each of eight requests is granted and stands at its slot, and there is nothing to release."""
+        """Each of eight requests is granted and is in the queue of its slot, and there is nothing to release."""
         counts = lock_counts.Counts(10, 1)
         counts.go_through(NOTHING_YET, 1)
         self.assertEqual(counts.counts, {"lists": 10, "not asked": 0, "granted": 8, "queued": 0, "died": 0, "released": 0, "nothing": 2, "not foretold": 0, "waiting": 0, "standing": 8})
 
-    def test_a_list_does_not_go_on_behind_what_was_not_asked(self):
-        """The second transaction writes what the first one reads, and dies; asked again it is not asked, and no list goes on there."""
+    def test_a_list_ends_with_what_was_not_asked(self):
+        """The second transaction writes what the first one reads, and dies; its next request is not asked, and no list continues there."""
         asked = lock_counts.step(lock_counts.step(NOTHING_YET, (1, 0, False))[2], (2, 0, True))
         self.assertEqual(asked[0], lock_counts.DIED)
         self.assertEqual(lock_counts.step(asked[2], (2, 1, False)), (lock_counts.NOT_ASKED, 0, asked[2]))
@@ -162,7 +162,7 @@ class Locks(unittest.TestCase):
         self.assertEqual(counts.counts["lists"], 10 + 10 * (shorter.counts["lists"] - shorter.counts["not asked"]))
 
     def test_the_checksum_of_one_list(self):
-        """Granted is 1, and a request stands at the first slot, which is 8."""
+        """Granted is 1, and the first slot has a request, which is 8."""
         counts = lock_counts.Counts(1, 1)
         counts.go_through(NOTHING_YET, 1)
         first = (lock_counts.FNV_OFFSET ^ 1) * lock_counts.FNV_PRIME & lock_counts.MASK
@@ -170,12 +170,12 @@ class Locks(unittest.TestCase):
 
 
 def without_imports(text):
-    """The words of a text of definitions or proofs, but for those of its imports, which `rt tidy` leaves out where none is used."""
+    """The words of a text of definitions or proofs, except those of its imports, which `rt tidy` leaves out if unused."""
     lines = text.split("\n")
     return " ".join(" ".join(line for line in lines if not line.startswith("use ")).split())
 
 
-REPLIES_OF_ROW = ADDS_TOLD + b"status 0\n"
+REPLIES_OF_ROW = ADDS_OUT + b"status 0\n"
 LOG_OF_ROW = "5043414c434c3031 0000000000000001 00000000 00000010 01 01 0001 0001 6e 02 0000000000000003"
 LOG_OF_ROW += "00000019 01 01 0002 0001 74 01 00000001 78 0001 6e 02 fffffffffffffffc"
 SECOND_OF_ROW = "5043414c434c3032 0000000000000001 00000000 00000012 01 01 0001 0001 0000 6e 02 0000000000000003"
@@ -187,7 +187,7 @@ class Adds(unittest.TestCase):
     """Adds of the plain store and in plain logs."""
 
     def answers(self, script, **setting):
-        """What the plain store answers to the lines, parted by `; `."""
+        """The plain store's answers to the lines, which are separated by `; `."""
         run = plain_store.Script(setting.get("sessions", 8), setting.get("capacity", 16), 1)
         return "; ".join(run.answer(line.encode()).decode().rstrip("\n") for line in script.split("; "))
 
@@ -195,8 +195,8 @@ class Adds(unittest.TestCase):
         self.assertEqual(plain_store.run_script([], ADDS), REPLIES_OF_ROW)
 
     def test_spellings(self):
-        told = self.answers("begin 1; add 1 n -0; add 1 n 007; add 1 n 0000000000000000001; add 1 m 9223372036854775807; add 1 o -9223372036854775808")
-        self.assertEqual(told, "begun 1; sum 0; sum 7; sum 8; sum 9223372036854775807; sum -9223372036854775808")
+        answers = self.answers("begin 1; add 1 n -0; add 1 n 007; add 1 n 0000000000000000001; add 1 m 9223372036854775807; add 1 o -9223372036854775808")
+        self.assertEqual(answers, "begun 1; sum 0; sum 7; sum 8; sum 9223372036854775807; sum -9223372036854775808")
         for wrong in ("", "+1", "-", "--1", "1-", "1_0", "0x1", "00000000000000000001", "9223372036854775808", "-9223372036854775809", "1 2"):
             self.assertEqual(self.answers(f"begin 1; add 1 n {wrong}"), "begun 1; bad line", wrong)
 
@@ -204,10 +204,10 @@ class Adds(unittest.TestCase):
         self.assertEqual(self.answers("add 9 - 1; add 9 - +1; add 0 k 1"), "refused KeyLength; bad line; refused NoSession")
 
     def test_values_that_are_no_numbers(self):
-        told = self.answers("base a 1234567; base b 12345678; base c 123456789; base d -; begin 1; add 1 a 0; add 1 b 1; add 1 c 0; add 1 d 0; get 1 b")
-        self.assertEqual(told, "ok; ok; ok; ok; begun 1; refused NotNumber; sum 3544952156018063161; refused NotNumber; refused NotNumber; = 12345679")
+        answers = self.answers("base a 1234567; base b 12345678; base c 123456789; base d -; begin 1; add 1 a 0; add 1 b 1; add 1 c 0; add 1 d 0; get 1 b")
+        self.assertEqual(answers, "ok; ok; ok; ok; begun 1; refused NotNumber; sum 3544952156018063161; refused NotNumber; refused NotNumber; = 12345679")
 
-    def test_what_changes_make_together(self):
+    def test_changes_are_merged(self):
         store = plain_store.Store({b"c": b"x"})
         for event in (("begin", 1), ("put", 1, b"a", plain_store.text_of(5)), ("add", 1, b"a", 2), ("del", 1, b"b"), ("add", 1, b"b", -3), ("add", 1, b"k", 4), ("add", 1, b"k", 5), ("add", 1, b"y", 1), ("put", 1, b"y", b"6"), ("add", 1, b"z", 1), ("del", 1, b"z"), ("del", 1, b"c"), ("add", 1, b"c", 0)):
             self.assertNotEqual(store.step(event)[0], "refused", event)
@@ -215,7 +215,7 @@ class Adds(unittest.TestCase):
         self.assertEqual([*store.open[1].writes.items()], [*writes.items()])
 
     def test_sums_of_deltas(self):
-        """The number would fit, and what is added in all doesn't; behind an own put only the number counts."""
+        """The number would fit, and the sum of all adds doesn't; after an own put only the number counts."""
         store = plain_store.Store({b"a": plain_store.text_of(-GREATEST)})
         steps = [(("begin", 1), ("begun", 1)), (("add", 1, b"a", GREATEST), ("sum", 0)), (("add", 1, b"a", GREATEST), ("refused", "OutOfRange"))]
         steps += [(("add", 1, b"a", 1), ("refused", "OutOfRange")), (("put", 1, b"a", bytes(8)), ("ok",)), (("add", 1, b"a", GREATEST), ("sum", GREATEST))]
@@ -223,20 +223,20 @@ class Adds(unittest.TestCase):
         for event, reply in steps:
             self.assertEqual(store.step(event), reply, event)
 
-    def test_locks_come_before_what_stands_there(self):
-        told = self.answers("base k 1; begin 1; begin 2; get 2 k; add 1 k 1; commit 2; add 1 k 1; begin 2; put 2 k 12345678; add 1 k 1; commit 1")
-        self.assertEqual(told, "ok; begun 1; begun 2; = 1; wait; committed 1; refused NotNumber; begun 3; died; refused NotNumber; committed 2")
-        told = self.answers("base k 1; begin 1; begin 2; add 1 k 1; put 2 k 2; add 1 k 1")
-        self.assertEqual(told, "ok; begun 1; begun 2; refused NotNumber; ok; wait")
+    def test_locks_come_before_values(self):
+        answers = self.answers("base k 1; begin 1; begin 2; get 2 k; add 1 k 1; commit 2; add 1 k 1; begin 2; put 2 k 12345678; add 1 k 1; commit 1")
+        self.assertEqual(answers, "ok; begun 1; begun 2; = 1; wait; committed 1; refused NotNumber; begun 3; died; refused NotNumber; committed 2")
+        answers = self.answers("base k 1; begin 1; begin 2; add 1 k 1; put 2 k 2; add 1 k 1")
+        self.assertEqual(answers, "ok; begun 1; begun 2; refused NotNumber; ok; wait")
 
     def test_causes_in_order(self):
-        told = self.answers("base a 1234567; add 3 a 1; add 1 a 1; begin 1; add 1 b 1; add 1 a 9223372036854775807", sessions=2, capacity=1)
-        self.assertEqual(told, "ok; refused NoSession; refused NoTransaction; begun 1; refused Full; refused NotNumber")
+        answers = self.answers("base a 1234567; add 3 a 1; add 1 a 1; begin 1; add 1 b 1; add 1 a 9223372036854775807", sessions=2, capacity=1)
+        self.assertEqual(answers, "ok; refused NoSession; refused NoTransaction; begun 1; refused Full; refused NotNumber")
         writes = "; ".join(f"add 1 k{number} {number}" for number in range(256))
         self.assertTrue(self.answers(f"begin 1; {writes}; add 1 k256 1; add 1 k255 1", capacity=1024).endswith("sum 255; refused TooManyWrites; sum 256"))
 
     def test_what_is_committed_is_the_log_replayed(self):
-        """Of drawn scripts: each add of the log finds a number, and replayed, also by a recovery of the log's text, the log makes what is committed."""
+        """For random scripts: each add of the log finds a number, and the log replayed, also by a recovery of its text, gives the committed pairs."""
         kinds = collections.Counter()
         for number in range(150):
             (sessions, capacity, run), lines = soak.Scripts().draw(random.Random(f"adds {number}"))
@@ -295,8 +295,8 @@ class Adds(unittest.TestCase):
         part = bytes.fromhex("5043414c43503031 0000000000000001 00000001 00000001 00000001 0001 6e 00000001 02 0000000000000003 0000 00000001")
         self.assertRaisesRegex(plain_files.Refused, "BadKind", plain_files.read_part, part)
 
-    def test_what_a_log_with_adds_is_worth(self):
-        """Adds behind the token of a part's point are added to what the part has; one that finds no number, or leaves 64 bits, does nothing."""
+    def test_a_log_with_adds_gives_its_state(self):
+        """Adds after the token of a part's point are added to the part's values; one that finds no number, or leaves 64 bits, does nothing."""
         log = plain_files.Log(1)
         log.entries = [commit(1, {b"a": 5, b"b": 1}), ("token", "prepare", 1), ("token", "resolve", 1), commit(1, {b"a": -7, b"c": 2, b"d": 3, b"e": 1})]
         base = plain_files.Base(1, 0, keyed({b"a": plain_store.text_of(10), b"d": b"1234567", b"e": plain_store.text_of(GREATEST)}))
@@ -330,11 +330,11 @@ class Spaces(InFolder):
 
     def test_the_worked_row(self):
         script = rb"begin 1;put 1 k 1;put 1 \s7:k 2;put 1 \s0:k 3;put 1 \s7:- 3;commit 1;point;seal;capture;take;take;done;state 1".replace(b";", b"\n")
-        told = rb"begun 1;ok;ok;bad line;refused KeyLength;committed 1;phase prepare 1;phase resolve 1;phase capture 1;took k 1;took \s7:k 2;"
-        told += rb"part 1 file 1 entries 2;state point 1 pairs 2;k 1;\s7:k 2;status 3;"
-        self.assertEqual(plain_store.run_script([], script), told.replace(b";", b"\n"))
+        expected = rb"begun 1;ok;ok;bad line;refused KeyLength;committed 1;phase prepare 1;phase resolve 1;phase capture 1;took k 1;took \s7:k 2;"
+        expected += rb"part 1 file 1 entries 2;state point 1 pairs 2;k 1;\s7:k 2;status 3;"
+        self.assertEqual(plain_store.run_script([], script), expected.replace(b";", b"\n"))
 
-    def test_keys_rise_by_space_first(self):
+    def test_keys_are_ordered_by_space_first(self):
         part = plain_files.Part(1, [(1, 1)], {key: (1, None) for key in self.KEYS[::-1]})
         self.assertEqual([*plain_files.read_part(part.text()).entries], self.KEYS)
         for low, high in zip(self.KEYS, self.KEYS[1:]):
@@ -343,7 +343,7 @@ class Spaces(InFolder):
             self.assertIn(entries[0] + entries[1], text)
             self.assertRaisesRegex(plain_files.Refused, "KeyOrder", plain_files.read_part, text.replace(entries[0] + entries[1], entries[1] + entries[0]))
 
-    def test_the_order_is_tested_behind_the_whole_key(self):
+    def test_the_order_is_tested_after_the_whole_key(self):
         head = plain_files.Part(1, [(1, 1)], {(256, b"a"): (1, None)}).text()[:-6]
         for cut in (b"", b"\0", b"\0\1", b"\0\1\0", b"\0\1\0\xff"):
             self.assertRaisesRegex(plain_files.Refused, "Short", plain_files.read_part, head + cut)
@@ -373,7 +373,7 @@ class Spaces(InFolder):
         self.assertRaises(ValueError, plain_files.Base(1, 0, {(7, b"a"): b""}).text, FIRST)
 
     def test_the_body_of_a_log(self):
-        """One key of two spaces stands twice in a commit, of one space it doesn't; a body that ends within a key is BadLength."""
+        """A commit may have one key in two spaces, but not twice in one; a body that ends within a key is BadLength."""
         twice = "01 01 0002 0001 0007 61 00 0001 0008 61 00"
         self.assertEqual(plain_files.read_log(second_log(twice)).entries, [("commit", 1, [((7, b"a"), None), ((8, b"a"), None)])])
         self.assertEqual(plain_files.read_log(second_log(twice.replace("8", "7"))).fault, "KeyOrder")
@@ -405,7 +405,7 @@ class Spaces(InFolder):
 
 
 class Worked(InFolder):
-    def test_what_is_stored_is_made_of_the_texts(self):
+    def test_the_stored_files_are_made_of_the_texts(self):
         crate = pathlib.Path(self.folder)
         for part in ("specs", "proofs"):
             (crate / part).mkdir()

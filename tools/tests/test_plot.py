@@ -1,4 +1,4 @@
-"""Tests of what `bench/plot.py` draws, and of what it tells of files that it can't use."""
+"""Tests of what `bench/plot.py` draws, and of what it reports of files that it can't use."""
 
 import os
 import subprocess
@@ -12,7 +12,7 @@ PLOT = os.path.join(os.path.dirname(os.path.abspath(__file__)), "..", "..", "ben
 
 class Plots(InFolder):
     def drawn(self, times, picture="run.svg", *words):
-        """The status, what is told, and the picture."""
+        """The status, standard error, and the picture."""
         path = os.path.join(self.folder, picture)
         if times is not None:
             with open(os.path.join(self.folder, "run.times"), "w", encoding="utf-8") as out:
@@ -24,8 +24,8 @@ class Plots(InFolder):
             return ran.returncode, ran.stderr, it.read()
 
     def test_a_run_is_drawn(self):
-        status, told, picture = self.drawn("# times\n0 3 rest\n1 0 capture\n2 5 rest\n", "run.svg", "--title", "2 keys & more")
-        self.assertEqual((status, told), (0, ""))
+        status, err, picture = self.drawn("# times\n0 3 rest\n1 0 capture\n2 5 rest\n", "run.svg", "--title", "2 keys & more")
+        self.assertEqual((status, err), (0, ""))
         for part in ("2 keys &amp; more", "8 transactions commit", "The longest time without a commit is 10 ms.", 'fill="#7fc487"'):
             self.assertIn(part, picture)
 
@@ -35,12 +35,12 @@ class Plots(InFolder):
         self.assertEqual((status, picture.count("#3b6ea8")), (0, 600))
         self.assertIn("mean of 5", picture)
 
-    def test_what_is_no_such_file_is_told(self):
-        for times, told in ((None, "No such file or directory"), ("0 x rest\n", "line 1 isn't one of --times"), ("# a\n0 1 rest\n2 1 rest\n", "line 3 isn't one of --times"),
+    def test_what_is_no_such_file_is_reported(self):
+        for times, message in ((None, "No such file or directory"), ("0 x rest\n", "line 1 isn't one of --times"), ("# a\n0 1 rest\n2 1 rest\n", "line 3 isn't one of --times"),
                             ("0 1\n", "line 1 isn't one of --times"), ("0 1 late\n", "line 1 isn't one of --times"), ("# a\n", "no transaction commits in it")):
-            self.assertEqual(self.drawn(times), (1, f"run.times: {told}\n", ""))
+            self.assertEqual(self.drawn(times), (1, f"run.times: {message}\n", ""))
 
-    def test_a_picture_that_cant_be_written_is_told(self):
+    def test_a_picture_that_cant_be_written_is_reported(self):
         self.assertEqual(self.drawn("0 1 rest\n", "none/run.svg"), (1, "none/run.svg: No such file or directory\n", ""))
 
 

@@ -1,4 +1,4 @@
-"""What `promises.py` makes of promises, and what it tells of contracts that aren't there and of functions that no promise names."""
+"""What `promises.py` makes of promises, and what it reports of missing contracts and of functions that no promise names."""
 
 import unittest
 
@@ -150,7 +150,7 @@ class Made(InFolder):
         self.write("crates/pc_high/must-fail/gated.edit", edit)
         self.write("crates/pc_high/tried/other.edit", edit)
 
-    def told(self, *changes):
+    def faults(self, *changes):
         """The faults of the text after these changes."""
         text = TEXT
         for old, new in changes:
@@ -166,9 +166,9 @@ class Made(InFolder):
 
 
 class Pages(Made):
-    def test_the_page_and_what_is_told_of_another_one(self):
+    def test_the_page_and_the_report_of_a_stale_one(self):
         self.write("docs/promises.txt", TEXT)
-        stale = "docs/PROMISES.md is not what docs/promises.txt makes of it: tools/house/promises.py --mark\n"
+        stale = "docs/PROMISES.md differs from what docs/promises.txt gives: tools/house/promises.py --mark\n"
         last = "4 promises, 7 public functions, %d faults\n"
         self.assertEqual(self.printed(promises.main, []), (1, stale + last % 1))
         self.assertEqual(self.printed(promises.main, ["--mark"]), (0, last % 0))
@@ -191,7 +191,7 @@ class Pages(Made):
         self.assertEqual(self.cell("pc_high twice: doubled", "pc_low open"), "`pc_high` `twice` `doubled`; `open`")
         self.assertEqual(self.cell("pc_low hidden::unexported", "pc_low invariant Chest"), "`hidden::unexported`; invariant of `Chest`")
 
-    def test_names_that_stand_for_several(self):
+    def test_names_that_match_several(self):
         self.assertEqual(self.cell("pc_low Chest::*, Lid::*: most; open"), "each `Chest::..`, `Lid::..` `most`; `open`")
         self.assertEqual(self.cell("pc_low open, opened*, Chest::new"), "`open`, each `opened..`; `Chest::new`")
 
@@ -204,10 +204,10 @@ class Pages(Made):
 
 class Faults(Made):
     def test_none(self):
-        self.assertEqual(self.told(), [])
+        self.assertEqual(self.faults(), [])
 
     def test_what_is_not_there(self):
-        for old, new, told in (
+        for old, new, fault in (
             ("pc_low open", "pc_gone open", "opened: there is no crate pc_gone"),
             ("open, opened_again", "opne, opened_again", "opened: pc_low has no function opne"),
             ("opened_again: opened", "opened_again: shut", "opened: pc_low opened_again has no clause shut"),
@@ -218,48 +218,48 @@ class Faults(Made):
             ("Chest::len", "Chest::*: opened; Chest::len", "chests: pc_low has no function Chest::* with opened"),
             ("Chest::len", "Chest::len, shake", "chests: pc_low Chest::shake has no clause"),
         ):
-            with self.subTest(told=told):
-                self.assertIn(told, self.told((old, new)))
+            with self.subTest(fault=fault):
+                self.assertIn(fault, self.faults((old, new)))
 
     def test_a_function_of_a_trait_has_the_trait_s_clauses(self):
-        self.assertEqual(self.told(("pc_low Lid::lift", "pc_low Lid::lift, Chest::lift")), [])
+        self.assertEqual(self.faults(("pc_low Lid::lift", "pc_low Lid::lift, Chest::lift")), [])
 
     def test_functions_of_one_name(self):
-        self.assertEqual(self.told(("pc_low open,", "pc_low unexported, open,")), ["opened: pc_low has several functions unexported: name the file too"])
-        self.assertEqual(self.told(("pc_low open,", "pc_low chest::unexported; open,")), [])
+        self.assertEqual(self.faults(("pc_low open,", "pc_low unexported, open,")), ["opened: pc_low has several functions unexported: name the file too"])
+        self.assertEqual(self.faults(("pc_low open,", "pc_low chest::unexported; open,")), [])
 
     def test_names_of_promises(self):
-        self.assertEqual(self.told(("promise lids:", "promise chests:")), ["chests: two promises of a section have this name"])
-        self.assertEqual(self.told(("promise doubling:", "promise tripling:")), ["doubling: no promise has this name, which wrong bodies name"])
+        self.assertEqual(self.faults(("promise lids:", "promise chests:")), ["chests: two promises of a section have this name"])
+        self.assertEqual(self.faults(("promise doubling:", "promise tripling:")), ["doubling: no promise has this name, which wrong bodies name"])
 
     def test_a_promise_without_a_contract(self):
-        self.assertEqual(self.told(("  pc_high twice\n  note", "  note")), ["doubling: it names no contract"])
+        self.assertEqual(self.faults(("  pc_high twice\n  note", "  note")), ["doubling: it names no contract"])
 
     def test_a_note_that_names_code(self):
-        self.assertEqual(self.told(("for all numbers", "for all `u64`")), ["a note names code: for all `u64`"])
+        self.assertEqual(self.faults(("for all numbers", "for all `u64`")), ["a note names code: for all `u64`"])
 
     def test_a_public_function_that_nothing_names(self):
-        self.assertEqual(self.told(("; Chest::len", "")), ["nothing names the public function pc_low Chest::len"])
-        self.assertEqual(self.told(("Chest::shake", "Chest::*")), [])
-        self.assertEqual(self.told(("; Chest::len", ""), ("Chest::shake", "*")), ["nothing names the public function pc_low Chest::len"])
-        self.assertEqual(self.told(("; Chest::len", ""), ("Chest::shake", "Chest::shake, len")), [])
+        self.assertEqual(self.faults(("; Chest::len", "")), ["nothing names the public function pc_low Chest::len"])
+        self.assertEqual(self.faults(("Chest::shake", "Chest::*")), [])
+        self.assertEqual(self.faults(("; Chest::len", ""), ("Chest::shake", "*")), ["nothing names the public function pc_low Chest::len"])
+        self.assertEqual(self.faults(("; Chest::len", ""), ("Chest::shake", "Chest::shake, len")), [])
 
     def test_a_function_that_is_unnamed_and_named_or_none(self):
-        self.assertEqual(self.told(("Chest::shake", "Chest::shake, len")), ["unnamed: pc_low Chest::len is named above"])
-        self.assertEqual(self.told(("Chest::shake", "Chest::shake; unexported")), ["unnamed: pc_low unexported is no public function"])
-        self.assertEqual(self.told(("Chest::shake", "Chest::shake\n  pc_high *")), ["unnamed: pc_high * is no public function"])
+        self.assertEqual(self.faults(("Chest::shake", "Chest::shake, len")), ["unnamed: pc_low Chest::len is named above"])
+        self.assertEqual(self.faults(("Chest::shake", "Chest::shake; unexported")), ["unnamed: pc_low unexported is no public function"])
+        self.assertEqual(self.faults(("Chest::shake", "Chest::shake\n  pc_high *")), ["unnamed: pc_high * is no public function"])
 
     def test_wide_names_cover_functions_with_a_clause_alone(self):
-        self.assertEqual(self.told(("Chest::new: empty; Chest::len", "Chest::*")), [])
-        self.assertEqual(self.told(("Chest::new: empty; Chest::len", "Chest::*: most; Chest::new")), [])
-        self.assertEqual(self.told(("Chest::new: empty; Chest::len", "Chest::*"), ("unnamed: a movement, of which nothing is promised\n  pc_low Chest::shake\n", "")),
+        self.assertEqual(self.faults(("Chest::new: empty; Chest::len", "Chest::*")), [])
+        self.assertEqual(self.faults(("Chest::new: empty; Chest::len", "Chest::*: most; Chest::new")), [])
+        self.assertEqual(self.faults(("Chest::new: empty; Chest::len", "Chest::*"), ("unnamed: a movement, of which nothing is promised\n  pc_low Chest::shake\n", "")),
                          ["nothing names the public function pc_low Chest::shake"])
 
 
 class Repository(InFolder):
     def test_the_page_is_made_and_each_public_function_is_named(self):
-        status, told = self.printed(promises.main, [])
-        self.assertEqual(status, 0, told)
+        status, out = self.printed(promises.main, [])
+        self.assertEqual(status, 0, out)
 
 
 if __name__ == "__main__":

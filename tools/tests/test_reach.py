@@ -1,4 +1,4 @@
-"""What `reach.py` counts to what refuses a wrong body: which changes of a text make its checksums other ones."""
+"""What `reach.py` counts to what refuses a wrong body: which changes of a text change its checksums."""
 
 import unittest
 
@@ -35,7 +35,7 @@ ghost use Rattle.pc_low.specs.Words.{IsCount, IsOther};
 
 pub const MOST: u64 = 9;
 
-/// Where a count stands.
+/// The place of a count.
 #[derive(Clone, Copy)]
 pub enum Place {
     First,
@@ -112,14 +112,14 @@ class Reach(InFolder):
         self.edit = EDIT
 
     def changed_by(self, path, old, new):
-        """Which of both checksums are other ones with this change: of what the body changes, and of what that reaches."""
+        """Which of both checksums differ after this change: of what the body changes, and of what that reaches."""
         before = reach.tree_here().sums("pc_high", self.edit)
         text = self.read(path)
         self.assertEqual(text.count(old), 1, old)
         self.write(path, text.replace(old, new))
-        behind = reach.tree_here().sums("pc_high", self.edit)
+        after = reach.tree_here().sums("pc_high", self.edit)
         self.write(path, text)
-        return tuple(one != other for one, other in zip(before, behind))
+        return tuple(one != other for one, other in zip(before, after))
 
     def low(self, old, new):
         return self.changed_by("crates/pc_low/src/lib.rt", old, new)
@@ -189,7 +189,7 @@ class Reach(InFolder):
 
 
 class Stored(unittest.TestCase):
-    """The repository as it stands."""
+    """The repository's present text."""
 
     def test_a_method_its_contract_and_its_type(self):
         tree = reach.tree_here()

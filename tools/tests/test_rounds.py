@@ -57,15 +57,15 @@ class Rounds(InFolder):
 
         return rounds.try_round(self.copy, bodies, self.functions, self.texts, run)
 
-    def test_bodies_of_different_functions_stand_together(self):
+    def test_bodies_of_different_functions_are_tried_together(self):
         self.assertIsNone(self.functions["const"])
         some = {it: own for it, own in self.functions.items() if own}
         self.assertEqual(rounds.rounds_of(some), [["method", "trait", "free"], ["again"]])
 
-    def test_a_function_is_told_by_its_type(self):
+    def test_a_function_is_found_by_its_type(self):
         lines = rt_source.owners_in(SOURCE)
-        told = {number: lines[number] for number, line in enumerate(SOURCE.split("\n"), 1) if line.lstrip().startswith(("1", "2", "One"))}
-        self.assertEqual([*told.values()], [("One", "new"), ("One", "from"), ("", "new")])
+        names = {number: lines[number] for number, line in enumerate(SOURCE.split("\n"), 1) if line.lstrip().startswith(("1", "2", "One"))}
+        self.assertEqual([*names.values()], [("One", "new"), ("One", "from"), ("", "new")])
         for full, wanted in (("pc_one::One::new", "method"), ("pc_one::OneFromU8::from", "trait")):
             self.assertEqual([it for it in ("method", "trait") for own in self.functions[it] if rounds.is_of(full, own)], [wanted])
 
@@ -89,11 +89,11 @@ class Rounds(InFolder):
         said = f"note: src/lib.rt:{line}:5: it is not proved that what the function ensures holds (`returns`)\nfn pc_one::OneFromU8::from: no proof: x\n"
         self.assertEqual(self.tried(["trait"], said), {"trait": "clause"})
 
-    def test_a_body_that_no_longer_stands_there_is_left_out(self):
+    def test_a_body_that_no_longer_applies_is_left_out(self):
         self.texts["free"] = edit("no such text", "7")
         self.assertEqual(self.tried(["free"]), {})
 
-    def test_a_note_of_a_library_below_is_passed_over(self):
+    def test_a_note_of_a_library_below_is_ignored(self):
         said = "note: src/elsewhere.rt:19:5: it is not proved that what the function ensures holds (`returns`)\nfn pc_one::One::new: no proof: x\n"
         self.assertEqual(self.tried(["method"], said), {"method": "fits"})
         self.assertEqual(self.copy.first, {})

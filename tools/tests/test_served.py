@@ -18,11 +18,11 @@ class Served(unittest.TestCase):
                 self.assertEqual(store.answer(line.removesuffix(b"\r")), b"" if answer is None else answer + b"\n", line)
             pairs = store.pairs()
 
-    def test_a_generation_rolls_where_none_is_open(self):
+    def test_a_generation_rolls_if_no_transaction_is_open(self):
         store = plain_serving.Served(run=5, roll=1)
-        told = [store.answer(line) for line in (b"begin 1", b"begin 2", b"put 1 a 1", b"commit 1", b"run", b"abort 2", b"run", b"stats")]
-        self.assertEqual(told[4:7], [b"run 5\n", b"aborted\n", b"run 6\n"])
-        self.assertEqual(told[7], b"entries=0 commits=0 points=0 open=0 bytes=20 pairs=1\n")
+        answers = [store.answer(line) for line in (b"begin 1", b"begin 2", b"put 1 a 1", b"commit 1", b"run", b"abort 2", b"run", b"stats")]
+        self.assertEqual(answers[4:7], [b"run 5\n", b"aborted\n", b"run 6\n"])
+        self.assertEqual(answers[7], b"entries=0 commits=0 points=0 open=0 bytes=20 pairs=1\n")
         self.assertEqual(store.pairs(), plain_store.keyed({b"a": b"1"}))
 
 

@@ -1,4 +1,4 @@
-"""What `soak.py` holds a program to: stand-ins that are right in all, and such that are wrong in one thing, which has to be found."""
+"""What `soak.py` finds in a program: stand-ins that are right, and ones that are wrong in one thing, which must be found."""
 
 import os
 import random
@@ -73,7 +73,7 @@ def collapse(out, *names):
 
 
 def run(workload, option, place, *words):
-    """The clients one after the other, without points: the lines up to the last two are those that are looked at."""
+    """The clients in turn, without points: `soak.py` looks at the lines up to the last two."""
     log, store, client = plain_files.Log(1), plain_store.Store((), 64, 1024), None
     with open(workload, "rb") as it:
         lines = [line.split() for line in it]
@@ -96,7 +96,7 @@ def run(workload, option, place, *words):
 
 
 def served(folder, words, lines, most):
-    """A store that is served: it leaves one generation, whose log has what was answered, and is killed behind this number of lines."""
+    """A served store: it leaves one generation, whose log has what was answered, and is killed after this number of lines."""
     options = {name: int(number) for name, _, number in (word[2:].partition("=") for word in words if "=" in word)}
     place = os.path.join(folder, "S")
     os.makedirs(place, exist_ok=True)
@@ -145,7 +145,7 @@ class Soaks(InFolder):
         self.addCleanup(patched.stop)
 
     def found(self, kind, most=60):
-        """What is shown of the first case that differs, nothing where none of so many does."""
+        """The lines printed of the first case that differs, none if none of these does."""
         for number in range(most):
             _, lines = soak.case(kind, "tests", number)
             if lines:
@@ -286,11 +286,11 @@ class Soaks(InFolder):
 
     def test_a_served_store_that_loses_a_commit(self):
         def wrong(*words):
-            told = served(*words)
+            ended = served(*words)
             if words[3] is not None:
                 with open(self.last_log(words[0]), "r+b") as it:
                     it.truncate(max(20, os.path.getsize(it.name) - 1))
-            return told
+            return ended
 
         self.patch(soak, "served", wrong)
         self.assertIn("serves", self.found(soak.Serves())[0])
@@ -299,7 +299,7 @@ class Soaks(InFolder):
         place = os.path.join(folder, "S")
         return os.path.join(place, max(os.listdir(place)), "log.pcl")
 
-    def test_a_served_store_that_tells_no_grant(self):
+    def test_a_served_store_that_reports_no_grant(self):
         def wrong(*words):
             status, out, err = served(*words)
             return status, re.sub(rb"granted [0-9]+\n", b"", out), err
@@ -318,7 +318,7 @@ class Soaks(InFolder):
         self.assertEqual(soak.clashes(parts), (False, True))
         self.assertEqual(soak.clashes(parts[1:]), (False, False))
 
-    def test_what_was_tried_is_told(self):
+    def test_what_was_tried_is_counted(self):
         counts, differing = soak.soak(0.0, "tests")
         self.assertEqual((dict(counts), differing), ({}, 0))
 

@@ -87,13 +87,13 @@ class Sources(unittest.TestCase):
         self.found = [*rt_source.functions_in(SOURCE)]
 
     def test_each_function_with_its_type_and_trait(self):
-        told = [(it.owner, it.trait, it.name) for it in self.found]
+        found = [(it.owner, it.trait, it.name) for it in self.found]
         methods = [("Chest", "Lid", "lift"), ("Chest", "", "depth"), ("Chest", "", "deep"), ("Lid", "Lid", "lift"), ("Lid", "Lid", "shut")]
-        self.assertEqual(told, [*methods, ("", "", "handed"), ("", "", "private"), ("", "", "it_is_one")])
+        self.assertEqual(found, [*methods, ("", "", "handed"), ("", "", "private"), ("", "", "it_is_one")])
 
     def test_which_are_public(self):
-        told = [rt_source.full_name(it) for it in self.found if rt_source.is_public(it)]
-        self.assertEqual(told, ["Chest::lift", "Chest::deep", "Lid::lift", "Lid::shut", "handed"])
+        found = [rt_source.full_name(it) for it in self.found if rt_source.is_public(it)]
+        self.assertEqual(found, ["Chest::lift", "Chest::deep", "Lid::lift", "Lid::shut", "handed"])
 
     def test_a_signature_has_its_clauses_and_no_layout(self):
         lift, _, deep, of_trait, shut, handed, *_ = map(rt_source.signature_in, self.found)
@@ -105,14 +105,14 @@ class Sources(unittest.TestCase):
 
     def test_clauses_one_by_one(self):
         lift, depth, deep, *_ = self.found
-        told = [("requires", "", "IsShut self.old"), ("ensures", "open", "IsOpen self.new"), ("ensures", "same", "Result { a = self.old }")]
-        self.assertEqual([*rt_source.clauses_in(lift)], told)
+        found = [("requires", "", "IsShut self.old"), ("ensures", "open", "IsOpen self.new"), ("ensures", "same", "Result { a = self.old }")]
+        self.assertEqual([*rt_source.clauses_in(lift)], found)
         self.assertEqual(([*rt_source.clauses_in(depth)], [*rt_source.clauses_in(deep)]), ([], [("ensures", "", "result ≡ 1")]))
         self.assertEqual((rt_source.clauses_text(depth), rt_source.clauses_text(deep)), ("", "ensures { result ≡ 1 }"))
 
     def test_sizes(self):
-        told = [it[1:] for it in rt_source.sizes_in("lib.rt", rt_source.without_tests("lib.rt", SOURCE))]
-        self.assertEqual(told, [("lift", 2, 1), ("depth", 1, 1), ("deep", 2, 1), ("lift", 2, 0), ("shut", 1, 0), ("handed", 1, 1), ("private", 0, 0)])
+        found = [it[1:] for it in rt_source.sizes_in("lib.rt", rt_source.without_tests("lib.rt", SOURCE))]
+        self.assertEqual(found, [("lift", 2, 1), ("depth", 1, 1), ("deep", 2, 1), ("lift", 2, 0), ("shut", 1, 0), ("handed", 1, 1), ("private", 0, 0)])
 
     def test_files_of_tests_have_no_code(self):
         self.assertEqual(rt_source.without_tests("pair_tests.rt", SOURCE), "")
@@ -139,7 +139,7 @@ class Exports(InFolder):
 
 class Repository(unittest.TestCase):
     def test_each_function_is_read_with_all_its_clauses(self):
-        """As many functions as there are heads, and as many clauses as lines of their signatures begin so."""
+        """As many functions as heads, and as many clauses as lines of their signatures that begin with one."""
         for name in sorted(os.listdir(os.path.join(ROOT, "crates"))):
             for path in rt_source.sources(os.path.join(ROOT, "crates", name)):
                 text = text_of(path)

@@ -1,4 +1,4 @@
-"""How the tools find each other: each script can be started from any folder, and what is named of them in pages and sources is there."""
+"""How the tools find each other: each script can be started from any folder, and the tools named in pages and sources exist."""
 
 import ast
 import glob
@@ -51,7 +51,7 @@ class Tools(unittest.TestCase):
         for path in glob.glob(os.path.join(TOOLS, "oracle", "*.py")):
             self.assertEqual(set(re.findall(r"(?m)^from tools\.?(\w*)", text_of(path))) - {"oracle"}, set(), path)
 
-    def test_what_is_named_of_the_tools_is_there(self):
+    def test_the_tools_that_are_named_exist(self):
         paths = [path for pattern in NAMING for path in glob.glob(os.path.join(ROOT, pattern), recursive=True) if os.path.isfile(path)]
         gone = {(os.path.relpath(path, ROOT), name) for path in paths for name in NAMED.findall(text_of(path)) if not os.path.exists(os.path.join(ROOT, name))}
         self.assertEqual(gone, set())

@@ -1,4 +1,4 @@
-"""What runs that are killed, and growths that are refused, are held to: `crash_cases.py`, `refused_growths.py`, and the pipes of `case.py`."""
+"""What killed runs and refused growths are tested for: `crash_cases.py`, `refused_growths.py`, and the pipes of `case.py`."""
 
 import os
 import subprocess
@@ -36,30 +36,30 @@ class Crashes(InFolder):
         self.assertEqual(self.faults(5), [])
 
     def test_what_is_lost(self):
-        self.assertEqual(self.faults(6), ["the log has 5 commits, of at least 6 that it is to have", "5 commits are recovered, of at least 6"])
+        self.assertEqual(self.faults(6), ["the log has 5 commits, and must have at least 6", "5 commits are recovered, and at least 6 must be"])
 
     def test_a_log_that_leaves_one_out(self):
         del self.commits[2]
-        self.assertEqual(self.faults(), ["the log hasn't the first transactions of client 1"])
+        self.assertEqual(self.faults(), ["the log doesn't have the first transactions of client 1"])
 
     def test_pairs_that_are_no_state(self):
         self.pairs[0, b"ak01"] = b"0"
-        self.assertEqual(self.faults(), ["what is recovered of client 1 is no state that it has made"])
+        self.assertEqual(self.faults(), ["what is recovered of client 1 is no state of it"])
 
-    def test_pairs_behind_the_log(self):
+    def test_pairs_older_than_the_log(self):
         self.pairs[0, b"ak00"] = b"0"
         del self.pairs[1, b"ak01"]
-        told = ["what is recovered of client %d is no state that it has made", "client %d has not counted its transactions"]
-        self.assertEqual(self.faults(), [line % client for client in (1, 2) for line in told])
+        faults = ["what is recovered of client %d is no state of it", "client %d has not counted its transactions"]
+        self.assertEqual(self.faults(), [line % client for client in (1, 2) for line in faults])
 
-    def test_an_add_that_is_made_twice_or_lost(self):
+    def test_an_add_that_is_applied_twice_or_lost(self):
         self.pairs[0, b"an"] = bytes(7) + b"\4"
         del self.pairs[1, b"an"]
         self.assertEqual(self.faults(), [f"client {client} has not counted its transactions" for client in (1, 2)])
 
     def test_an_add_that_the_log_lacks(self):
         del self.commits[4][2][1]
-        self.assertEqual(self.faults(), ["the log hasn't the first transactions of client 2"])
+        self.assertEqual(self.faults(), ["the log doesn't have the first transactions of client 2"])
 
     def test_a_workload_is_each_clients(self):
         text = crash_cases.workload(b"a")
@@ -77,21 +77,21 @@ class Crashes(InFolder):
         os.close(end)
 
     def test_what_a_program_recovers(self):
-        """It is right where the program prints what the files are worth, and nothing else."""
+        """It is right if the program prints the state of the files, and nothing else."""
         for name, text in (("base.pcb", plain_files.Base(1, 0, {}).text()), ("log.pcl", plain_files.Log(1).text())):
             case.written(self.folder, name, text)
         ended = lambda status, out, err=b"": mock.patch.object(subprocess, "run", return_value=subprocess.CompletedProcess([], status, out, err))
         right = b"point 0\nentries 0\npairs 0\n"
-        for told, lines in (((0, right), 0), ((1, right), 1), ((0, right + b"a 1\n"), 1), ((0, right, b"skipped"), 1)):
-            with ended(*told):
-                self.assertEqual(len(crash_cases.recovered("pcalc", self.folder)[0]), lines, told)
+        for result, lines in (((0, right), 0), ((1, right), 1), ((0, right + b"a 1\n"), 1), ((0, right, b"skipped"), 1)):
+            with ended(*result):
+                self.assertEqual(len(crash_cases.recovered("pcalc", self.folder)[0]), lines, result)
         os.remove(os.path.join(self.folder, "base.pcb"))
         self.assertEqual(len(crash_cases.recovered("pcalc", self.folder)[0]), 1)
 
 
 class Growths(InFolder):
     def calls(self, growths, end=0):
-        """A call that asks for so many growths."""
+        """A call that asks for this number of growths."""
         return lambda number: (end, b"", b"", number <= growths)
 
     def test_each_growth_is_refused_once(self):
@@ -104,7 +104,7 @@ class Growths(InFolder):
         found = [*refused_growths.refused_each(self.calls(9, None))]
         self.assertEqual([number for number, _ in found], [1, 2])
 
-    def test_growths_without_an_end_are_told(self):
+    def test_growths_without_an_end_are_reported(self):
         self.replace(refused_growths, LANES=2, MOST_GROWTHS=5)
         self.assertEqual([*refused_growths.refused_each(self.calls(100))][-1], (5, (None, b"", b"no end of growths", True, False)))
 
@@ -127,7 +127,7 @@ class Growths(InFolder):
             self.assertFalse(run.is_right(*wrong, True), wrong)
 
     def test_what_is_wrong_with_runs(self):
-        """Some are to end with the status 1."""
+        """Some must end with status 1."""
         done, lost = (0, refused_growths.printed_with(0), b"", True, True), (1, b"", b"", True, False)
         for ends, wrong in (([done, lost], 0), ([done, done], 1), ([done, lost, (2, b"", b"", True, True)], 1), ([lost, (*done[:4], False)], 1)):
             with mock.patch.object(refused_growths, "refused_each", return_value=enumerate(ends, 1)):
@@ -135,7 +135,7 @@ class Growths(InFolder):
                 self.assertEqual(len(found), wrong)
 
     def test_what_a_command_writes(self):
-        """It is right where it is the file's text, and wrong where it is another or none."""
+        """It is right if it is the file's text, and wrong if it is another or none."""
         for written, is_right in (("right", True), ("wrong", False), ("", False)):
             script = f"printf {written} >out" if written else "true"
             command = refused_growths.Command("one", ("-c", script), {"in": b"x"}, [b""], ("out", b"right"))
@@ -147,7 +147,7 @@ class Growths(InFolder):
             with mock.patch.object(refused_growths, "refused_each", return_value=enumerate(ends, 1)):
                 self.assertEqual(self.printed(refused_growths.test, "library", "tests", self.folder, "one")[0], wrong)
 
-    def test_a_crate_without_tests_is_told(self):
+    def test_a_crate_without_tests_is_reported(self):
         [(name, lines)] = refused_growths.tester_growths("library", "test_nothing", self.folder)
         self.assertEqual((name, len(lines)), ("test_nothing has tests of growths", 1))
         with mock.patch.object(refused_growths, "tests_of", return_value=[]):
@@ -159,15 +159,15 @@ class Growths(InFolder):
             self.assertEqual(refused_growths.tests_of("tests"), ["one_at_each_refused_growth"])
 
     def test_the_growth_that_is_refused_is_seen_by_its_number(self):
-        """A program that tells which one was refused is not itself the one that tells."""
-        script = self.write("told.sh", "echo $REFUSED_GROWTH $LD_PRELOAD; echo a growth was refused >&2; echo other >&2; exit 1\n")
+        """The note of the refusal is removed from the program's standard error."""
+        script = self.write("noted.sh", "echo $REFUSED_GROWTH $LD_PRELOAD; echo a growth was refused >&2; echo other >&2; exit 1\n")
         self.assertEqual(refused_growths.refused("", 7, ("sh", script), self.folder), (1, b"7\n", b"other\n", True))
 
 
 class Pipes(InFolder):
     def test_a_pipe_is_fed_once_it_is_read(self):
         path, done = case.piped(self.folder, "pipe"), []
-        with case.beside(lambda: case.feed(path, b"text", lambda: done.append(1))):
+        with case.concurrently(lambda: case.feed(path, b"text", lambda: done.append(1))):
             with open(path, "rb") as it:
                 self.assertEqual(it.read(), b"text")
         self.assertEqual(done, [1])

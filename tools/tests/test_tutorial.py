@@ -1,4 +1,4 @@
-"""What `tutorial_cases.py` reads off a page, and what it tells of commands that print something else."""
+"""What `tutorial_cases.py` reads from a page, and what it reports of commands with another output."""
 
 import unittest
 

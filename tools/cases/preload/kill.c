@@ -1,5 +1,5 @@
 // Kills the process at one of the calls that change files: the one whose number, from 1, is the value of KILLED_CALL, before it is made. Threads
-// count together. What it takes of the C library is declared here, so that it needs no header.
+// share one count. What it uses of the C library is declared here, so it needs no header.
 typedef __SIZE_TYPE__ size_t;
 typedef __PTRDIFF_TYPE__ ssize_t;
 #define NULL ((void *)0)

@@ -1,5 +1,5 @@
-// Notes the calls that bring a file to its device, by an s, and those that name one, by an r, in the file whose path is the value of NOTED_SYNCS. What
-// it takes of the C library is declared here, so that it needs no header.
+// Notes the calls that flush a file, by an s, and those that rename one, by an r, in the file whose path is the value of NOTED_SYNCS. What
+// it uses of the C library is declared here, so it needs no header.
 typedef __SIZE_TYPE__ size_t;
 typedef __PTRDIFF_TYPE__ ssize_t;
 #define NULL ((void *)0)

@@ -1,5 +1,5 @@
 // Refuses one growth: the call of malloc or realloc whose number, from 1, is the value of REFUSED_GROWTH. It says so on
-// standard error. Threads count together. What it takes of the C library is declared here, so that it needs no header.
+// standard error. Threads share one count. What it uses of the C library is declared here, so it needs no header.
 typedef __SIZE_TYPE__ size_t;
 typedef __PTRDIFF_TYPE__ ssize_t;
 #define NULL ((void *)0)
@@ -19,8 +19,8 @@ static int is_refused(void) {
     if (number == NULL || call != atol(number)) {
         return 0;
     }
-    static const char told[] = "a growth was refused\n";
-    return write(2, told, sizeof told - 1) > 0;
+    static const char message[] = "a growth was refused\n";
+    return write(2, message, sizeof message - 1) > 0;
 }
 
 void *malloc(size_t size) {
