@@ -189,7 +189,7 @@ def listed(order, specs, known):
 def marked(page):
     """The page with the present lists instead of its own."""
     before, title, rest = page.partition("\n## What has to be believed\n")
-    text, plan, after = rest.partition("\n## What is to be bettered\n")
+    text, plan, after = rest.partition("\n## Words\n")
     kept = [line for line in text.rstrip().split("\n") if not line.startswith("- **")]
     return before + title + "\n".join(kept).rstrip() + "\n\n" + "\n".join(headlines()) + "\n" + plan + after
 

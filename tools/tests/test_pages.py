@@ -122,7 +122,7 @@ PAGE = """\
 These lists are made.
 
 %s
-## What is to be bettered
+## Words
 
 Nothing.
 """
