@@ -1,6 +1,6 @@
 -- The faults that end a run that has begun.
 use Rattle.std.proofs.Common.{◌≡◌, ◌⊎◌, inl, inr, ℕ, ◌<◌, ◌≤◌, Bool, true, false, List, [], ◌∷◌, ◌++◌, All, Option, Some, None, length, length-append, refl, sym, subst, ◌∙◌, arith}
-use Rattle.std.specs.Prelude.{IsTrue, ◌||◌, is_some}
+use Rattle.std.specs.Prelude.{⊤, IsTrue, ◌||◌, is_some}
 use Rattle.std.specs.List.{flat_map}
 use Rattle.pc_types.specs.declared.limits.TheConstants.{MOST_KEYS}
 use Rattle.pc_types.specs.declared.refusal.Refusal.{Refusal}
@@ -14,11 +14,12 @@ use Rattle.pc_jobs.specs.Dealing.{IsDealt}
 use Rattle.pc_jobs.specs.declared.works.Client.{Client}
 use Rattle.pc_jobs.specs.declared.works.Workload.{Workload}
 use Rattle.pc_texts.specs.declared.file_names.FileName.{FileName}
+use Rattle.pc_texts.specs.declared.file_names.FileName.TheVariants.{Base}
 use Rattle.pc_texts.proofs.StatePairLaws.{pairs_of}
 use Rattle.pc_outcomes.specs.Leaving.{IsUntoldAfter, has_point}
 use Rattle.pc_shared.specs.Sitters.{Sitter, HasAll, IsEndOf}
 use Rattle.pc_threads.specs.Clients.{HaveWorked, IsFresh, clients_in, jobs_of, transactions_in}
-use Rattle.pc_threads.specs.Faults.{IsThreadsEnd, lost_file_fault}
+use Rattle.pc_threads.specs.Faults.{IsFileLost, IsThreadsEnd, lost_file_fault}
 use Rattle.pc_threads.specs.Files.{HasWritten}
 use Rattle.pc_threads.specs.declared.fault.ThreadsFault.{ThreadsFault}
 use Rattle.pc_threads.specs.declared.fault.ThreadsFault.TheVariants as fault
@@ -28,7 +29,7 @@ use Rattle.pc_threads.specs.declared.files.FileFault.{FileFault}
 use Rattle.pc_threads.specs.declared.files.FileFault.TheVariants as lost
 use Rattle.pc_workers.specs.Covering.{HaveJustTo}
 use Rattle.pc_runs.specs.Faults.{EndsRun, IsFaultOfStop, IsRunRefused, StoreHasStopped}
-use Rattle.pc_runs.specs.Folders.{HasBegunFiles, IsLogLost}
+use Rattle.pc_runs.specs.Folders.{HasBegunFiles, IsBeginLost, IsLogLost}
 use Rattle.pc_runs.proofs.DealingLaws.{same_total, total}
 use Rattle.pc_runs.proofs.FullLogLaws.{fills_log}
 
@@ -47,6 +48,15 @@ log_there holds contents blank base None None begun = refl
 log_there holds contents blank base (Some folder) (Some log) begun = refl
 log_there holds contents blank base None (Some log) begun = absurd begun
 log_there holds contents blank base (Some folder) None begun = absurd begun
+
+-- a file that was lost for a reason of its folder was lost
+pub lost_for_any : {T : Type 0} (refuses : FileName → Refusal → Type 0) (name : FileName) (failures : ℕ) (given : FileFault T) → IsFileLost refuses name failures given → IsFileLost (λ file why. ⊤) name failures given
+lost_for_any refuses name failures (lost.Unmade file why) is = (is.0, tt)
+lost_for_any refuses name failures (lost.Failed file) is = is
+
+pub begin_lost_for_any : {T : Type 0} (refuses : FileName → Refusal → Type 0) (given : FileFault T) → IsBeginLost refuses given → IsBeginLost (λ file why. ⊤) given
+begin_lost_for_any refuses given (inl is) = inl (lost_for_any refuses Base 0 given is)
+begin_lost_for_any refuses given (inr (why, is, refused)) = inr (why, is, tt)
 
 -- there is a folder if its log is lost
 pub log_lost_there : {D T : Type 0} (folder : Option D) (log : Option (Tally T)) (given : FileFault T) → IsLogLost folder log given → IsTrue (is_some folder)
