@@ -202,11 +202,11 @@ def described(name):
 
 
 def budget():
-    """The rows `| what | at most |` and, of crates that are over it, `| crate | what | at most |`, below the budget's heading."""
+    """The rows `| what | at most |` and, of crates that are over it, `| crate | what | at most | why |`, below the budget's heading."""
     with open(os.path.join(ROOT, "docs", "BENCHMARKS.md"), encoding="utf-8") as it:
         text = it.read().partition("### The gate's budget\n")[2].partition("\n## ")[0]
     most = {row[0]: int(row[1]) for row in re.findall(r"(?m)^\| ([a-z ]+) \| (\d+) \|$", text)}
-    over = {(row[0], row[1]): int(row[2]) for row in re.findall(r"(?m)^\| `(\w+)` \| ([a-z ]+) \| (\d+) \|$", text)}
+    over = {(row[0], row[1]): int(row[2]) for row in re.findall(r"(?m)^\| `(\w+)` \| ([a-z ]+) \| (\d+) \|(?: .*\|)?$", text)}
     return most, over
 
 

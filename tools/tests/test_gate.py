@@ -46,9 +46,9 @@ BUDGET = """\
 | tests | 500 |
 | processor minutes | 180 |
 
-| crate | what | at most |
-|---|---|---|
-| `pc_high` | proof from nothing | 200 |
+| crate | what | at most | why |
+|---|---|---|---|
+| `pc_high` | proof from nothing | 200 | a reason |
 
 ## Other figures
 
