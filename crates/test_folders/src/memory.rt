@@ -38,11 +38,12 @@ impl MemoryFolder {
 
 impl NewFiles<Vec<u8>> for MemoryFolder {
     ghost use Rattle.std.specs.Prelude.{◌≡◌, Some, []};
+    ghost use Rattle.pc_types.specs.declared.refusal.Refusal.TheVariants.{OutOfMemory};
     ghost use Rattle.test_folders.specs.Texts.{HasText};
 
     ghost holds = { λ folder name text. HasText folder.files.items name text };
 
-    ghost refuses = { λ folder name why. why ≡ Refusal.OutOfMemory };
+    ghost refuses = { λ folder name why. why ≡ OutOfMemory };
 
     ghost blank = { Some [] };
 
