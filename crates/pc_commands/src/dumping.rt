@@ -4,7 +4,7 @@ ghost use Rattle.std.specs.Prelude.{◌≡◌, if◌then◌else◌};
 use pc_disk::{
     Causes, FoundFolder, ReadFolder, RecoveredFolder, open_folder, output_before, tell_unopened,
 };
-use pc_explanations::{About, Explained, Explainer, explain_output, is_explained};
+use pc_explanations::{About, Explainer, explain_output};
 use pc_io::Tally;
 use pc_lines::text_of;
 use pc_options::DumpOptions;
@@ -42,14 +42,9 @@ fn dump_in<'a>(
     found: &'a RecoveredFolder,
 ) -> io::Result<u8> {
     let path = found.path.as_str();
-    let explainer = Explainer {
-        rt,
-        causes,
-        about: About::Folder(path),
-        is_on: is_explained(rt, options.is_explained),
-    };
+    let explainer = Explainer::new(rt, causes, About::Folder(path), options.is_explained);
     let stderr = rt.stderr();
-    let mut errors = Tally::new(Explained::new(&explainer, io::writer(&stderr)));
+    let mut errors = explainer.errors(io::writer(&stderr));
     let status = match text_of(rt.alloc(), options.prefix.unwrap_or("-").as_bytes())? {
         Some(prefix) => {
             let _ = found.tell(&mut errors);

@@ -2,7 +2,7 @@
 use crate::parts::{Inputs, JoinedFile, is_other_file};
 use pc_collapse_files::run_collapse;
 use pc_disk::{Causes, Target, output_before};
-use pc_explanations::{About, Explained, Explainer, explain_output, is_explained};
+use pc_explanations::{About, Explainer, explain_output};
 use pc_io::Tally;
 use pc_options::CollapseOptions;
 use pc_texts::{report, report_words};
@@ -21,14 +21,9 @@ const MISUSED: u8 = 2;
 pub fn join_parts(rt: &HostRuntime, options: &CollapseOptions<'_>) -> io::Result<u8> {
     let causes = Causes::new(rt.alloc())?;
     let paths = options.inputs.as_slice();
-    let explainer = Explainer {
-        rt,
-        causes: &causes,
-        about: About::Parts(paths),
-        is_on: is_explained(rt, options.is_explained),
-    };
+    let explainer = Explainer::new(rt, &causes, About::Parts(paths), options.is_explained);
     let stderr = rt.stderr();
-    let mut errors = Tally::new(Explained::new(&explainer, io::writer(&stderr)));
+    let mut errors = explainer.errors(io::writer(&stderr));
     let inputs = Inputs {
         rt,
         causes: &causes,

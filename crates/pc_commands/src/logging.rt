@@ -1,7 +1,7 @@
 //! A log of which the entries are printed.
 use crate::parts::open_named;
 use pc_disk::{Causes, output_before};
-use pc_explanations::{About, Explained, Explainer, explain_output, is_explained};
+use pc_explanations::{About, Explainer, explain_output};
 use pc_io::Tally;
 use pc_log_lines::{EntryRange, run_log};
 use pc_options::LogOptions;
@@ -10,14 +10,14 @@ use std::io;
 /// Prints the entries of the log as the options say; the status.
 pub fn show_log(rt: &HostRuntime, options: &LogOptions<'_>) -> io::Result<u8> {
     let causes = Causes::new(rt.alloc())?;
-    let explainer = Explainer {
+    let explainer = Explainer::new(
         rt,
-        causes: &causes,
-        about: About::Script(options.file),
-        is_on: is_explained(rt, options.is_explained),
-    };
+        &causes,
+        About::Script(options.file),
+        options.is_explained,
+    );
     let stderr = rt.stderr();
-    let mut errors = Tally::new(Explained::new(&explainer, io::writer(&stderr)));
+    let mut errors = explainer.errors(io::writer(&stderr));
     let mut out = Tally::new(output_before(rt, &causes, io::writer(rt))?);
     let range = EntryRange {
         low: u64::from(options.low),

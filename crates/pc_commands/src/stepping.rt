@@ -1,7 +1,7 @@
 //! A script that is run against a store.
 use crate::parts::open_named;
 use pc_disk::{Causes, Noted, output_before};
-use pc_explanations::{About, Explained, Explainer, explain_output, is_explained};
+use pc_explanations::{About, Explainer, explain_output};
 use pc_io::Tally;
 use pc_options::StepOptions;
 use pc_reasons::put_script_faults;
@@ -20,14 +20,14 @@ const BAD_LINES: u8 = 3;
 /// system gives none, it is an error, and nothing is printed.
 pub fn step_script(rt: &HostRuntime, options: &StepOptions<'_>) -> io::Result<u8> {
     let causes = Causes::new(rt.alloc())?;
-    let explainer = Explainer {
+    let explainer = Explainer::new(
         rt,
-        causes: &causes,
-        about: About::Script(options.script),
-        is_on: is_explained(rt, options.is_explained),
-    };
+        &causes,
+        About::Script(options.script),
+        options.is_explained,
+    );
     let stderr = rt.stderr();
-    let mut errors = Tally::new(Explained::new(&explainer, io::writer(&stderr)));
+    let mut errors = explainer.errors(io::writer(&stderr));
     let status = step_opened(&explainer, options, &mut errors)?;
     explain_output(&explainer, &mut errors);
     Ok(status)

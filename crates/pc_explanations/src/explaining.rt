@@ -39,6 +39,28 @@ pub fn is_explained(rt: &HostRuntime, is_asked: bool) -> bool {
     is_asked || rt.stderr().is_terminal()
 }
 
+impl<'a> Explainer<'a> {
+    /// An explainer for a command about these files. Whether faults are explained is as `is_explained` says.
+    pub fn new(
+        rt: &'a HostRuntime,
+        causes: &'a Causes,
+        about: About<'a>,
+        is_asked: bool,
+    ) -> Explainer<'a> {
+        Explainer {
+            rt,
+            causes,
+            about,
+            is_on: is_explained(rt, is_asked),
+        }
+    }
+
+    /// A counted writer of errors over this one, which explains each line that reports a fault.
+    pub fn errors<W: Write>(&'a self, inner: W) -> Tally<Explained<'a, W>> {
+        Tally::new(Explained::new(self, inner))
+    }
+}
+
 /// A writer to standard error that explains each line that reports a fault, right after it.
 #[derive(Drop)]
 pub struct Explained<'a, W> {

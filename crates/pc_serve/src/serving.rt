@@ -12,7 +12,7 @@ use pc_disk::{
     RecoveredFolder, generation_path, open_folder, output_before, path_in, tell_unopened,
 };
 use pc_engine::World;
-use pc_explanations::{About, Explained, Explainer, explain_output, is_explained};
+use pc_explanations::{About, Explainer, explain_output};
 use pc_io::Tally;
 use pc_opening::{OpenedStore, StoreSize, Succession, open_store};
 use pc_options::ServeOptions;
@@ -89,14 +89,9 @@ fn run_of(drawn: u64) -> u32
 
 // Reports why the folder isn't this process's own.
 fn tell_unowned(dir: ReadFolder<'_>, options: &ServeOptions<'_>, why: Unowned) {
-    let explainer = Explainer {
-        rt: dir.rt,
-        causes: dir.causes,
-        about: About::Run,
-        is_on: is_explained(dir.rt, options.is_explained),
-    };
+    let explainer = Explainer::new(dir.rt, dir.causes, About::Run, options.is_explained);
     let stderr = dir.rt.stderr();
-    let mut errors = Tally::new(Explained::new(&explainer, io::writer(&stderr)));
+    let mut errors = explainer.errors(io::writer(&stderr));
     let _ = report_words(options.dir.as_bytes(), why.word(), &mut errors);
 }
 
@@ -124,14 +119,14 @@ fn serve_owned<'a>(
 
 // Serves the store, and reports its faults; the status.
 fn serve_told<'a>(store: Store<'a>) -> io::Result<u8> {
-    let explainer = Explainer {
-        rt: store.dir.rt,
-        causes: store.dir.causes,
-        about: about(store.options, store.from.path.as_str()),
-        is_on: is_explained(store.dir.rt, store.options.is_explained),
-    };
+    let explainer = Explainer::new(
+        store.dir.rt,
+        store.dir.causes,
+        about(store.options, store.from.path.as_str()),
+        store.options.is_explained,
+    );
     let stderr = store.dir.rt.stderr();
-    let mut errors = Tally::new(Explained::new(&explainer, io::writer(&stderr)));
+    let mut errors = explainer.errors(io::writer(&stderr));
     let _ = store.from.tell(&mut errors);
     let status = serve_from(&store, &mut errors)?;
     explain_output(&explainer, &mut errors);

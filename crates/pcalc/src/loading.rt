@@ -4,7 +4,7 @@ use itoa::Buffer;
 use pc_bases::Base;
 use pc_commands::{form_of, open_named};
 use pc_disk::{BASE, Causes, LOG, ReadFolder};
-use pc_explanations::{About, Explained, Explainer, explain_output, is_explained};
+use pc_explanations::{About, Explainer, explain_output};
 use pc_io::Tally;
 use pc_log::encode_header;
 use pc_options::LoadOptions;
@@ -24,14 +24,14 @@ const BAD_LINE: u8 = 3;
 /// Makes the files of a run that has the pairs of the lines, as the options say; the status.
 pub fn load_folder(rt: &HostRuntime, options: &LoadOptions<'_>) -> io::Result<u8> {
     let causes = Causes::new(rt.alloc())?;
-    let explainer = Explainer {
+    let explainer = Explainer::new(
         rt,
-        causes: &causes,
-        about: About::Script(options.file),
-        is_on: is_explained(rt, options.is_explained),
-    };
+        &causes,
+        About::Script(options.file),
+        options.is_explained,
+    );
     let stderr = rt.stderr();
-    let mut errors = Tally::new(Explained::new(&explainer, io::writer(&stderr)));
+    let mut errors = explainer.errors(io::writer(&stderr));
     let status = load(&explainer, options, &mut errors)?;
     explain_output(&explainer, &mut errors);
     Ok(status)

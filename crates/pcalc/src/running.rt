@@ -7,7 +7,7 @@ use pc_disk::{
     Causes, FoundFolder, LateFile, Noted, ReadFolder, RecoveredFolder, Target, folder_of,
     open_folder, output_before, tell_unopened,
 };
-use pc_explanations::{About, Explained, Explainer, explain_output, is_explained};
+use pc_explanations::{About, Explainer, explain_output, is_explained};
 use pc_io::Tally;
 use pc_jobs::{WorkloadReading, read_workload};
 use pc_options::RunOptions;
@@ -88,15 +88,15 @@ fn run_told<H: Threads + Wait + Sync>(
     options: &RunOptions<'_>,
 ) -> io::Result<u8> {
     let rt = setting.rt;
-    let explainer = Explainer {
+    let explainer = Explainer::new(
         rt,
-        causes: setting.causes,
-        about: about(setting, options),
-        is_on: setting.is_explained,
-    };
+        setting.causes,
+        about(setting, options),
+        setting.is_explained,
+    );
     let stderr = rt.stderr();
     let behind = Behind::new(setting.progress, threads, io::writer(&stderr));
-    let mut errors = Tally::new(Explained::new(&explainer, behind));
+    let mut errors = explainer.errors(behind);
     if let Some(from) = setting.from {
         let _ = from.tell(&mut errors);
     }
