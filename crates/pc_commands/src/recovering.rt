@@ -2,10 +2,10 @@
 use pc_disk::{
     Causes, FoundFolder, ReadFolder, RecoveredFolder, open_folder, output_before, tell_unopened,
 };
-use pc_explanations::{About, Explained, Explainer, Lacking, explain_output, is_explained};
+use pc_explanations::{About, Explainer, Lacking, explain_output};
 use pc_io::Tally;
 use pc_options::RecoverOptions;
-use pc_restore::{EndedRecovery, run_recover};
+use pc_restore::{EndedRecovery, RecoveryMode, run_recover};
 use std::io;
 use std::io::Write;
 
@@ -29,14 +29,9 @@ fn recover_in<'a>(
     found: &'a RecoveredFolder,
 ) -> io::Result<u8> {
     let path = found.path.as_str();
-    let explainer = Explainer {
-        rt,
-        causes,
-        about: About::Folder(path),
-        is_on: is_explained(rt, options.is_explained),
-    };
+    let explainer = Explainer::new(rt, causes, About::Folder(path), options.is_explained);
     let stderr = rt.stderr();
-    let mut errors = Tally::new(Explained::new(&explainer, io::writer(&stderr)));
+    let mut errors = explainer.errors(io::writer(&stderr));
     let _ = found.tell(&mut errors);
     let status = recover(&explainer, path, options, &mut errors)?;
     explain_output(&explainer, &mut errors);
@@ -64,8 +59,11 @@ fn recover_to<W: Write, E: Write>(
 ) -> io::Result<u8> {
     let FoundFolder { folder, unopened } = open_folder(dir)?;
     tell_unopened(&unopened, errors);
-    let alloc = dir.rt.alloc();
-    let ended = run_recover(alloc, dir.path, folder, options.is_strict, out, errors);
+    let mode = RecoveryMode {
+        is_strict: options.is_strict,
+        has_pairs: true,
+    };
+    let ended = run_recover(dir.rt.alloc(), dir.path, folder, mode, out, errors);
     if explainer.is_on {
         tell_lacks(dir, &ended, errors);
     }

@@ -3,14 +3,14 @@ use crate::parts::open_named;
 use pc_disk::{
     Causes, FoundFolder, ReadFolder, RecoveredFolder, open_folder, output_before, tell_unopened,
 };
-use pc_explanations::{About, Explained, Explainer, explain_output, is_explained};
+use pc_explanations::{About, Explainer, explain_output};
 use pc_io::Tally;
 use pc_options::VerifyOptions;
-use pc_restore::{Folder, run_recover};
+use pc_restore::{Folder, Lost, RecoveryMode, run_recover};
 use pc_texts::{NamedFile, end_output, report};
 use pc_types::Refusal;
 use pc_verify::{FileKind, verify_file};
-use std::alloc::{AllocError, Global};
+use std::alloc::Global;
 use std::io::{Read, Write};
 use std::{fs, io};
 
@@ -20,14 +20,14 @@ const LACKING: u8 = 4;
 /// Reports for each of the files and folders whether it is whole, as the options say; the status.
 pub fn verify_paths(rt: &HostRuntime, options: &VerifyOptions<'_>) -> io::Result<u8> {
     let causes = Causes::new(rt.alloc())?;
-    let explainer = Explainer {
+    let explainer = Explainer::new(
         rt,
-        causes: &causes,
-        about: About::Folder(first_of(options)),
-        is_on: is_explained(rt, options.is_explained),
-    };
+        &causes,
+        About::Folder(first_of(options)),
+        options.is_explained,
+    );
     let stderr = rt.stderr();
-    let mut errors = Tally::new(Explained::new(&explainer, io::writer(&stderr)));
+    let mut errors = explainer.errors(io::writer(&stderr));
     let status = verify_all(&explainer, options, &mut errors)?;
     explain_output(&explainer, &mut errors);
     Ok(status)
@@ -88,19 +88,14 @@ fn verify_path<W: Write, E: Write>(
         Ok(found) if found.is_dir() => verify_store(ReadFolder { rt, path, causes }, out, errors),
         _ => {
             let opened = open_named(rt, causes, path);
-            verify(rt.alloc(), kind_of(path), path, opened, out)
+            verify(
+                rt.alloc(),
+                FileKind::of_name(path.as_bytes()),
+                path,
+                opened,
+                out,
+            )
         }
-    }
-}
-
-// By its name's end a file is a base or a log, and otherwise a part.
-fn kind_of(path: &str) -> FileKind {
-    if path.ends_with(".pcb") {
-        FileKind::Base
-    } else if path.ends_with(".pcl") {
-        FileKind::Log
-    } else {
-        FileKind::Part
     }
 }
 
@@ -174,63 +169,17 @@ fn put_summary<W: Write, E: Write>(
     out: &mut Tally<W>,
     errors: &mut Tally<E>,
 ) -> Result<bool, Refusal> {
-    let alloc = dir.rt.alloc();
     let FoundFolder {
         folder,
         unopened: _,
     } = open_folder(dir)?;
-    let mut head = Tally::new(BeforePairs::new(alloc));
-    let ended = run_recover(alloc, dir.path, folder, true, &mut head, errors);
-    let BeforePairs {
-        lines,
-        line_start: _,
-        has_all: _,
-    } = head.into_inner();
-    out.put(&lines)?;
-    Ok(ended.status == 0)
-}
-
-// The lines of a recovery up to that with the number of pairs.
-#[derive(Drop)]
-struct BeforePairs {
-    lines: Vec<u8>,
-    line_start: usize,
-    has_all: bool,
-}
-
-impl BeforePairs {
-    fn new(alloc: Global) -> BeforePairs {
-        BeforePairs {
-            lines: Vec::new(alloc),
-            line_start: 0,
-            has_all: false,
-        }
-    }
-
-    fn push(&mut self, byte: u8) -> Result<(), AllocError> {
-        if self.has_all {
-            return Ok(());
-        }
-        self.lines.push(byte)?;
-        if byte == b'\n' {
-            let line = self.lines.get(self.line_start..).unwrap_or(&[]);
-            let is_last = line.starts_with(b"pairs ");
-            self.has_all = is_last;
-            self.line_start = self.lines.len();
-        }
-        Ok(())
-    }
-}
-
-impl Write for BeforePairs {
-    fn write(&mut self, buf: &[u8]) -> io::Result<usize> {
-        for byte in buf {
-            self.push(*byte)?;
-        }
-        Ok(buf.len())
-    }
-
-    fn flush(&mut self) -> io::Result<()> {
-        Ok(())
+    let mode = RecoveryMode {
+        is_strict: true,
+        has_pairs: false,
+    };
+    let ended = run_recover(dir.rt.alloc(), dir.path, folder, mode, out, errors);
+    match ended.lost {
+        Some(Lost::Output) => Err(Refusal::Device),
+        _ => Ok(ended.status == 0),
     }
 }

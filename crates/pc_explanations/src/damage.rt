@@ -10,7 +10,7 @@ use pc_faults::{TextKind, locate};
 use pc_io::Tally;
 use pc_log::read_log;
 use pc_part::{Part, join};
-use pc_restore::run_recover;
+use pc_restore::{RecoveryMode, run_recover};
 use pc_texts::put_name;
 use pc_types::Refusal;
 
@@ -122,7 +122,11 @@ impl<'a> Damage<'a> {
         })?;
         let mut out = Tally::new(Vec::new(alloc));
         let mut errors = Tally::new(Vec::new(alloc));
-        run_recover(alloc, dir, folder, false, &mut out, &mut errors);
+        let mode = RecoveryMode {
+            is_strict: false,
+            has_pairs: false,
+        };
+        run_recover(alloc, dir, folder, mode, &mut out, &mut errors);
         let text = out.into_inner();
         for line in text.split(|byte| *byte == b'\n') {
             if let Some(digits) = line.strip_prefix(b"pairs ") {

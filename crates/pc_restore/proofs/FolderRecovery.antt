@@ -26,13 +26,13 @@ pub same_lacks : (is_there other_is_there : Bool) (log other_log : List ℕ) (fo
 same_lacks is_there other_is_there log other_log found lacks a b is = rw (← a, ← b) is
 
 -- if it isn't the output that failed, nothing went out
-pub nothing_out : {R T : Type 0} (remaining : R → Option (List ℕ)) (contents : T → Option (List ℕ)) (folder : Folder R) (out : Tally T) (cause : Lost R) → cause ≢ lost.Output → GoesOutUnrecovered remaining contents folder out out cause
-nothing_out remaining contents folder out (lost.Base why) other = refl
-nothing_out remaining contents folder out (lost.Part name why) other = refl
-nothing_out remaining contents folder out (lost.Log why) other = refl
-nothing_out remaining contents folder out (lost.Folder why) other = refl
-nothing_out remaining contents folder out lost.Damaged other = refl
-nothing_out remaining contents folder out lost.Output other = absurd (other refl)
+pub nothing_out : {R T : Type 0} (remaining : R → Option (List ℕ)) (contents : T → Option (List ℕ)) (printed : List (List ℕ) → Recovery → List ℕ) (folder : Folder R) (out : Tally T) (cause : Lost R) → cause ≢ lost.Output → GoesOutUnrecovered remaining contents printed folder out out cause
+nothing_out remaining contents printed folder out (lost.Base why) other = refl
+nothing_out remaining contents printed folder out (lost.Part name why) other = refl
+nothing_out remaining contents printed folder out (lost.Log why) other = refl
+nothing_out remaining contents printed folder out (lost.Folder why) other = refl
+nothing_out remaining contents printed folder out lost.Damaged other = refl
+nothing_out remaining contents printed folder out lost.Output other = absurd (other refl)
 
 -- if not all files were read, nothing was recovered, and no output failed
 pub unread_is_lost : {R : Type 0} (remaining : R → Option (List ℕ)) (folder : Folder R) (cause : Lost R) → IsFolderUnread folder cause → IsLost remaining folder cause × (cause ≢ lost.Output)

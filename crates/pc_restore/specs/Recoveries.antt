@@ -17,7 +17,6 @@ use Rattle.pc_restore.specs.declared.recovery.Lost.{Lost}
 use Rattle.pc_restore.specs.declared.recovery.Lost.TheVariants as lost
 use Rattle.pc_restore.specs.declared.lacks.Lacks.{Lacks}
 use Rattle.pc_restore.specs.Lacks.{lacks_of}
-use Rattle.pc_restore.specs.Reports.{recovery_text}
 use Rattle.pc_texts.specs.Files.{IsUnread, HoldsBytes, AreOpened, TellsOf, line_about, refusal_of}
 use Rattle.pc_texts.specs.declared.files.Unread.{Unread}
 use Rattle.pc_texts.specs.declared.files.Unread.TheVariants as unread
@@ -122,25 +121,26 @@ IsLost remaining folder (lost.Folder why) = IsFolderUnread folder (lost.Folder w
 IsLost remaining folder lost.Output = AreAllOpened folder
 IsLost remaining folder other = IsFolderUnread folder other
 
--- the recovered state of the folder was printed: all of it went out; said if the files' bytes are known
-abbrev pub PrintsAll : {R T : Type 0} → (R → Option (List ℕ)) → (T → Option (List ℕ)) → Folder R → Tally T → Tally T → Type 0
-PrintsAll remaining contents folder old new = (base : List ℕ) (names parts : List (List ℕ)) (log : List ℕ) → HoldsAll remaining folder base names parts log →
-    (found : Recovery) × (recovery base parts log ≡ Ok found) × Appends (contents (inner_of old)) (contents (inner_of new)) (recovery_text names found)
+-- the recovered state of the folder was printed: all of the text that is printed of it by these names went out; said if the files'
+-- bytes are known
+abbrev pub PrintsAll : {R T : Type 0} → (R → Option (List ℕ)) → (T → Option (List ℕ)) → (List (List ℕ) → Recovery → List ℕ) → Folder R → Tally T → Tally T → Type 0
+PrintsAll remaining contents printed folder old new = (base : List ℕ) (names parts : List (List ℕ)) (log : List ℕ) → HoldsAll remaining folder base names parts log →
+    (found : Recovery) × (recovery base parts log ≡ Ok found) × Appends (contents (inner_of old)) (contents (inner_of new)) (printed names found)
 
 -- these are the gaps of a recovery of the folder; said if the files' bytes are known
 abbrev pub IsLacking : {R : Type 0} → (R → Option (List ℕ)) → Folder R → Lacks → Type 0
 IsLacking remaining folder lacks = (base : List ℕ) (names parts : List (List ℕ)) (log : List ℕ) → HoldsAll remaining folder base names parts log →
     (found : Recovery) × (recovery base parts log ≡ Ok found) × (lacks ≡ lacks_of (is_ok folder.log) log found)
 
--- a beginning of the recovered state's output went out, and nothing else; said if the files' bytes are known
-abbrev pub PrintsInPart : {R T : Type 0} → (R → Option (List ℕ)) → (T → Option (List ℕ)) → Folder R → Tally T → Tally T → Type 0
-PrintsInPart remaining contents folder old new = (base : List ℕ) (names parts : List (List ℕ)) (log : List ℕ) → HoldsAll remaining folder base names parts log →
-    (found : Recovery) × (recovery base parts log ≡ Ok found) × AppendsBeginning (contents (inner_of old)) (contents (inner_of new)) (recovery_text names found)
+-- a beginning of that text went out, and nothing else; said if the files' bytes are known
+abbrev pub PrintsInPart : {R T : Type 0} → (R → Option (List ℕ)) → (T → Option (List ℕ)) → (List (List ℕ) → Recovery → List ℕ) → Folder R → Tally T → Tally T → Type 0
+PrintsInPart remaining contents printed folder old new = (base : List ℕ) (names parts : List (List ℕ)) (log : List ℕ) → HoldsAll remaining folder base names parts log →
+    (found : Recovery) × (recovery base parts log ≡ Ok found) × AppendsBeginning (contents (inner_of old)) (contents (inner_of new)) (printed names found)
 
 -- the output if nothing was recovered: a beginning if the output failed, which was counted, and otherwise nothing
-abbrev pub GoesOutUnrecovered : {R T : Type 0} → (R → Option (List ℕ)) → (T → Option (List ℕ)) → Folder R → Tally T → Tally T → Lost R → Type 0
-GoesOutUnrecovered remaining contents folder old new lost.Output = HasRisen (failures_of old) (failures_of new) × PrintsInPart remaining contents folder old new
-GoesOutUnrecovered remaining contents folder old new other = new ≡ old
+abbrev pub GoesOutUnrecovered : {R T : Type 0} → (R → Option (List ℕ)) → (T → Option (List ℕ)) → (List (List ℕ) → Recovery → List ℕ) → Folder R → Tally T → Tally T → Lost R → Type 0
+GoesOutUnrecovered remaining contents printed folder old new lost.Output = HasRisen (failures_of old) (failures_of new) × PrintsInPart remaining contents printed folder old new
+GoesOutUnrecovered remaining contents printed folder old new other = new ≡ old
 
 -- the line of a reason by a name
 abbrev pub reason_text : List ℕ → List ℕ → List ℕ

@@ -36,18 +36,22 @@ skipped_line names skipped = (codes "skipped " ++ printed_name (name_at (slice_g
 abbrev pub counts_text : ℕ → ℕ → List ℕ
 counts_text point entries = count_line (codes "point ") point ++ count_line (codes "entries ") entries
 
--- the pairs, after their number
-abbrev pub pairs_text : List (List ℕ × List ℕ) → ℕ → List ℕ
-pairs_text pairs count = count_line (codes "pairs ") count ++ flat_map pair_text pairs
-
 -- the damage: the line of the log's fault, and those of the parts that were skipped, by their names
 abbrev pub damage_text : List (List ℕ) → Recovery → List ℕ
 damage_text names found = log_line found.fault ++ flat_map (skipped_line names) found.skipped
 
--- the output after the counts
+-- the output after the counts: the damage, and the number of the pairs
 abbrev pub details_text : List (List ℕ) → Recovery → List ℕ
-details_text names found = damage_text names found ++ pairs_text found.pairs.entries (len found.pairs)
+details_text names found = damage_text names found ++ count_line (codes "pairs ") (len found.pairs)
 
--- the whole output of a recovery, if the parts have these names
-abbrev pub recovery_text : List (List ℕ) → Recovery → List ℕ
-recovery_text names found = counts_text found.point found.entries ++ details_text names found
+-- the output of a recovery without the pairs, if the parts have these names
+abbrev pub summary_text : List (List ℕ) → Recovery → List ℕ
+summary_text names found = counts_text found.point found.entries ++ details_text names found
+
+-- the pairs, if they are asked for
+abbrev pub pairs_text : Bool → List (List ℕ × List ℕ) → List ℕ
+pairs_text has_pairs pairs = if has_pairs then flat_map pair_text pairs else []
+
+-- the whole output, with the pairs or without
+abbrev pub recovery_text : Bool → List (List ℕ) → Recovery → List ℕ
+recovery_text has_pairs names found = summary_text names found ++ pairs_text has_pairs found.pairs.entries

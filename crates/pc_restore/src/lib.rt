@@ -10,4 +10,6 @@ mod reports;
 pub use bases::recover_base;
 pub use lacks::{Lacks, LogHeader};
 pub use reading::{FolderBytes, PartBytes, part_slices, read_folder};
-pub use recovery::{EndedRecovery, Folder, Lost, run_recover, tell_lost, tell_reason};
+pub use recovery::{
+    EndedRecovery, Folder, Lost, RecoveryMode, run_recover, tell_lost, tell_reason,
+};

@@ -9,6 +9,7 @@ ghost use Rattle.pc_model.specs.Database.{KeysRise};
 ghost use Rattle.pc_recover.specs.Recovery.{IsOfRun, recovery, recovery_of};
 ghost use Rattle.pc_restore.specs.declared.recovery.Lost.{Lost};
 ghost use Rattle.pc_restore.specs.Lacks.{lacks_of, recovery_status};
+ghost use Rattle.pc_restore.specs.Reports.{recovery_text};
 ghost use Rattle.pc_restore.specs.Recoveries.{AreAllOpened, GoesOutUnrecovered, HoldsAll, IsLacking, IsLost, IsRecoveryTold, PrintsAll, bytes_of, names_of, reason_text};
 
 use crate::lacks::{Lacks, lacks_of};
@@ -57,12 +58,21 @@ pub struct EndedRecovery<R> {
     pub lost: Option<Lost<R>>,
 }
 
+/// How a recovery is made.
+#[derive(Clone, Copy)]
+pub struct RecoveryMode {
+    /// Whether gaps of the folder's files make it fail.
+    pub is_strict: bool,
+    /// Whether it prints the pairs. Otherwise it prints their number alone.
+    pub has_pairs: bool,
+}
+
 // The status of a strict recovery with gaps.
 const LACKING: u8 = 4;
 
 /// Recovers the state of a folder's files and prints it: the point, the number of the log's whole entries, the fault of its rest if
-/// it was not only truncated, a line for each part that was skipped, and the pairs. If all of that went out it returns the gaps,
-/// and the status is 0, or 4 if it is strict and the folder isn't whole. Otherwise the status is 1: a file can't be opened or read,
+/// it was not only truncated, a line for each part that was skipped, the number of the pairs, and the pairs, unless the mode is without
+/// them. If all of that went out it returns the gaps, and the status is 0, or 4 if the mode is strict and the folder isn't whole. Otherwise the status is 1: a file can't be opened or read,
 /// the folder can't be listed, its files are refused, or an allocation failed, which a line on the error writer reports; or the
 /// output failed, which isn't reported there. Then the cause is returned; a file for which `Device` is reported, and that was
 /// opened, has counted the read that failed.
@@ -70,22 +80,22 @@ pub fn run_recover<R: Read + Drop, W: Write, E: Write>(
     alloc: Global,
     dir: &str,
     folder: Folder<R>,
-    is_strict: bool,
+    mode: RecoveryMode,
     out: &mut Tally<W>,
     errors: &mut Tally<E>,
 ) -> EndedRecovery<R>
-    ensures status { result.status ≡ recovery_status is_strict result.lacks }
+    ensures status { result.status ≡ recovery_status mode.is_strict result.lacks }
     ensures lacks { IfSome result.lacks (IsLacking R.remaining folder) }
     ensures statuses { (result.status ≡ 0) ⊎ (result.status ≡ 1) ⊎ (result.status ≡ 4) }
-    ensures recovered { ¬ (result.status ≡ 1) → PrintsAll R.remaining W.contents folder out.old out.new }
+    ensures recovered { ¬ (result.status ≡ 1) → PrintsAll R.remaining W.contents (recovery_text mode.has_pairs) folder out.old out.new }
     ensures sound { ¬ (result.status ≡ 1) → failures_of out.new ≡ failures_of out.old }
     ensures quiet { ¬ (result.status ≡ 1) → Keeps (E.contents (inner_of errors.old)) (E.contents (inner_of errors.new)) }
-    ensures cause { result.status ≡ 1 → MatchOption result.lost ⊥ (λ lost. IsLost R.remaining folder lost × GoesOutUnrecovered R.remaining W.contents folder out.old out.new lost
+    ensures cause { result.status ≡ 1 → MatchOption result.lost ⊥ (λ lost. IsLost R.remaining folder lost × GoesOutUnrecovered R.remaining W.contents (recovery_text mode.has_pairs) folder out.old out.new lost
         × IsRecoveryTold E.contents errors.old errors.new dir.now lost) }
 {
-    match recover_folder(alloc, folder, out) {
+    match recover_folder(alloc, folder, mode.has_pairs, out) {
         Ok(lacks) => {
-            let status = status_of(is_strict, &lacks);
+            let status = status_of(mode.is_strict, &lacks);
             let lacks = Some(lacks);
             EndedRecovery {
                 status,
@@ -119,20 +129,21 @@ fn status_of(is_strict: bool, lacks: &Lacks) -> u8
 fn recover_folder<R: Read + Drop, W: Write>(
     alloc: Global,
     folder: Folder<R>,
+    has_pairs: bool,
     out: &mut Tally<W>,
 ) -> Result<Lacks, Lost<R>>
     ensures lacks { IfOk result (IsLacking R.remaining folder) }
-    ensures recovered { OnOk result (PrintsAll R.remaining W.contents folder out.old out.new) }
+    ensures recovered { OnOk result (PrintsAll R.remaining W.contents (recovery_text has_pairs) folder out.old out.new) }
     ensures sound { OnOk result (failures_of out.new ≡ failures_of out.old) }
     ensures cause { IfErr result (IsLost R.remaining folder) }
-    ensures goes_out { IfErr result (GoesOutUnrecovered R.remaining W.contents folder out.old out.new) }
+    ensures goes_out { IfErr result (GoesOutUnrecovered R.remaining W.contents (recovery_text has_pairs) folder out.old out.new) }
 {
     let Worth {
         parts,
         recovered,
         lacks,
     } = recover_read(alloc, folder)?;
-    let put = put_recovered(out, &parts, &recovered);
+    let put = put_recovered(out, has_pairs, &parts, &recovered);
     match end_output(put, out) {
         Ok(()) => Ok(lacks),
         Err(_) => Err(Lost::Output),

@@ -5,7 +5,7 @@ ghost use Rattle.pc_io.specs.Tallies.{Puts};
 ghost use Rattle.pc_model.specs.Database.{KeysRise};
 ghost use Rattle.pc_recover.specs.Recovery.{recovery_of};
 ghost use Rattle.pc_texts.specs.Texts.{printed_name, refusal_text};
-ghost use Rattle.pc_restore.specs.Reports.{count_line, counts_text, damage_text, details_text, is_cut, log_line, name_at, pairs_text, recovery_text, skipped_line};
+ghost use Rattle.pc_restore.specs.Reports.{count_line, counts_text, damage_text, details_text, is_cut, log_line, name_at, pairs_text, recovery_text, skipped_line, summary_text};
 ghost use Rattle.pc_restore.specs.Recoveries.{names_of};
 
 use crate::reading::PartBytes;
@@ -16,20 +16,34 @@ use pc_texts::{put_name, put_pairs, put_reason};
 use pc_types::{Key, Point, Refusal, Value};
 use std::io::Write;
 
-/// Writes the recovered state of parts with these names.
+/// Writes the recovered state of parts with these names, with its pairs or without.
 pub(crate) fn put_recovered<W: Write>(
+    out: &mut Tally<W>,
+    has_pairs: bool,
+    parts: &[PartBytes],
+    recovered: &Recovered,
+) -> Result<(), Refusal>
+    requires rise { KeysRise recovered.now.pairs.items }
+    ensures { Puts W.contents out.old out.new result (recovery_text has_pairs (names_of parts.now) (recovery_of recovered.now)) }
+{
+    put_summary(out, parts, recovered)?;
+    put_all_pairs(out, has_pairs, &recovered.pairs)
+}
+
+// The output without the pairs.
+fn put_summary<W: Write>(
     out: &mut Tally<W>,
     parts: &[PartBytes],
     recovered: &Recovered,
 ) -> Result<(), Refusal>
     requires rise { KeysRise recovered.now.pairs.items }
-    ensures { Puts W.contents out.old out.new result (recovery_text (names_of parts.now) (recovery_of recovered.now)) }
+    ensures { Puts W.contents out.old out.new result (summary_text (names_of parts.now) (recovery_of recovered.now)) }
 {
     put_counts(out, recovered.point, recovered.entries)?;
     put_details(out, parts, recovered)
 }
 
-// The output after the counts: the damage and the skipped parts, and the pairs.
+// The output after the counts: the damage and the skipped parts, and the number of the pairs.
 fn put_details<W: Write>(
     out: &mut Tally<W>,
     parts: &[PartBytes],
@@ -39,7 +53,7 @@ fn put_details<W: Write>(
     ensures { Puts W.contents out.old out.new result (details_text (names_of parts.now) (recovery_of recovered.now)) }
 {
     put_damage(out, parts, recovered)?;
-    put_all_pairs(out, &recovered.pairs)
+    put_pair_count(out, &recovered.pairs)
 }
 
 /// Writes the damage of parts with these names and of the log: the line of the log's fault, if it has one and was not only
@@ -153,9 +167,23 @@ fn name_at<'a>(parts: &'a [PartBytes], place: usize) -> &'a [u8]
     }
 }
 
-fn put_all_pairs<W: Write>(out: &mut Tally<W>, pairs: &[(Key, Value)]) -> Result<(), Refusal>
-    ensures { Puts W.contents out.old out.new result (pairs_text pairs.now (length pairs.now)) }
+fn put_pair_count<W: Write>(out: &mut Tally<W>, pairs: &[(Key, Value)]) -> Result<(), Refusal>
+    ensures { Puts W.contents out.old out.new result (count_line (codes "pairs ") (length pairs.now)) }
 {
-    put_count(out, b"pairs ", pairs.len() as u64)?;
-    put_pairs(out, pairs)
+    put_count(out, b"pairs ", pairs.len() as u64)
+}
+
+// The pairs, if they are asked for.
+fn put_all_pairs<W: Write>(
+    out: &mut Tally<W>,
+    has_pairs: bool,
+    pairs: &[(Key, Value)],
+) -> Result<(), Refusal>
+    ensures { Puts W.contents out.old out.new result (pairs_text has_pairs pairs.now) }
+{
+    if has_pairs {
+        put_pairs(out, pairs)
+    } else {
+        Ok(())
+    }
 }

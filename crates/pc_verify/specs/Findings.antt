@@ -1,5 +1,6 @@
 -- The finding about a text that is expected to be a base, a part or a log.
-use Rattle.std.specs.Prelude.{◌≡◌, ℕ, ◌-◌, ◌==◌, Bool, true, false, List, length, Option, Some, None, Ok, if◌then◌else◌, slice_get}
+use Rattle.std.specs.Prelude.{◌≡◌, ℕ, ◌-◌, ◌==◌, Bool, true, false, List, length, Option, Some, None, Ok, if◌then◌else◌, slice_get, codes}
+use Rattle.std.specs.List.{ends_with}
 use Rattle.pc_io.specs.declared.Format.{Format}
 use Rattle.pc_io.specs.declared.Format.TheVariants.{First, Second}
 use Rattle.pc_model.specs.Files.{BaseFile, File}
@@ -16,6 +17,10 @@ use Rattle.pc_verify.specs.declared.findings.FileKind.TheVariants as kind
 use Rattle.pc_verify.specs.declared.findings.Finding.{Finding}
 use Rattle.pc_verify.specs.declared.findings.Finding.TheVariants as found
 use Rattle.pc_verify.specs.declared.findings.Head.{Head}
+
+-- the kind of a file by the end of its name
+abbrev pub kind_of : List ℕ → FileKind
+kind_of name = if ends_with (λ a b. a == b) name (codes ".pcb") then kind.Base else (if ends_with (λ a b. a == b) name (codes ".pcl") then kind.Log else kind.Part)
 
 -- the format by the last byte of a magic, which ends in 01 or 02
 abbrev pub format_by : Option ℕ → Format

@@ -4,7 +4,7 @@ ghost use Rattle.pc_types.specs.declared.refusal.Refusal.{Refusal};
 ghost use Rattle.pc_faults.specs.Faults.{IsFaultOf};
 ghost use Rattle.pc_log.specs.Reading.{log_at, log_read};
 ghost use Rattle.pc_verify.specs.declared.findings.Finding.TheVariants as found;
-ghost use Rattle.pc_verify.specs.Findings.{IsFinding, format_of, head_of, is_sound};
+ghost use Rattle.pc_verify.specs.Findings.{IsFinding, format_of, head_of, is_sound, kind_of};
 
 use pc_bases::Base;
 use pc_faults::{TextKind, locate};
@@ -20,6 +20,21 @@ pub enum FileKind {
     Base,
     Part,
     Log,
+}
+
+impl FileKind {
+    /// The kind of a file of this name: a base if the name ends in `.pcb`, a log if it ends in `.pcl`, and otherwise a part.
+    pub fn of_name(name: &[u8]) -> FileKind
+        ensures { result ≡ kind_of name.now }
+    {
+        if name.ends_with(b".pcb") {
+            FileKind::Base
+        } else if name.ends_with(b".pcl") {
+            FileKind::Log
+        } else {
+            FileKind::Part
+        }
+    }
 }
 
 // The format of a text, and the number of its run.

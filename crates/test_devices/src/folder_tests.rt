@@ -2,7 +2,7 @@
 use crate::sink::{Sink, is_answered, went_out};
 use crate::tape::{Tape, TornOnce};
 use pc_io::Tally;
-use pc_restore::{Folder, Lost, recover_base, run_recover, tell_lost};
+use pc_restore::{Folder, Lost, RecoveryMode, recover_base, run_recover, tell_lost};
 use pc_texts::{NamedFile, Unread};
 use pc_types::Refusal;
 use std::alloc::{AllocError, Global};
@@ -58,7 +58,11 @@ fn recover_as<R: Read + Drop>(
 ) -> (u8, bool) {
     let mut out = Tally::new(out);
     let mut errors = Tally::new(Sink::of(told.as_bytes()));
-    let ended = run_recover(alloc, "d d", folder, is_strict, &mut out, &mut errors);
+    let mode = RecoveryMode {
+        is_strict,
+        has_pairs: true,
+    };
+    let ended = run_recover(alloc, "d d", folder, mode, &mut out, &mut errors);
     let is_told = went_out(out) && went_out(errors);
     (
         ended.status,
@@ -108,7 +112,11 @@ fn failed_reads<R>(lost: &Option<Lost<R>>) -> u64 {
 fn failed_reads_of<R: Read + Drop>(alloc: Global, folder: Folder<R>) -> u64 {
     let mut out = Tally::new(Sink::of(b""));
     let mut errors = Tally::new(Sink::of(b""));
-    let ended = run_recover(alloc, "d d", folder, false, &mut out, &mut errors);
+    let mode = RecoveryMode {
+        is_strict: false,
+        has_pairs: true,
+    };
+    let ended = run_recover(alloc, "d d", folder, mode, &mut out, &mut errors);
     failed_reads(&ended.lost)
 }
 

@@ -3,7 +3,7 @@ ghost use Rattle.std.specs.Prelude.{◌≤◌};
 
 use bstr::ByteSlice;
 use pc_io::Tally;
-use pc_restore::{EndedRecovery, Folder, Lacks, LogHeader, run_recover};
+use pc_restore::{EndedRecovery, Folder, Lacks, LogHeader, RecoveryMode, run_recover};
 use pc_texts::NamedFile;
 use pc_types::Refusal;
 use std::alloc::Global;
@@ -98,11 +98,15 @@ fn recovered(
     let folder = folder_of(alloc, files, cut)?;
     let mut out = Tally::new(Vec::new(alloc));
     let mut errors = Tally::new(Vec::new(alloc));
+    let mode = RecoveryMode {
+        is_strict,
+        has_pairs: true,
+    };
     let EndedRecovery {
         status,
         lacks,
         lost: _,
-    } = run_recover(alloc, "d d", folder, is_strict, &mut out, &mut errors);
+    } = run_recover(alloc, "d d", folder, mode, &mut out, &mut errors);
     let mut text = out.into_inner();
     text.extend_from_slice(&errors.into_inner())?;
     if let (true, Some(lacks)) = (is_strict, &lacks) {

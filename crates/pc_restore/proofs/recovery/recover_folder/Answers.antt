@@ -18,7 +18,7 @@ returns-in_err-parts-clause-cause g c =
 pub returns-in_err-parts-clause-goes_out : goal.returns-in_err-parts-clause-goes_out
 returns-in_err-parts-clause-goes_out g c =
     let p = err_from_is_err_and c.from_residual.result c.from_residual.ensures.1 in
-    rw (p.1, p.2) (nothing_out g.R.Read.remaining g.W.Write.contents c.args.folder c.args.out.now c.in_err-parts.field-0.0 c.in_err-parts.ensures.cause.1)
+    rw (p.1, p.2) (nothing_out g.R.Read.remaining g.W.Write.contents (recovery_text c.args.has_pairs) c.args.folder c.args.out.now c.in_err-parts.field-0.0 c.in_err-parts.ensures.cause.1)
 
 pub returns-in-Ok-clause-recovered : goal.returns-in-Ok-clause-recovered
 returns-in-Ok-clause-recovered g c = λ base names parts log holds.
@@ -26,8 +26,8 @@ returns-in-Ok-clause-recovered g c = λ base names parts log holds.
     let found = recovery_of c.in_ok-parts.field-0.recovered in (
       found,
       worth.1,
-      subst (λ ns. Appends (g.W.Write.contents (inner_of c.args.out.now)) (g.W.Write.contents (inner_of c.end_output.new.out)) (recovery_text ns found)) (ap names_of c.deref.ensures.value ∙ worth.0)
-          (whole_printed g.W.Write.contents c.args.out.now c.put_recovered-put.new.out c.end_output.new.out (recovery_text (names_of c.deref.result.now) found) c.put_recovered-put.result c.put_recovered-put.ensures c.in-Ok.ensures.stays c.in-Ok.ensures.printed).0,
+      subst (λ ns. Appends (g.W.Write.contents (inner_of c.args.out.now)) (g.W.Write.contents (inner_of c.end_output.new.out)) (recovery_text c.args.has_pairs ns found)) (ap names_of c.deref.ensures.value ∙ worth.0)
+          (whole_printed g.W.Write.contents c.args.out.now c.put_recovered-put.new.out c.end_output.new.out (recovery_text c.args.has_pairs (names_of c.deref.result.now) found) c.put_recovered-put.result c.put_recovered-put.ensures c.in-Ok.ensures.stays c.in-Ok.ensures.printed).0,
     )
 
 pub returns-in-Ok-clause-lacks : goal.returns-in-Ok-clause-lacks
@@ -42,12 +42,12 @@ returns-in-Ok-clause-sound g c =
 pub returns-clause-goes_out : goal.returns-clause-goes_out
 returns-clause-goes_out g c =
     let found = recovery_of c.in_ok-parts.field-0.recovered in
-    let part = part_printed g.W.Write.contents c.args.out.now c.put_recovered-put.new.out c.end_output.new.out (recovery_text (names_of c.deref.result.now) found) c.put_recovered-put.result _ c.put_recovered-put.ensures c.in-Err.ensures.stays c.in-Err.ensures.unprinted in (
+    let part = part_printed g.W.Write.contents c.args.out.now c.put_recovered-put.new.out c.end_output.new.out (recovery_text c.args.has_pairs (names_of c.deref.result.now) found) c.put_recovered-put.result _ c.put_recovered-put.ensures c.in-Err.ensures.stays c.in-Err.ensures.unprinted in (
       part.0,
       λ base names parts log holds.
           let worth = c.in_ok-parts.ensures.worth base names parts log holds in (
             found,
             worth.1,
-            subst (λ ns. AppendsBeginning (g.W.Write.contents (inner_of c.args.out.now)) (g.W.Write.contents (inner_of c.end_output.new.out)) (recovery_text ns found)) (ap names_of c.deref.ensures.value ∙ worth.0) part.1,
+            subst (λ ns. AppendsBeginning (g.W.Write.contents (inner_of c.args.out.now)) (g.W.Write.contents (inner_of c.end_output.new.out)) (recovery_text c.args.has_pairs ns found)) (ap names_of c.deref.ensures.value ∙ worth.0) part.1,
           ),
     )
