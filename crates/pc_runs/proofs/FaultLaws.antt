@@ -14,12 +14,13 @@ use Rattle.pc_jobs.specs.Dealing.{IsDealt}
 use Rattle.pc_jobs.specs.declared.works.Client.{Client}
 use Rattle.pc_jobs.specs.declared.works.Workload.{Workload}
 use Rattle.pc_texts.specs.declared.file_names.FileName.{FileName}
-use Rattle.pc_texts.specs.declared.file_names.FileName.TheVariants.{Base}
+use Rattle.pc_texts.specs.declared.file_names.FileName.TheVariants.{Base, Log}
 use Rattle.pc_texts.proofs.StatePairLaws.{pairs_of}
 use Rattle.pc_outcomes.specs.Leaving.{IsUntoldAfter, has_point}
 use Rattle.pc_shared.specs.Sitters.{Sitter, HasAll, IsEndOf}
 use Rattle.pc_threads.specs.Clients.{HaveWorked, IsFresh, clients_in, jobs_of, transactions_in}
 use Rattle.pc_threads.specs.Faults.{IsFileLost, IsThreadsEnd, lost_file_fault}
+use Rattle.pc_threads.proofs.StopLaws.{some_failed}
 use Rattle.pc_threads.specs.Files.{HasWritten}
 use Rattle.pc_threads.specs.declared.fault.ThreadsFault.{ThreadsFault}
 use Rattle.pc_threads.specs.declared.fault.ThreadsFault.TheVariants as fault
@@ -58,6 +59,24 @@ pub begin_lost_for_any : {T : Type 0} (refuses : FileName → Refusal → Type 0
 begin_lost_for_any refuses given (inl is) = inl (lost_for_any refuses Base 0 given is)
 begin_lost_for_any refuses given (inr (why, is, refused)) = inr (why, is, tt)
 
+-- a lost file of which a call failed has counted that
+abbrev HasCounted : {T : Type 0} → FileFault T → Type 0
+HasCounted (lost.Unmade file why) = ⊤
+HasCounted (lost.Failed file) = 1 ≤ file.failures
+
+file_counted : {T : Type 0} (refuses : FileName → Refusal → Type 0) (name : FileName) (failures : ℕ) (given : FileFault T) → IsFileLost refuses name failures given → HasCounted given
+file_counted refuses name failures (lost.Unmade file why) is = tt
+file_counted refuses name failures (lost.Failed file) risen = some_failed failures file.failures risen
+
+pub begin_counted : {T : Type 0} (refuses : FileName → Refusal → Type 0) (given : FileFault T) → IsBeginLost refuses given → HasCounted given
+begin_counted refuses given (inl is) = file_counted refuses Base 0 given is
+begin_counted refuses given (inr (why, is, refused)) = subst HasCounted (sym is) tt
+
+pub log_counted : {D T : Type 0} (folder : Option D) (log : Option (Tally T)) (given : FileFault T) → IsLogLost folder log given → HasCounted given
+log_counted (Some folder) (Some log) given is = file_counted (λ file why. ⊤) Log log.failures given is
+log_counted (Some folder) None given is = absurd is
+log_counted None log given is = absurd is
+
 -- there is a folder if its log is lost
 pub log_lost_there : {D T : Type 0} (folder : Option D) (log : Option (Tally T)) (given : FileFault T) → IsLogLost folder log given → IsTrue (is_some folder)
 log_lost_there (Some folder) (Some log) given is = refl
@@ -81,53 +100,51 @@ one_there false false false false x y z is = cc (is)
 
 module _ (st : Setting) (workload : Workload) (there : Bool) where
   -- a fault of the threads
-  of_threads : (writes : Bool) (count : ℕ) (given : ThreadsFault) → (IsTrue writes → IsTrue there) → count ≡ transactions_in workload.clients → IsThreadsEnd writes count workload.points given → EndsRun st workload there given
+  of_threads : {T : Type 0} (writes : Bool) (count : ℕ) (given : ThreadsFault T) → (IsTrue writes → IsTrue there) → count ≡ transactions_in workload.clients → IsThreadsEnd writes count workload.points given → EndsRun st workload there given
   of_threads writes count (fault.Refused why.OutOfMemory) on same end = tt
-  of_threads writes count (fault.Refused why.Device) on same end = on end
   of_threads writes count (fault.Refused why.Full) on same many = inr (omega (arith, same, many))
   of_threads writes count (fault.Refused why.PointsFull) on same end = end
   of_threads writes count (fault.Refused other) on same end = absurd end
   of_threads writes count (fault.Unmade file why) on same end = on end
+  of_threads writes count (fault.Failed file) on same end = (on end.0, end.1)
   of_threads writes count fault.NoThread on same end = tt
 
   -- a stop of the threads over its store; if the log has no place left, all sessions of the store were compared
-  pub of_stop : {N : Type 0} (writes : Bool) (idle : List Sitter) (clients : List Client) (given : ThreadsStop N) (why : ThreadsFault) → (IsTrue writes → IsTrue there) → transactions_in clients ≡ transactions_in workload.clients → All IsFresh idle
+  pub of_stop : {N T : Type 0} (writes : Bool) (idle : List Sitter) (clients : List Client) (given : ThreadsStop N T) (why : ThreadsFault T) → (IsTrue writes → IsTrue there) → transactions_in clients ≡ transactions_in workload.clients → All IsFresh idle
       → ((given_up : ℕ) (ran : List Sitter) → HaveWorked st clients given_up ran → HasAll st.sessions (idle ++ ran)) → IsFaultOfStop st given why → StoreHasStopped st writes idle clients workload.points given → EndsRun st workload there why
   of_stop writes idle clients (stop.LogFull full all) why on same fresh back (is, (history, end)) (has, (ran, sessions, have)) =
       let whole : IsEndOf st (idle ++ ran) full.seat full.seen history = subst (λ (ss : List Sitter). IsEndOf st ss full.seat full.seen history) sessions end in
       let fills = fills_log st workload.points full clients all.given_up idle ran history has whole have fresh (back all.given_up ran have) in
       subst (EndsRun st workload there) (sym is) (omega (arith, fills, same))
+  of_stop writes idle clients stop.LogEnded why on same fresh back is ended = subst (EndsRun st workload there) (sym is) tt
   of_stop writes idle clients (stop.Other given) why on same fresh back is end = subst (EndsRun st workload there) (sym is) (of_threads writes (transactions_in clients) given on same end)
 
-  pub memory_ends : (given : ThreadsFault) → given ≡ fault.Refused why.OutOfMemory → EndsRun st workload there given
-  memory_ends given is = subst (EndsRun st workload there) (sym is) tt
-
   -- one of a file of the folder
-  pub lost_ends : {T : Type 0} (given : FileFault T) → IsTrue there → EndsRun st workload there (lost_file_fault given)
-  lost_ends (lost.Unmade file why) is = is
-  lost_ends (lost.Failed file) is = is
+  pub lost_ends : {T : Type 0} (given : FileFault T) → IsTrue there → HasCounted given → EndsRun st workload there (lost_file_fault given)
+  lost_ends (lost.Unmade file why) is counted = is
+  lost_ends (lost.Failed file) is counted = (is, counted)
 
   -- a store that can't be opened
-  pub not_opened : (given : Refusal) → ((given ≡ why.Full) × (st.capacity < len st.base)) ⊎ (given ≡ why.OutOfMemory) → IsRunRefused st workload there given
-  not_opened given (inl (full, few)) = subst (IsRunRefused st workload there) (sym full) (inl few)
-  not_opened given (inr memory) = subst (IsRunRefused st workload there) (sym memory) tt
+  pub not_opened : (given : Refusal) → ((given ≡ why.Full) × (st.capacity < len st.base)) ⊎ (given ≡ why.OutOfMemory) → IsRunRefused st workload given
+  not_opened given (inl (full, few)) = subst (IsRunRefused st workload) (sym full) (inl few)
+  not_opened given (inr memory) = subst (IsRunRefused st workload) (sym memory) tt
 
   -- a failed allocation
-  pub no_memory : (given : Refusal) → given ≡ why.OutOfMemory → IsRunRefused st workload there given
-  no_memory given is = subst (IsRunRefused st workload there) (sym is) tt
+  pub no_memory : (given : Refusal) → given ≡ why.OutOfMemory → IsRunRefused st workload given
+  no_memory given is = subst (IsRunRefused st workload) (sym is) tt
 
 -- the base has more pairs than there is room for
 pub too_large : (capacity : ℕ) (items : List (List ℕ × List ℕ)) (pairs : Database) → KeysRise items → database_of items ≡ pairs → capacity < length items → capacity < len pairs
 too_large capacity items pairs rise is many = subst (λ (l : List (List ℕ × List ℕ)). capacity < length l) (sym (pairs_of items pairs rise is)) many
 
 -- nothing is reported of the result
-pub untold_ends : (st : Setting) (workload : Workload) (there : Bool) (files : List File) (given : Refusal) → st.capacity ≤ MOST_KEYS → HaveJustTo workload.points files → IsUntoldAfter st files given
-    → IsRunRefused st workload there given
-untold_ends st workload there files why.OutOfMemory room just untold = tt
-untold_ends st workload there files why.Full room just (some, inl few) = inl few
-untold_ends st workload there files why.Full room just (some, inr many) = absurd (omega (arith, room, many))
-untold_ends st workload there files (why.Gap point) room just (some, missing, (later, behind, has)) =
+pub untold_ends : (st : Setting) (workload : Workload) (files : List File) (given : Refusal) → st.capacity ≤ MOST_KEYS → HaveJustTo workload.points files → IsUntoldAfter st files given
+    → IsRunRefused st workload given
+untold_ends st workload files why.OutOfMemory room just untold = tt
+untold_ends st workload files why.Full room just (some, inl few) = inl few
+untold_ends st workload files why.Full room just (some, inr many) = absurd (omega (arith, room, many))
+untold_ends st workload files (why.Gap point) room just (some, missing, (later, behind, has)) =
     let low = just.1 later has in
     let there : has_point files point ≡ true = just.0 point some (omega (arith, behind, low.1)) in
     cc (missing, there)
-untold_ends st workload there files other room just untold = absurd untold
+untold_ends st workload files other room just untold = absurd untold

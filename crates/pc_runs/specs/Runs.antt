@@ -5,6 +5,7 @@ use Rattle.pc_io.specs.Counted.{HasRisen, AppendsBeginning}
 use Rattle.pc_io.specs.Tallies.{inner_of, failures_of}
 use Rattle.pc_types.specs.declared.limits.TheConstants.{MOST_SESSIONS}
 use Rattle.pc_types.specs.declared.refusal.Refusal.{Refusal}
+use Rattle.pc_types.specs.declared.refusal.Refusal.TheVariants.{Device}
 use Rattle.pc_io.specs.declared.tally.Tally.{Tally}
 use Rattle.pc_model.specs.Database.{database_of}
 use Rattle.pc_model.specs.Files.{BaseFile, File}
@@ -50,20 +51,20 @@ IsRunBase remaining contents (start.Folder old_run) old new base = IsBaseMade re
 
 -- A run was to start from the folder of this name, and there is no base of it for this reason: nothing was reported yet, or, if the
 -- folder is damaged and that is not accepted, its damage.
-abbrev pub IsUnstarted : {R S T : Type 0} → (S → Option (List ℕ)) → (T → Option (List ℕ)) → Start S → Tally T → Tally T → RunFailure R S → Type 0
+abbrev pub IsUnstarted : {R S F T : Type 0} → (S → Option (List ℕ)) → (T → Option (List ℕ)) → Start S → Tally T → Tally T → RunFailure R S F → Type 0
 IsUnstarted remaining contents (start.Folder old_run) old new (failure.Start name lost) = (name ≡ old_run.name) × IsBaseUnmade remaining contents old_run.folder old_run.accepts_damage old new lost
 IsUnstarted remaining contents other old new why = ⊥
 
 -- how far a run has come: nothing was begun; it has nothing to start from, for this reason; or the setting with which its store was
 -- to be opened
-pub data Beginning (R S : Type 0) : Type 0 where
-  NotBegun : Beginning R S
-  Unstarted : (why : RunFailure R S) → Beginning R S
-  Begun : (st : Setting) → Beginning R S
+pub data Beginning (R S F : Type 0) : Type 0 where
+  NotBegun : Beginning R S F
+  Unstarted : (why : RunFailure R S F) → Beginning R S F
+  Begun : (st : Setting) → Beginning R S F
 
 -- A run has come this far, and this was reported until then: the damage of the folder that it starts from, once it has begun or was
 -- refused for the damage.
-abbrev pub RunBegins : {R S T : Type 0} → (S → Option (List ℕ)) → (T → Option (List ℕ)) → Origin S → Tally T → Tally T → Beginning R S → Type 0
+abbrev pub RunBegins : {R S F T : Type 0} → (S → Option (List ℕ)) → (T → Option (List ℕ)) → Origin S → Tally T → Tally T → Beginning R S F → Type 0
 RunBegins remaining contents origin old new NotBegun = new ≡ old
 RunBegins remaining contents origin old new (Unstarted why) = IsUnstarted remaining contents origin.start old new why
 RunBegins remaining contents origin old new (Begun st) = (base : BaseFile) × IsRunBase remaining contents origin.start old new base × (st ≡ run_setting base origin.capacity)
@@ -91,7 +92,7 @@ abbrev pub IsUsable : {D : Type 0} → Option (RunFolder D) → Type 0
 IsUsable folder = IfSome folder (λ f. IsOk f.files)
 
 -- there is a folder of this name, and this prevents files from being made there
-abbrev pub IsUnusable : {R S D : Type 0} → Option (RunFolder D) → RunFailure R S → Type 0
+abbrev pub IsUnusable : {R S F D : Type 0} → Option (RunFolder D) → RunFailure R S F → Type 0
 IsUnusable folder (failure.Folder name why) = MatchOption folder ⊥ (λ f. (name ≡ f.name) × (f.files ≡ Err why))
 IsUnusable folder other = ⊥
 
@@ -100,21 +101,21 @@ abbrev pub CanRun : {R : Type 0} → (R → Option (List ℕ)) → Result R Refu
 CanRun remaining opened = IsOk opened × ((workload : Workload) × IsWorkloadReadAs remaining opened (reading.Runs workload))
 
 -- The workload of the file was run, if the folder is usable, over a store with which the run has begun; and this fault has ended it.
-abbrev pub RunHasFailed : {R S D : Type 0} → (R → Option (List ℕ)) → Result R Refusal → Option (RunFolder D) → (Beginning R S → Type 0) → ThreadsFault → Type 0
+abbrev pub RunHasFailed : {R S F D : Type 0} → (R → Option (List ℕ)) → Result R Refusal → Option (RunFolder D) → (Beginning R S F → Type 0) → ThreadsFault F → Type 0
 RunHasFailed remaining opened folder begins why = IsOk opened × IsUsable folder
     × ((workload : Workload) × IsWorkloadReadAs remaining opened (reading.Runs workload)
     × ((st : Setting) × begins (Begun st) × EndsRun st workload (is_some folder) why))
 
 -- This is the output of the workload of the file, and the folder that is left: of a bad line, before anything is begun; otherwise
 -- the workload was run, of a setting with which it has begun, and only if the folder is usable.
-abbrev pub IsAnswer : {R S D : Type 0} → (R → Option (List ℕ)) → (D → FileName → List ℕ → Type 0) → Result R Refusal → Option (RunFolder D) → (Beginning R S → Type 0) → Option D → Printed → Type 0
+abbrev pub IsAnswer : {R S F D : Type 0} → (R → Option (List ℕ)) → (D → FileName → List ℕ → Type 0) → Result R Refusal → Option (RunFolder D) → (Beginning R S F → Type 0) → Option D → Printed → Type 0
 IsAnswer remaining holds opened folder begins left (printed.BadLine line) = IsWorkloadReadAs remaining opened (reading.BadLine line) × begins NotBegun
 IsAnswer remaining holds opened folder begins left (printed.Whole outcome) = IsUsable folder
     × ((workload : Workload) × IsWorkloadReadAs remaining opened (reading.Runs workload)
     × ((st : Setting) × begins (Begun st) × IsWorkloadRun holds st workload (is_some folder) left outcome))
 
 -- the output of the workload of the file went out, all of it, and this is its status, and the folder that is left
-abbrev pub IsOutputWritten : {R S D T : Type 0} → (R → Option (List ℕ)) → (D → FileName → List ℕ → Type 0) → (T → Option (List ℕ)) → Result R Refusal → Option (RunFolder D) → (Beginning R S → Type 0) → Tally T → Tally T
+abbrev pub IsOutputWritten : {R S F D T : Type 0} → (R → Option (List ℕ)) → (D → FileName → List ℕ → Type 0) → (T → Option (List ℕ)) → Result R Refusal → Option (RunFolder D) → (Beginning R S F → Type 0) → Tally T → Tally T
     → Option D → ℕ → Type 0
 IsOutputWritten remaining holds contents opened folder begins old new left status = (some : Printed) × IsAnswer remaining holds opened folder begins left some × (status ≡ run_status some)
     × Appends (contents (inner_of old)) (contents (inner_of new)) (printed_text some) × (failures_of new ≡ failures_of old)
@@ -122,25 +123,26 @@ IsOutputWritten remaining holds contents opened folder begins old new left statu
 -- Why nothing is printed: if the file wasn't opened, the reason for that; if it was, that it couldn't be read, or that an
 -- allocation failed; if its workload can be run, and the folder can't be used, the reason for this; if it can be used, and there is
 -- nothing to start from, that; and otherwise the fault that has ended the run.
-abbrev pub IsRunUnanswered : {R S D : Type 0} → (R → Option (List ℕ)) → Result R Refusal → Option (RunFolder D) → (Beginning R S → Type 0) → RunFailure R S → Type 0
+abbrev pub IsRunUnanswered : {R S F D : Type 0} → (R → Option (List ℕ)) → Result R Refusal → Option (RunFolder D) → (Beginning R S F → Type 0) → RunFailure R S F → Type 0
 IsRunUnanswered remaining opened folder begins (failure.Unread why) = IsUnread opened why × begins NotBegun
 IsRunUnanswered remaining opened folder begins (failure.Run why) = RunHasFailed remaining opened folder begins why
-IsRunUnanswered {R} {S} remaining opened folder begins (failure.Folder name why) = CanRun remaining opened × IsUnusable {R = R} {S = S} folder (failure.Folder name why) × begins NotBegun
+IsRunUnanswered {R} {S} {F} remaining opened folder begins (failure.Folder name why) = CanRun remaining opened × IsUnusable {R = R} {S = S} {F = F} folder (failure.Folder name why) × begins NotBegun
 IsRunUnanswered remaining opened folder begins (failure.Start name why) = CanRun remaining opened × IsUsable folder × begins (Unstarted (failure.Start name why))
 IsRunUnanswered remaining opened folder begins failure.Output = ⊥
 
 -- Why not all was printed: the output failed, which was counted, and a beginning of it went out; or there is nothing to print.
-abbrev pub IsCauseOfUnprinted : {R S D T : Type 0} → (R → Option (List ℕ)) → (D → FileName → List ℕ → Type 0) → (T → Option (List ℕ)) → Result R Refusal → Option (RunFolder D) → (Beginning R S → Type 0) → Tally T → Tally T
-    → RunFailure R S → Type 0
-IsCauseOfUnprinted {R} {S} {D} remaining holds contents opened folder begins old new failure.Output = HasRisen (failures_of old) (failures_of new)
+abbrev pub IsCauseOfUnprinted : {R S F D T : Type 0} → (R → Option (List ℕ)) → (D → FileName → List ℕ → Type 0) → (T → Option (List ℕ)) → Result R Refusal → Option (RunFolder D) → (Beginning R S F → Type 0) → Tally T → Tally T
+    → RunFailure R S F → Type 0
+IsCauseOfUnprinted {R} {S} {F} {D} remaining holds contents opened folder begins old new failure.Output = HasRisen (failures_of old) (failures_of new)
     × ((left : Option D) × (some : Printed) × IsAnswer remaining holds opened folder begins left some × AppendsBeginning (contents (inner_of old)) (contents (inner_of new)) (printed_text some))
 IsCauseOfUnprinted remaining holds contents opened folder begins old new other = (new ≡ old) × IsRunUnanswered remaining opened folder begins other
 
 -- the report of a failure, if the workload has this name; nothing if the output failed
-abbrev pub IsRunTold : {R S T : Type 0} → (T → Option (List ℕ)) → Tally T → Tally T → List ℕ → RunFailure R S → Type 0
+abbrev pub IsRunTold : {R S F T : Type 0} → (T → Option (List ℕ)) → Tally T → Tally T → List ℕ → RunFailure R S F → Type 0
 IsRunTold contents old new name (failure.Unread why) = TellsOf contents old new name (refusal_of why)
 IsRunTold contents old new name (failure.Run (fault.Refused why)) = TellsOf contents old new name why
 IsRunTold contents old new name (failure.Run (fault.Unmade file why)) = TellsOf contents old new (name_of_file file) why
+IsRunTold contents old new name (failure.Run (fault.Failed file)) = TellsOf contents old new name Device
 IsRunTold contents old new name (failure.Run fault.NoThread) = recoveries.TellsReason contents old new name (codes "NoThread")
 IsRunTold contents old new name (failure.Folder folder unusable.NotEmpty) = recoveries.TellsReason contents old new folder.items (codes "NotEmpty")
 IsRunTold contents old new name (failure.Folder folder (unusable.Unlisted why)) = TellsOf contents old new folder.items why
@@ -148,5 +150,5 @@ IsRunTold contents old new name (failure.Start folder lost) = recoveries.IsRecov
 IsRunTold contents old new name failure.Output = new ≡ old
 
 -- the cause is returned, which is one after the reports until then, and was reported after them
-abbrev pub IsFailed : {R S T : Type 0} → (T → Option (List ℕ)) → List ℕ → Tally T → Option (RunFailure R S) → (Tally T → RunFailure R S → Type 0) → Type 0
-IsFailed {R} {S} {T} contents name new handed cause = MatchOption handed ⊥ (λ why. (between : Tally T) × cause between why × IsRunTold contents between new name why)
+abbrev pub IsFailed : {R S F T : Type 0} → (T → Option (List ℕ)) → List ℕ → Tally T → Option (RunFailure R S F) → (Tally T → RunFailure R S F → Type 0) → Type 0
+IsFailed {R} {S} {F} {T} contents name new handed cause = MatchOption handed ⊥ (λ why. (between : Tally T) × cause between why × IsRunTold contents between new name why)

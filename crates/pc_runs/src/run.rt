@@ -29,12 +29,12 @@ use std::thread::Threads;
 
 /// How a run ended.
 #[derive(Drop)]
-pub struct Finished<R, S, D> {
+pub struct Finished<R, S, D, F> {
     pub status: u8,
     /// The maker of the folder's files, if there is a folder and the workload was run.
     pub folder: Option<D>,
     /// Why nothing, or not all, was printed, if so.
-    pub failure: Option<RunFailure<R, S>>,
+    pub failure: Option<RunFailure<R, S, F>>,
 }
 
 /// Reads a workload, runs its clients on threads concurrently with a checkpointer and collapsers, over a store without pairs or
@@ -47,8 +47,8 @@ pub struct Finished<R, S, D> {
 ///   file of the folder can't be made or written, a thread can't be started, or a call was refused; or, by the folder's name, the
 ///   folder can't be used, or, by the names that a recovery prints, nothing can be recovered of the folder that the store was to
 ///   start from, or it is damaged and that isn't accepted: then nothing is run, and no file is made. An output that fails isn't
-///   reported. The cause is returned; if `Device` is reported of the workload or of a file of that folder, and the file was opened,
-///   its reader is returned too, which has counted the read that failed.
+///   reported. The cause is returned; if `Device` is reported, the file whose device failed is returned too, which has counted that:
+///   one that was read, if it was opened, or one that was written.
 ///
 /// The damage and the gaps of the files that the store starts from are reported on the error writer before the run begins. If there
 /// is a folder for files, the base, the log and the file of each point are written to it, the log as it grows, and the folder is
@@ -70,10 +70,10 @@ pub fn run_workload<
     folder: Option<RunFolder<D>>,
     out: &mut Tally<W>,
     errors: &mut Tally<E>,
-) -> Finished<R, S, D>
+) -> Finished<R, S, D, F>
     ensures status { (result.status ≡ 0) ⊎ (result.status ≡ 1) ⊎ (result.status ≡ 3) }
     ensures opened { ¬ (result.status ≡ 1) → IsOk workload.opened }
-    ensures printed { ¬ (result.status ≡ 1) → IsOutputWritten R.remaining D.holds W.contents workload.opened folder (RunBegins S.remaining E.contents origin errors.old errors.new) out.old out.new result.folder result.status }
+    ensures printed { ¬ (result.status ≡ 1) → IsOutputWritten {F = F} R.remaining D.holds W.contents workload.opened folder (RunBegins S.remaining E.contents origin errors.old errors.new) out.old out.new result.folder result.status }
     ensures cause { result.status ≡ 1 → IsFailed E.contents workload.name.items errors.new result.failure
         (λ between. IsCauseOfUnprinted R.remaining D.holds W.contents workload.opened folder (RunBegins S.remaining E.contents origin errors.old between) out.old out.new) }
 {
@@ -109,13 +109,13 @@ fn run_opened<
     folder: Option<RunFolder<D>>,
     out: &mut Tally<W>,
     errors: &mut Tally<E>,
-) -> Result<Finished<R, S, D>, RunFailure<R, S>>
+) -> Result<Finished<R, S, D, F>, RunFailure<R, S, F>>
     ensures opened { OnOk result (IsOk opened) }
-    ensures printed { IfOk result (λ finished. IsOutputWritten R.remaining D.holds W.contents opened folder (RunBegins S.remaining E.contents origin errors.old errors.new) out.old out.new finished.folder finished.status) }
+    ensures printed { IfOk result (λ finished. IsOutputWritten {F = F} R.remaining D.holds W.contents opened folder (RunBegins S.remaining E.contents origin errors.old errors.new) out.old out.new finished.folder finished.status) }
     ensures cause { IfErr result (IsCauseOfUnprinted R.remaining D.holds W.contents opened folder (RunBegins S.remaining E.contents origin errors.old errors.new) out.old out.new) }
 {
     let (printed, folder) = answer(rt, context, opened, origin, folder, errors)?;
-    print::<R, S, W>(&printed, out)?;
+    print::<R, S, F, W>(&printed, out)?;
     let status = printed.status();
     Ok(Finished {
         status,
@@ -140,9 +140,9 @@ fn answer<
     origin: Origin<S>,
     folder: Option<RunFolder<D>>,
     errors: &mut Tally<E>,
-) -> Result<(Printed, Option<D>), RunFailure<R, S>>
+) -> Result<(Printed, Option<D>), RunFailure<R, S, F>>
     ensures opened { OnOk result (IsOk opened) }
-    ensures answer { IfOk result (λ r. IsAnswer R.remaining D.holds opened folder (RunBegins S.remaining E.contents origin errors.old errors.new) r.1 r.0) }
+    ensures answer { IfOk result (λ r. IsAnswer {F = F} R.remaining D.holds opened folder (RunBegins S.remaining E.contents origin errors.old errors.new) r.1 r.0) }
     ensures cause { IfErr result (IsRunUnanswered R.remaining opened folder (RunBegins S.remaining E.contents origin errors.old errors.new)) }
 {
     let alloc = context.alloc;
@@ -154,10 +154,12 @@ fn answer<
     match reading {
         WorkloadReading::BadLine(line) => Ok((Printed::BadLine(line), None)),
         WorkloadReading::Runs(workload) => {
-            let folder = usable::<R, S, D>(folder)?;
+            let folder = usable::<R, S, F, D>(folder)?;
             let Origin { start, capacity } = origin;
-            let base = base_of::<R, S, E>(alloc, start, errors)?;
-            let (outcome, folder) = run_read(rt, context, workload, base, capacity, folder)?;
+            let base = base_of::<R, S, F, E>(alloc, start, errors)?;
+            let (outcome, folder) = run_read::<F, D, G, H>(
+                rt, context, workload, base, capacity, folder,
+            )?;
             Ok((Printed::Whole(outcome), folder))
         }
     }
@@ -177,7 +179,7 @@ fn run_read<
     base: Base,
     capacity: u32,
     folder: Option<D>,
-) -> Result<(RunReport, Option<D>), ThreadsFault>
+) -> Result<(RunReport, Option<D>), ThreadsFault<F>>
     requires start { base.point ≡ 0 }
     requires capacity { (1 ≤ capacity) × (capacity ≤ MOST_KEYS) }
     requires seats { HaveSeats (new_sitters MOST_SESSIONS) workload.clients }

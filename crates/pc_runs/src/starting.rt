@@ -12,11 +12,11 @@ use std::io::{Read, Write};
 
 /// The base of a run. The gaps of a folder's files are reported on the error writer, even if they are damaged and that isn't
 /// accepted; if nothing is recovered of them nothing is reported yet. If there is no base, the failure says why.
-pub fn base_of<R, S: Read + Drop, E: Write>(
+pub fn base_of<R, S: Read + Drop, F, E: Write>(
     alloc: Global,
     start: Start<S>,
     errors: &mut Tally<E>,
-) -> Result<Base, RunFailure<R, S>>
+) -> Result<Base, RunFailure<R, S, F>>
     ensures point { IfOk result (λ base. base.point ≡ 0) }
     ensures start { IfOk result (IsRunBase S.remaining E.contents start errors.old errors.new) }
     ensures cause { IfErr result (IsUnstarted S.remaining E.contents start errors.old errors.new) }

@@ -1,7 +1,6 @@
 //! A store of a workload, from its opening to its result.
 ghost use Rattle.std.specs.Prelude.{◌≡◌, ◌≤◌, ◌<◌, ◌||◌, ◌++◌, [], All, List, length, drop, is_some, IfErr, IfOk};
 ghost use Rattle.pc_types.specs.declared.limits.TheConstants.{MOST_KEYS, MOST_PASSES};
-ghost use Rattle.pc_types.specs.declared.refusal.Refusal.{Refusal};
 ghost use Rattle.pc_types.specs.declared.refusal.Refusal.TheVariants.{OutOfMemory};
 ghost use Rattle.pc_model.specs.History.{History};
 ghost use Rattle.pc_board.specs.Passes.{IsOfBoard};
@@ -9,7 +8,6 @@ ghost use Rattle.pc_outcomes.specs.Leaving.{AreLeftAfter, IsLegacy, IsUntoldAfte
 ghost use Rattle.pc_shared.specs.Sitters.{Sitter, new_sitters};
 ghost use Rattle.pc_shared.specs.Written.{CountsAsOut};
 ghost use Rattle.pc_threads.specs.Clients.{HaveSeats, HaveWorked, clients_in};
-ghost use Rattle.pc_threads.specs.declared.fault.ThreadsFault.TheVariants as ThreadsFault;
 ghost use Rattle.pc_workers.specs.Checkpointing.{HasCycled};
 ghost use Rattle.pc_workers.specs.Covering.{HaveOnlyTo, HaveJustTo};
 ghost use Rattle.pc_workers.specs.Logging.{rest_text};
@@ -62,7 +60,7 @@ fn take_back<N: StoreName, D: Drop, R: Wait>(
     points: u32,
     idle: Vec<Session<N>>,
     rested: Rested<N, D>,
-) -> Result<EndedStore<N, D>, ThreadsFault>
+) -> Result<EndedStore<N, D>, Refusal>
     requires only { HaveOnlyTo points rested.held.items }
     requires cycles { HasCycled N.name.setting points [] rested.worked.seat }
     ensures sessions { IfOk result (λ ended. ended.sessions.items ≡ idle.items ++ rested.worked.ran.sessions.items) }
@@ -70,7 +68,7 @@ fn take_back<N: StoreName, D: Drop, R: Wait>(
     ensures cover { IfOk result (λ ended. HaveJustTo points ended.joined.items) }
     ensures written { IfOk result (λ ended. ended.written.items ≡ rested.worked.written.items) }
     ensures folder { IfOk result (λ ended. ended.folder ≡ rested.worked.folder) }
-    ensures memory { IfErr result (λ why. why ≡ ThreadsFault.Refused OutOfMemory) }
+    ensures memory { IfErr result (λ why. why ≡ OutOfMemory) }
 {
     let Rested { worked, held } = rested;
     let Worked {
@@ -97,7 +95,7 @@ fn take_back<N: StoreName, D: Drop, R: Wait>(
 }
 
 // Why the threads have stopped, with the idle sessions beside those of the clients, if the log has no place left.
-fn with_idle<N: StoreName>(stop: ThreadsStop<N>, idle: Vec<Session<N>>) -> ThreadsStop<N>
+fn with_idle<N: StoreName, F>(stop: ThreadsStop<N, F>, idle: Vec<Session<N>>) -> ThreadsStop<N, F>
     ensures { IsStopWithIdle stop idle.items result }
 {
     match stop {
@@ -115,13 +113,15 @@ fn with_idle<N: StoreName>(stop: ThreadsStop<N>, idle: Vec<Session<N>>) -> Threa
                 Err(_) => ThreadsStop::Other(ThreadsFault::Refused(Refusal::OutOfMemory)),
             }
         }
+        ThreadsStop::LogEnded => ThreadsStop::LogEnded,
         ThreadsStop::Other(why) => ThreadsStop::Other(why),
     }
 }
 
 // The fault of the run: if the log has no place left, after a comparison of what all sessions and the checkpointer have seen with
-// the store's history.
-fn fault_of<N: StoreName>(shared: Shared<N>, stop: ThreadsStop<N>) -> ThreadsFault
+// the store's history. A client finds the log's end before its own only if the file is lost, which is then the stop; no clause has that
+// order in time.
+fn fault_of<N: StoreName, F>(shared: Shared<N>, stop: ThreadsStop<N, F>) -> ThreadsFault<F>
     ensures { IsFaultOfStop N.name.setting stop result }
 {
     match stop {
@@ -130,6 +130,7 @@ fn fault_of<N: StoreName>(shared: Shared<N>, stop: ThreadsStop<N>) -> ThreadsFau
             shared.settle(ran.sessions, seat, seen);
             ThreadsFault::Refused(Refusal::LogFull)
         }
+        ThreadsStop::LogEnded => ThreadsFault::Refused(Refusal::OutOfMemory),
         ThreadsStop::Other(why) => why,
     }
 }
@@ -148,7 +149,7 @@ fn use_store<
     checkpointer: NewCheckpointer<N, D>,
     board: (&Board, Vec<BoardPass>),
     logger: Logger<N, F>,
-) -> Result<(EndedStore<N, D>, Written<N, F>), ThreadsStop<N>>
+) -> Result<(EndedStore<N, D>, Written<N, F>), ThreadsStop<N, F>>
     requires fresh { checkpointer.at_store ≡ [] }
     requires some { 0 < length board.1.items }
     requires few { length board.1.items ≤ MOST_PASSES }
@@ -202,7 +203,7 @@ pub fn run_store<
     workload: Workload,
     folder: Option<D>,
     log: Option<Tally<F>>,
-) -> Result<(RunReport, Option<D>), ThreadsFault>
+) -> Result<(RunReport, Option<D>), ThreadsFault<F>>
     requires name { opened ≡ N.name }
     requires room { N.name.setting.capacity ≤ MOST_KEYS }
     requires seats { HaveSeats (new_sitters N.name.setting.sessions) workload.clients }
@@ -265,12 +266,12 @@ fn leave<N: StoreName, G: Gate + Sync, R: Threads + Wait + Sync>(
     context: &RunContext<'_, G>,
     closed: Closed<N>,
     singles: usize,
-) -> Result<Legacy, ThreadsFault>
+) -> Result<Legacy, Refusal>
     requires singles { singles ≤ length closed.parts.items }
     requires after { (history : History) × AreLeftAfter N.name.setting history closed.world.base closed.world.log closed.parts.items }
     ensures commits { IfOk result (λ legacy. legacy.commits ≡ commits_in closed.world.log) }
     ensures files { IfOk result (λ legacy. IsLegacy closed.world.base closed.world.log (drop singles closed.parts.items) legacy.files) }
-    ensures untold { IfErr result (λ fault. (why : Refusal) × (fault ≡ ThreadsFault.Refused why) × IsUntoldAfter N.name.setting (drop singles closed.parts.items) why) }
+    ensures untold { IfErr result (IsUntoldAfter N.name.setting (drop singles closed.parts.items)) }
 {
     let (alloc, crew) = (context.alloc, &context.crew);
     let mut closed = closed;

@@ -1,5 +1,5 @@
 -- Why the store refuses further points of a run.
-use Rattle.std.proofs.Common.{◌≡◌, ◌≢◌, ℕ, zero, suc, ◌+◌, ◌*◌, ◌<◌, ◌≤◌, Bool, [], ap, refl, length, length-append, ◌∙◌, arith}
+use Rattle.std.proofs.Common.{◌≡◌, ◌≢◌, ℕ, zero, suc, ◌+◌, ◌*◌, ◌<◌, ◌≤◌, [], ap, refl, length, length-append, ◌∙◌, arith}
 use Rattle.pc_types.specs.declared.limits.TheConstants.{MOST_FILES, MOST_POINTS}
 use Rattle.pc_types.specs.declared.refusal.Refusal.{Refusal}
 use Rattle.pc_types.specs.declared.refusal.Refusal.TheVariants as why
@@ -30,13 +30,13 @@ few_files st before point old new earlier later given next few cycled broken =
     omega (arith, was, all, both, old_files, new_files, next, few, places, points)
 
 -- if the shelf has a place left
-pub full_stops : (st : Setting) (seen shown : History) (writes : Bool) (transactions points last : ℕ) (given : Refusal) → last ≤ points → length (shelf st.run seen) < MOST_FILES → IsFull st seen shown last given → given ≢ why.LogFull
-    → IsStop writes transactions points given
-full_stops st seen shown writes transactions points last why.OutOfMemory low room full other = tt
-full_stops st seen shown writes transactions points last why.LogFull low room full other = absurd (other refl)
-full_stops st seen shown writes transactions points last why.ShelfFull low room full other = absurd (omega (arith, room, full))
-full_stops st seen shown writes transactions points last why.PointsFull low room full other = omega (arith, low, full)
-full_stops st seen shown writes transactions points last any low room full other = absurd full
+pub full_stops : (st : Setting) (seen shown : History) (transactions points last : ℕ) (given : Refusal) → last ≤ points → length (shelf st.run seen) < MOST_FILES → IsFull st seen shown last given → given ≢ why.LogFull
+    → IsStop transactions points given
+full_stops st seen shown transactions points last why.OutOfMemory low room full other = tt
+full_stops st seen shown transactions points last why.LogFull low room full other = absurd (other refl)
+full_stops st seen shown transactions points last why.ShelfFull low room full other = absurd (omega (arith, room, full))
+full_stops st seen shown transactions points last why.PointsFull low room full other = omega (arith, low, full)
+full_stops st seen shown transactions points last any low room full other = absurd full
 
 -- the phases of this many cycles
 cycle_phases : (point count : ℕ) → length (whole_cycles point count) ≡ 5 * count

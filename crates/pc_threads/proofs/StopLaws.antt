@@ -15,14 +15,16 @@ use Rattle.pc_jobs.specs.declared.works.Job.{Job}
 use Rattle.pc_jobs.specs.declared.works.ClientTask.{ClientTask}
 use Rattle.pc_jobs.specs.Jobs.{job_of}
 use Rattle.pc_shared.specs.Sitters.{Sitter}
+use Rattle.pc_io.specs.Counted.{HasRisen}
 use Rattle.pc_io.specs.declared.tally.Tally.{Tally}
+use Rattle.pc_texts.specs.declared.file_names.FileName.{FileName}
 use Rattle.pc_threads.specs.declared.fault.ThreadsFault.{ThreadsFault}
 use Rattle.pc_threads.specs.declared.fault.ThreadsFault.TheVariants as fault
 use Rattle.pc_threads.specs.Clients.{HasDone, ClientHasStopped, HaveStopped, HaveWorked, clients_in, first_jobs, jobs_in, jobs_of, transactions_in}
 use Rattle.pc_threads.specs.declared.files.FileFault.{FileFault}
 use Rattle.pc_threads.specs.declared.files.FileFault.TheVariants as lost
 use Rattle.pc_threads.specs.declared.threads.LogFault.{LogFault}
-use Rattle.pc_threads.specs.Faults.{IsThreadsEnd, IsStop, LogHasStopped, ThreadsHaveStopped, lost_file_fault}
+use Rattle.pc_threads.specs.Faults.{IsFileLost, IsThreadsEnd, IsStop, IsWorkersStop, LogHasStopped, ThreadsHaveStopped, lost_file_fault, lost_log_fault, stop_of_workers}
 use Rattle.pc_threads.specs.declared.stop.ThreadsStop.{ThreadsStop}
 use Rattle.pc_threads.specs.declared.stop.ThreadsStop.TheVariants as stop
 
@@ -106,35 +108,40 @@ module _ (has_log : Bool) where
 -- ---- of a run
 
 -- the cause that stops one thread is one for more transactions and more points
-pub wider_stop : (a b : Bool) (m n p q : ℕ) (given : Refusal) → (IsTrue a → IsTrue b) → m ≤ n → p ≤ q → IsStop a m p given → IsStop b n q given
-wider_stop a b m n p q why.OutOfMemory on low few stop = tt
-wider_stop a b m n p q why.Device on low few stop = on stop
-wider_stop a b m n p q why.Full on low few stop = omega (arith, low, stop)
-wider_stop a b m n p q why.PointsFull on low few stop = omega (arith, few, stop)
-wider_stop a b m n p q other on low few stop = absurd stop
+pub wider_stop : (m n p q : ℕ) (given : Refusal) → m ≤ n → p ≤ q → IsStop m p given → IsStop n q given
+wider_stop m n p q why.OutOfMemory low few stop = tt
+wider_stop m n p q why.Full low few stop = omega (arith, low, stop)
+wider_stop m n p q why.PointsFull low few stop = omega (arith, few, stop)
+wider_stop m n p q other low few stop = absurd stop
 
-pub more_end : (a b : Bool) (m n p q : ℕ) (given : ThreadsFault) → (IsTrue a → IsTrue b) → m ≤ n → p ≤ q → IsThreadsEnd a m p given → IsThreadsEnd b n q given
-more_end a b m n p q (fault.Refused why) on low few end = wider_stop a b m n p q why on low few end
+pub wider_workers : (has_log : Bool) (m n : ℕ) (given : Refusal) → m ≤ n → IsWorkersStop has_log m given → IsWorkersStop has_log n given
+wider_workers has_log m n given low (inl device) = inl device
+wider_workers has_log m n given low (inr stop) = inr (wider_stop m n 0 0 given low (omega arith) stop)
+
+pub more_end : {T : Type 0} (a b : Bool) (m n p q : ℕ) (given : ThreadsFault T) → (IsTrue a → IsTrue b) → m ≤ n → p ≤ q → IsThreadsEnd a m p given → IsThreadsEnd b n q given
+more_end a b m n p q (fault.Refused why) on low few end = wider_stop m n p q why low few end
 more_end a b m n p q (fault.Unmade file why) on low few end = on end
+more_end a b m n p q (fault.Failed file) on low few end = (on end.0, end.1)
 more_end a b m n p q fault.NoThread on low few end = tt
 
-module _ (writes : Bool) (transactions points : ℕ) where
-  pub memory_stops : (given : Refusal) → given ≡ OutOfMemory → IsStop writes transactions points given
-  memory_stops given is = subst (IsStop writes transactions points) (sym is) tt
+module _ (transactions points : ℕ) where
+  pub memory_stops : (given : Refusal) → given ≡ OutOfMemory → IsStop transactions points given
+  memory_stops given is = subst (IsStop transactions points) (sym is) tt
 
-  pub device_stops : (given : Refusal) → IsTrue writes → given ≡ Device → IsStop writes transactions points given
-  device_stops given there is = subst (IsStop writes transactions points) (sym is) there
+-- a count that has risen isn't 0
+pub some_failed : (old new : ℕ) → HasRisen old new → 1 ≤ new
+some_failed old new risen = omega (arith, risen)
 
 -- a file that was lost ends it
-pub lost_ends : {T : Type 0} (given : FileFault T) → IsThreadsEnd true 0 0 (lost_file_fault given)
-lost_ends (lost.Unmade file why) = refl
-lost_ends (lost.Failed file) = refl
+pub lost_ends : {T : Type 0} (refuses : FileName → Refusal → Type 0) (name : FileName) (failures : ℕ) (given : FileFault T) → IsFileLost refuses name failures given → IsThreadsEnd true 0 0 (lost_file_fault given)
+lost_ends refuses name failures (lost.Unmade file why) is = refl
+lost_ends refuses name failures (lost.Failed file) risen = (refl, some_failed failures file.failures risen)
 
 -- why clients stop
-pub stopped_ends : (has_log : Bool) (clients : List Client) (given : Refusal) → HaveStopped has_log clients given → IsStop has_log (transactions_in clients) 0 given
-stopped_ends has_log clients given (inl memory) = memory_stops has_log (transactions_in clients) 0 given memory
-stopped_ends has_log clients given (inr (inl (device, there))) = device_stops has_log (transactions_in clients) 0 given there device
-stopped_ends has_log clients given (inr (inr (full, many))) = subst (IsStop has_log (transactions_in clients) 0) (sym full) many
+pub stopped_ends : (has_log : Bool) (clients : List Client) (given : Refusal) → HaveStopped has_log clients given → IsWorkersStop has_log (transactions_in clients) given
+stopped_ends has_log clients given (inl memory) = inr (memory_stops (transactions_in clients) 0 given memory)
+stopped_ends has_log clients given (inr (inl (device, there))) = inl (device, there)
+stopped_ends has_log clients given (inr (inr (full, many))) = inr (subst (IsStop (transactions_in clients) 0) (sym full) many)
 
 -- the transactions of one worker's clients with those of the workers before it
 pub of_worker : {X : Type 0} (f : X → List Client) (clients : List Client) (x : X) (rest all : List X) (whole : List Client) → all ≡ x ∷ rest → clients ++ clients_in (map f all) ≡ whole
@@ -149,9 +156,9 @@ of_worker f clients x rest all whole is was =
     omega (arith, all_count, own_count, length-append (flat_map jobs_of clients) (flat_map jobs_of (f x ++ others)), length-append (flat_map jobs_of (f x)) (flat_map jobs_of others))
 
 -- more of two workers' transactions were given up than can be counted
-pub both_stop : (has_log : Bool) (transactions a b : ℕ) (given : Refusal) → a + b ≤ transactions → (given ≡ OutOfMemory) ⊎ ((given ≡ Full) × (2 ^ 64 ≤ a + b)) → IsStop has_log transactions 0 given
-both_stop has_log transactions a b given low (inl memory) = memory_stops has_log transactions 0 given memory
-both_stop has_log transactions a b given low (inr (full, many)) = subst (IsStop has_log transactions 0) (sym full) (omega (arith, low, many))
+pub both_stop : (transactions a b : ℕ) (given : Refusal) → a + b ≤ transactions → (given ≡ OutOfMemory) ⊎ ((given ≡ Full) × (2 ^ 64 ≤ a + b)) → IsStop transactions 0 given
+both_stop transactions a b given low (inl memory) = memory_stops transactions 0 given memory
+both_stop transactions a b given low (inr (full, many)) = subst (IsStop transactions 0) (sym full) (omega (arith, low, many))
 
 pub left_true : (a b : Bool) → IsTrue a → IsTrue (a || b)
 left_true true b is = refl
@@ -164,12 +171,22 @@ right_true false b is = is
 -- ---- why the other threads stop
 
 -- a fault that stops some of the threads stops the run
-pub more_stop_of : {N : Type 0} (st : Setting) (a b : Bool) (clients : List Client) (points : ℕ) (given : ThreadsStop N) → (IsTrue a → IsTrue b) → ThreadsHaveStopped st a clients points given → ThreadsHaveStopped st b clients points given
+pub more_stop_of : {N T : Type 0} (st : Setting) (a b : Bool) (clients : List Client) (points : ℕ) (given : ThreadsStop N T) → (IsTrue a → IsTrue b) → ThreadsHaveStopped st a clients points given → ThreadsHaveStopped st b clients points given
 more_stop_of st a b clients points (stop.LogFull full ran) on stopped = stopped
+more_stop_of st a b clients points stop.LogEnded on there = on there
 more_stop_of st a b clients points (stop.Other why) on end = more_end a b (transactions_in clients) (transactions_in clients) points points why on (omega arith) (omega arith) end
 
+-- why workers stop
+pub workers_end : (N T : Type 0) (st : Setting) (has_log there : Bool) (clients : List Client) (points : ℕ) (given : Refusal) → IsWorkersStop has_log (transactions_in clients) given
+    → ThreadsHaveStopped {N = N} {T = T} st (has_log || there) clients points (stop_of_workers given)
+workers_end N T st has_log there clients points why.Device (inl (is, on)) = left_true has_log there on
+workers_end N T st has_log there clients points why.Device (inr end) = absurd end
+workers_end N T st has_log there clients points other (inl (is, on)) = cc (is)
+workers_end N T st has_log there clients points other (inr end) = wider_stop (transactions_in clients) (transactions_in clients) 0 points other (omega arith) (omega arith) end
+
 -- why the logger stops
-pub logger_ends : {T : Type 0} (hands : Bool) (log : Option (Tally T)) (n points : ℕ) (stop : LogFault T) → LogHasStopped log stop → IsStop (hands || is_some log) n points stop.why
+pub logger_ends : {T : Type 0} (hands : Bool) (log : Option (Tally T)) (n points : ℕ) (stop : LogFault T) → LogHasStopped log stop → IsThreadsEnd (hands || is_some log) n points (lost_log_fault stop.why stop.out)
 logger_ends hands None n points stop stopped = absurd stopped
-logger_ends hands (Some log) n points stop (inl memory) = memory_stops (hands || true) n points stop.why memory
-logger_ends hands (Some log) n points stop (inr (device, risen)) = device_stops (hands || true) n points stop.why (right_true hands true refl) device
+logger_ends hands (Some log) n points stop (inl memory) = subst (λ (given : Refusal). IsThreadsEnd (hands || true) n points (lost_log_fault given stop.out)) (sym memory) tt
+logger_ends hands (Some log) n points stop (inr (device, risen)) =
+    subst (λ (given : Refusal). IsThreadsEnd (hands || true) n points (lost_log_fault given stop.out)) (sym device) (right_true hands true refl, some_failed log.failures stop.out.failures risen)

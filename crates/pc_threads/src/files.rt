@@ -60,16 +60,16 @@ pub enum FileFault<F> {
     Failed(Tally<F>),
 }
 
-impl<F: Drop> From<FileFault<F>> for ThreadsFault {
+impl<F: Drop> From<FileFault<F>> for ThreadsFault<F> {
     ghost use Rattle.std.specs.Prelude.{◌≡◌};
     ghost use Rattle.pc_threads.specs.Faults.{lost_file_fault};
 
     ghost from_gives = { λ lost fault. fault ≡ lost_file_fault lost };
 
-    fn from(lost: FileFault<F>) -> ThreadsFault {
-        match &lost {
-            FileFault::Unmade(name, why) => ThreadsFault::Unmade(*name, *why),
-            FileFault::Failed(_) => ThreadsFault::Refused(Refusal::Device),
+    fn from(lost: FileFault<F>) -> ThreadsFault<F> {
+        match lost {
+            FileFault::Unmade(name, why) => ThreadsFault::Unmade(name, why),
+            FileFault::Failed(file) => ThreadsFault::Failed(file),
         }
     }
 }

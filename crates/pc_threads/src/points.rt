@@ -41,24 +41,27 @@ pub struct FullLog<N: StoreName> {
 
 /// Why the points of a run are not all taken: the log has no place left, or another fault.
 #[derive(Drop)]
-pub(crate) enum PointsFault<N: StoreName> {
+pub(crate) enum PointsFault<N: StoreName, F> {
     LogFull(FullLog<N>),
-    Other(ThreadsFault),
+    Other(ThreadsFault<F>),
 }
 
-impl<N: StoreName> From<ThreadsFault> for PointsFault<N> {
+impl<N: StoreName, F> From<ThreadsFault<F>> for PointsFault<N, F> {
     ghost use Rattle.std.specs.Prelude.{◌≡◌};
     ghost use Rattle.pc_threads.specs.declared.points.PointsFault.TheVariants.{Other};
 
     ghost from_gives = { λ why fault. fault ≡ Other why };
 
-    fn from(why: ThreadsFault) -> PointsFault<N> {
+    fn from(why: ThreadsFault<F>) -> PointsFault<N, F> {
         PointsFault::Other(why)
     }
 }
 
 // The fault of points that are not all taken, after a refusal to the checkpointer of this seat.
-fn fault_of<N: StoreName>(stop: CheckpointFault<N>, seat: CheckpointerSeat<N>) -> PointsFault<N>
+fn fault_of<N: StoreName, F>(
+    stop: CheckpointFault<N>,
+    seat: CheckpointerSeat<N>,
+) -> PointsFault<N, F>
     ensures { IsPointsFaultOf stop seat result }
 {
     let CheckpointFault { why, seen } = stop;
@@ -79,7 +82,7 @@ fn write_point<N: StoreName, F: Write + Drop, D: NewFiles<F>, G: Gate, R: Wait>(
     folder: &mut D,
     written: &mut Vec<PartTicket<N>>,
     point: Point,
-) -> Result<(), ThreadsFault>
+) -> Result<(), ThreadsFault<F>>
     ensures parts { HasParts (D.holds folder.old) written.old.items → point ≡ length written.old.items + 1 → OnOk result (HasParts (D.holds folder.new) written.new.items) }
     ensures count { OnOk result (length written.new.items ≡ length written.old.items + 1) }
     ensures base { (text : List ℕ) → D.holds folder.old file.Base text → D.holds folder.new file.Base text }
@@ -113,7 +116,7 @@ impl<'a, N: StoreName, D: Drop> Checkpointer<'a, N, D> {
         rt: &R,
         room: &Room<'_, N, G>,
         point: Point,
-    ) -> Result<Checkpointer<'a, N, D>, PointsFault<N>>
+    ) -> Result<Checkpointer<'a, N, D>, PointsFault<N, F>>
     where
         D: NewFiles<F>,
         requires { phase_of self.at_store ≡ Rest }
@@ -169,7 +172,7 @@ pub(crate) fn take_points<
     checkpointer: Checkpointer<'a, N, D>,
     taken: u32,
     last: u32,
-) -> Result<Checkpointer<'a, N, D>, PointsFault<N>>
+) -> Result<Checkpointer<'a, N, D>, PointsFault<N, F>>
     requires order { taken ≤ last }
     requires rest { phase_of checkpointer.at_store ≡ Rest }
     ensures rest { IfOk result (λ later. phase_of later.at_store ≡ Rest) }
@@ -184,7 +187,10 @@ pub(crate) fn take_points<
             return Err(PointsFault::Other(ThreadsFault::Refused(Refusal::PointsFull)));
         };
         checkpointer.await_commits(rt, room);
-        checkpointer = checkpointer.take(rt, room, Point(point))?;
+        checkpointer = match checkpointer.take(rt, room, Point(point)) {
+            Ok(later) => later,
+            Err(fault) => return Err(fault),
+        };
     }
     Ok(checkpointer)
 }

@@ -6,7 +6,7 @@ ghost use Rattle.pc_model.specs.History.{phase_of};
 ghost use Rattle.pc_shared.specs.Written.{CountsAsOut};
 ghost use Rattle.pc_workers.specs.Covering.{HaveOnlyTo};
 ghost use Rattle.pc_threads.specs.Clients.{HaveWorked, clients_in, transactions_in};
-ghost use Rattle.pc_threads.specs.Faults.{IsThreadsEnd, LogHasStopped, ThreadsHaveStopped};
+ghost use Rattle.pc_threads.specs.Faults.{IsWorkersStop, LogHasStopped, ThreadsHaveStopped};
 ghost use Rattle.pc_threads.specs.Logs.{HasLogged};
 ghost use Rattle.pc_threads.specs.Rested.{IsLeftByHands, IsLeftByWorkers};
 
@@ -16,7 +16,7 @@ use crate::files::NewFiles;
 use crate::hands::{Collapser, Hands, Seat};
 use crate::points::{Checkpointer, take_points};
 use crate::room::Room;
-use crate::stop::ThreadsStop;
+use crate::stop::{ThreadsStop, WorkersStop};
 use pc_io::Tally;
 use pc_shared::{CheckpointerSeat, LogPass, PartTicket, Shared};
 use pc_tie::StoreName;
@@ -67,15 +67,19 @@ pub(crate) struct LogFault<F: Write> {
     pub(crate) out: Tally<F>,
 }
 
-impl<N: StoreName, F: Write + Drop> From<LogFault<F>> for ThreadsStop<N> {
+impl<N: StoreName, F: Write + Drop> From<LogFault<F>> for ThreadsStop<N, F> {
     ghost use Rattle.std.specs.Prelude.{◌≡◌};
-    ghost use Rattle.pc_threads.specs.declared.fault.ThreadsFault.TheVariants.{Refused};
+    ghost use Rattle.pc_threads.specs.Faults.{lost_log_fault};
     ghost use Rattle.pc_threads.specs.declared.stop.ThreadsStop.TheVariants.{Other};
 
-    ghost from_gives = { λ fault stop. stop ≡ Other (Refused fault.why) };
+    ghost from_gives = { λ fault stop. stop ≡ Other (lost_log_fault fault.why fault.out) };
 
-    fn from(fault: LogFault<F>) -> ThreadsStop<N> {
-        ThreadsStop::Other(ThreadsFault::Refused(fault.why))
+    fn from(fault: LogFault<F>) -> ThreadsStop<N, F> {
+        let LogFault { why, out } = fault;
+        match why {
+            Refusal::Device => ThreadsStop::Other(ThreadsFault::Failed(out)),
+            why => ThreadsStop::Other(ThreadsFault::Refused(why)),
+        }
     }
 }
 
@@ -164,9 +168,9 @@ fn join_collapsers<N: StoreName, R: Threads>(
     rt: &R,
     alloc: Global,
     handles: Vec<PromisedHandle<Result<Vec<PartTicket<N>>, Refusal>, UpTo>>,
-) -> Result<Vec<PartTicket<N>>, ThreadsFault>
+) -> Result<Vec<PartTicket<N>>, Refusal>
     ensures only { (points : ℕ) → All (λ handle. handle.promise.0 ≡ points) handles.items → IfOk result (λ held. HaveOnlyTo points held.items) }
-    ensures ended { IfErr result (λ fault. fault ≡ ThreadsFault.Refused Refusal.OutOfMemory) }
+    ensures ended { IfErr result (λ why. why ≡ Refusal.OutOfMemory) }
 {
     let mut held = Vec::new(alloc);
     for handle in handles {
@@ -192,9 +196,9 @@ fn join_workers<N: StoreName, R: Threads>(
     rt: &R,
     alloc: Global,
     handles: Vec<PromisedHandle<Result<Ran<N>, Refusal>, ClientsOf<N>>>,
-) -> Result<Ran<N>, ThreadsFault>
+) -> Result<Ran<N>, WorkersStop>
     ensures clients { IfOk result (λ ran. HaveWorked N.name.setting (clients_in (map (λ handle. handle.promise.0.value) handles.items)) ran.given_up ran.sessions.items) }
-    ensures ended { (has_log : Bool) → All (λ handle. handle.promise.1 ≡ has_log) handles.items → IfErr result (IsThreadsEnd has_log (transactions_in (clients_in (map (λ handle. handle.promise.0.value) handles.items))) 0) }
+    ensures ended { (has_log : Bool) → All (λ handle. handle.promise.1 ≡ has_log) handles.items → IfErr result (λ stop. IsWorkersStop has_log (transactions_in (clients_in (map (λ handle. handle.promise.0.value) handles.items))) stop.why) }
 {
     let mut all = Ran {
         sessions: Vec::new(alloc),
@@ -252,7 +256,7 @@ fn run_workers<
     room: &'x Room<'x, N, G>,
     checkpointer: Checkpointer<'x, N, D>,
     workers: Vec<Worker<N>>,
-) -> Result<Worked<N, D>, ThreadsStop<N>>
+) -> Result<Worked<N, D>, ThreadsStop<N, F>>
     requires rest { phase_of checkpointer.at_store ≡ Rest }
     ensures left { IfOk result (IsLeftByWorkers D.holds N.name.setting room.now.points workers.items checkpointer.entry) }
     ensures ended { checkpointer.entry.at_store ≡ [] → IfErr result (ThreadsHaveStopped N.name.setting (is_some room.now.lag || is_some checkpointer.entry.folder) (clients_in workers.items) room.now.points) }
@@ -262,7 +266,7 @@ fn run_workers<
     thread::scope(
         thread::scope_env(),
         rt,
-        |scope| -> Result<Worked<N, D>, ThreadsStop<N>>
+        |scope| -> Result<Worked<N, D>, ThreadsStop<N, F>>
             requires handles { handles.items ≡ [] }
             requires has_log { has_log ≡ is_some room.now.lag }
             requires rest { phase_of checkpointer.at_store ≡ Rest }
@@ -304,7 +308,7 @@ fn run_hands<
     rt: &'x R,
     room: &'x Room<'x, N, G>,
     hands: Hands<'x, N, D>,
-) -> Result<Rested<N, D>, ThreadsStop<N>>
+) -> Result<Rested<N, D>, ThreadsStop<N, F>>
     requires rest { phase_of hands.checkpointer.at_store ≡ Rest }
     ensures left { IfOk result (IsLeftByHands D.holds N.name.setting room.now.points hands.entry.workers.items hands.entry.checkpointer) }
     ensures ended { hands.entry.checkpointer.at_store ≡ [] → IfErr result (ThreadsHaveStopped N.name.setting (is_some room.now.lag || is_some hands.entry.checkpointer.folder) (clients_in hands.entry.workers.items) room.now.points) }
@@ -320,7 +324,7 @@ fn run_hands<
     thread::scope(
         thread::scope_env(),
         rt,
-        |scope| -> Result<Rested<N, D>, ThreadsStop<N>>
+        |scope| -> Result<Rested<N, D>, ThreadsStop<N, F>>
             requires handles { handles.items ≡ [] }
             requires points { points ≡ room.now.points }
             requires rest { phase_of checkpointer.at_store ≡ Rest }
@@ -368,7 +372,7 @@ fn run_hands<
 
 /// Runs them all, and marks the end once the workers have ended and the points are taken, or once they fail: a thread can't be
 /// started, a point can't be taken, or an allocation failed. It returns once all threads have ended. If the log's file is lost it
-/// returns that error, whatever else failed. Text that goes out to such a file must count as gone out by the store's name.
+/// returns that file, whatever else failed. Text that goes out to such a file must count as gone out by the store's name.
 pub fn run_threads<
     'x,
     N: StoreName + Send + Sync,
@@ -381,7 +385,7 @@ pub fn run_threads<
     room: &'x Room<'x, N, G>,
     hands: Hands<'x, N, D>,
     logger: Logger<N, F>,
-) -> Result<(Rested<N, D>, Written<N, F>), ThreadsStop<N>>
+) -> Result<(Rested<N, D>, Written<N, F>), ThreadsStop<N, F>>
     requires rest { phase_of hands.checkpointer.at_store ≡ Rest }
     requires counts { CountsAsOut F.contents N.out }
     ensures left { IfOk result (λ r. IsLeftByHands D.holds N.name.setting room.now.points hands.entry.workers.items hands.entry.checkpointer r.0) }
@@ -395,7 +399,7 @@ pub fn run_threads<
     thread::scope(
         thread::scope_env(),
         rt,
-        |scope| -> Result<(Rested<N, D>, Written<N, F>), ThreadsStop<N>>
+        |scope| -> Result<(Rested<N, D>, Written<N, F>), ThreadsStop<N, F>>
             requires rest { phase_of hands.checkpointer.at_store ≡ Rest }
             requires counts { CountsAsOut F.contents N.out }
             ensures left { IfOk result (λ r. IsLeftByHands D.holds N.name.setting room.entry.now.points hands.entry.workers.items hands.entry.checkpointer r.0) }

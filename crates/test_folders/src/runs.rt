@@ -30,7 +30,7 @@ fn run_into<'a, H: Threads + Wait + Sync>(
     text: &'a [u8],
     out: &mut Tally<Vec<u8>>,
     errors: &mut Tally<Vec<u8>>,
-) -> Finished<&'a [u8], &'a [u8], MemoryFolder>
+) -> Finished<&'a [u8], &'a [u8], MemoryFolder, Vec<u8>>
     ensures { result.status ≡ 0 → HasLeft text.now result.folder }
 {
     let opened: Result<&'a [u8], Refusal> = Ok(text);
@@ -136,7 +136,7 @@ fn run_from<'a, H: Threads + Wait + Sync>(
     seed: RandomState,
     out: &mut Tally<Vec<u8>>,
     errors: &mut Tally<Vec<u8>>,
-) -> Finished<&'a [u8], &'a [u8], MemoryFolder> {
+) -> Finished<&'a [u8], &'a [u8], MemoryFolder, Vec<u8>> {
     let opened: Result<&'a [u8], Refusal> = Ok(NEXT_WORKLOAD);
     let workload = NamedFile {
         name: Vec::new(alloc),

@@ -14,7 +14,7 @@ use Rattle.pc_workers.specs.Covering.{HaveJustTo}
 use Rattle.pc_runs.specs.Folders.{LeavesFiles, base_of}
 use Rattle.pc_runs.proofs.HistoryLaws.{behind_first, first_ones, left_after}
 use Rattle.std.proofs.lemmas.Result.{err_from_is_err_and}
-use Rattle.pc_runs.proofs.FaultLaws.{folder_there, log_lost_there, log_there, lost_ends, no_memory, of_stop, one_there, same_transactions, untold_ends}
+use Rattle.pc_runs.proofs.FaultLaws.{folder_there, log_counted, log_lost_there, log_there, lost_ends, no_memory, of_stop, one_there, same_transactions, untold_ends}
 use Rattle.pc_runs.proofs.NewPasses.{as_many, some_passes}
 use Rattle.pc_runs.proofs.SeatingLaws.{all_back, dealt_seats}
 use Rattle.pc_runs.proofs.WorkLaws.{all_fresh, have_run}
@@ -132,7 +132,7 @@ returns-in_err-folder-clause-ended g c =
     let ended = c.in-Ok.used.0 in
     let there = folder_there g.D.NewFiles.holds c.args.workload.points c.args.folder ended.folder ended.written.items c.in-Ok.ensures.written in
     rw (p.1, p.2)
-    (lost_ends g.N.StoreName.name.setting c.args.workload (is_some c.args.folder) c.in_err-folder.field-0.0 (subst IsTrue there (log_lost_there ended.folder c.in-Ok.used.1.out c.in_err-folder.field-0.0 c.in_err-folder.ensures.lost)))
+    (lost_ends g.N.StoreName.name.setting c.args.workload (is_some c.args.folder) c.in_err-folder.field-0.0 (subst IsTrue there (log_lost_there ended.folder c.in-Ok.used.1.out c.in_err-folder.field-0.0 c.in_err-folder.ensures.lost)) (log_counted ended.folder c.in-Ok.used.1.out c.in_err-folder.field-0.0 c.in_err-folder.ensures.lost))
 
 pub returns-in_err-left-clause-ended : goal.returns-in_err-left-clause-ended
 returns-in_err-left-clause-ended g c =
@@ -145,9 +145,9 @@ returns-in_err-left-clause-ended g c =
     let parts : closed.parts.items ≡ ended.written.items ++ ended.joined.items = c.close-closed.ensures.parts ∙ c.in_ok-tickets.ensures.0 in
     let joined : drop c.in_ok-tickets.singles closed.parts.items ≡ ended.joined.items =
     (λ k. drop (c.in_ok-tickets.ensures.1 k) (parts k)) ∙ behind_first ended.written.items ended.joined.items in
-    rw (p.1, p.2, untold.1)
-    (untold_ends st c.args.workload (is_some c.args.folder) (drop c.in_ok-tickets.singles closed.parts.items) untold.0 c.requires.room
-    (subst (HaveJustTo c.args.workload.points) (sym joined) c.in-Ok.ensures.cover) untold.2)
+    rw (p.1, p.2)
+    (untold_ends st c.args.workload (drop c.in_ok-tickets.singles closed.parts.items) c.in_err-left.field-0.0 c.requires.room
+    (subst (HaveJustTo c.args.workload.points) (sym joined) c.in-Ok.ensures.cover) untold)
 
 pub returns-in_err-folder-clause-run : goal.returns-in_err-folder-clause-run
 returns-in_err-folder-clause-run g c =

@@ -2,8 +2,9 @@ use Rattle.std.proofs.Common.{Bool, List, ap, subst, ◌∙◌}
 use Rattle.std.specs.Prelude.{◌||◌, is_some}
 use Rattle.std.proofs.lemmas.Result.{err_from_is_err_and}
 use Rattle.pc_jobs.specs.declared.works.Client.{Client}
-use Rattle.pc_threads.specs.Clients.{clients_in}
+use Rattle.pc_threads.specs.Clients.{clients_in, transactions_in}
 use Rattle.pc_threads.specs.Faults.{ThreadsHaveStopped}
+use Rattle.pc_threads.proofs.StopLaws.{memory_stops}
 use Rattle.pc_runs.proofs.StopLaws.{idle_stopped}
 use Rattle.pc_runs.proofs.store.use_store.Goals as goal
 
@@ -29,4 +30,4 @@ returns-in-Err-clause-ended g c =
 pub returns-in_err-ended-clause-ended : goal.returns-in_err-ended-clause-ended
 returns-in_err-ended-clause-ended g c =
     let p = err_from_is_err_and c.from_residual-in_err-ended.result c.from_residual-in_err-ended.ensures.1 in
-    rw (p.1, p.2, c.in_err-ended.ensures.memory) tt
+    rw (p.1, p.2) (memory_stops (transactions_in (clients_in c.args.seating.workers.items)) c.args.room.now.points c.in_err-ended.field-0.0 c.in_err-ended.ensures.memory)

@@ -1,6 +1,5 @@
 use Rattle.std.proofs.Common.{◌≡◌, ◌+◌, ◌≤◌, [], rules, refl, sym, ap, subst, ◌∙◌, arith}
 use Rattle.std.specs.Prelude.{IsTrue, is_some}
-use Rattle.std.proofs.lemmas.Result.{err_from_is_err_and}
 use Rattle.pc_types.specs.declared.limits.TheConstants.{MOST_POINTS}
 use Rattle.pc_model.specs.History.{History}
 use Rattle.pc_workers.specs.Checkpointing.{HasCycled}
@@ -15,24 +14,22 @@ pub loop-others-preserved : goal.loop-others-preserved
 loop-others-preserved g c =
     let st = g.N.StoreName.name.setting in
     let old = c.loop-others in
-    let seat : History = c.in_ok-checkpointer.checkpointer.at_store in
-    let one : HasCycled st 1 old.checkpointer.at_store seat = subst (λ (h : History). HasCycled st 1 h seat) c.await_commits.ensures.seat c.in_ok-checkpointer.ensures.cycle in
+    let seat : History = c.in-Ok-take.later.at_store in
+    let one : HasCycled st 1 old.checkpointer.at_store seat = subst (λ (h : History). HasCycled st 1 h seat) c.await_commits.ensures.seat c.in-Ok-take.ensures.cycle in
     record {
-      there = c.in_ok-checkpointer.ensures.there ∙ ap is_some c.await_commits.ensures.folder ∙ old.invariant.there;
+      there = c.in-Ok-take.ensures.there ∙ ap is_some c.await_commits.ensures.folder ∙ old.invariant.there;
       rest = one.in_phase;
       cycles = λ first had. cycled_on st old.others first old.checkpointer.at_store seat (old.invariant.cycles first had) one;
       written = search rules;
     }
 
-pub returns-in_err-checkpointer-clause-ended : goal.returns-in_err-checkpointer-clause-ended
-returns-in_err-checkpointer-clause-ended g c cycled =
+pub returns-in-Err-clause-ended : goal.returns-in-Err-clause-ended
+returns-in-Err-clause-ended g c cycled =
     let st = g.N.StoreName.name.setting in
     let old = c.loop-others in
-    let p = err_from_is_err_and c.from_residual.result c.from_residual.ensures.1 in
     let seat : History = c.await_commits.new.self.at_store in
     let before : HasCycled st old.others [] seat = subst (HasCycled st old.others []) (sym c.await_commits.ensures.seat) (old.invariant.cycles [] cycled) in
     let there : is_some c.await_commits.new.self.folder ≡ is_some c.args.checkpointer.folder = ap is_some c.await_commits.ensures.folder ∙ old.invariant.there in
     let next : old.others + 1 ≡ c.in-Ok.point = search rules in
     let few : c.in-Ok.point ≤ MOST_POINTS = search rules in
-    rw (p.1, p.2)
-    (more_points st _ _ c.in-Ok.point c.args.last c.in_err-checkpointer.field-0.0 (subst IsTrue there) (omega (arith, next, c.loop-others-test.true)) (c.in_err-checkpointer.ensures.ended old.others next few before))
+    more_points st _ _ c.in-Ok.point c.args.last c.in-Err.fault (subst IsTrue there) (omega (arith, next, c.loop-others-test.true)) (c.in-Err.ensures.ended old.others next few before)

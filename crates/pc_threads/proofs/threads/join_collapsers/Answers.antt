@@ -1,8 +1,6 @@
-use Rattle.std.proofs.Common.{◌≡◌, All, ap, subst, sym}
+use Rattle.std.proofs.Common.{◌≡◌, All, subst, sym}
 use Rattle.std.proofs.lemmas.List.Elements.{All-head, All-tail}
 use Rattle.std.proofs.lemmas.Result.{err_from_is_err_and}
-use Rattle.pc_types.specs.declared.refusal.Refusal.{Refusal}
-use Rattle.pc_threads.specs.declared.fault.ThreadsFault.TheVariants as fault
 use Rattle.pc_workers.specs.Covering.{HaveOnlyTo}
 use Rattle.pc_workers.proofs.CoverLaws.{both_to}
 use Rattle.pc_threads.proofs.threads.join_collapsers.Goals as goal
@@ -22,4 +20,4 @@ loop-handle-preserved g c points promised =
 pub returns-in_err-tickets-clause-ended : goal.returns-in_err-tickets-clause-ended
 returns-in_err-tickets-clause-ended g c =
     let p = err_from_is_err_and c.from_residual.result c.from_residual.ensures.1 in
-    rw (p.1, p.2) (ap (λ (why : Refusal). fault.Refused why) c.in_err-tickets.ensures.1)
+    rw (p.1, p.2) c.in_err-tickets.ensures.1

@@ -1,10 +1,10 @@
-use Rattle.std.proofs.Common.{◌≡◌, ◌++◌, All, Bool, List, subst, arith}
+use Rattle.std.proofs.Common.{◌≡◌, ◌++◌, All, Bool, List, inr, subst, arith}
 use Rattle.std.proofs.lemmas.List.Elements.{All-head, All-tail}
 use Rattle.std.proofs.lemmas.Result.{err_from_is_err_and}
 use Rattle.pc_jobs.specs.declared.works.Client.{Client}
 use Rattle.pc_threads.specs.Clients.{HaveStopped, transactions_in}
 use Rattle.pc_threads.proofs.ClientLaws.{over_some}
-use Rattle.pc_threads.proofs.StopLaws.{both_stop, clients_at_most, wider_stop, of_worker, stopped_ends}
+use Rattle.pc_threads.proofs.StopLaws.{both_stop, clients_at_most, of_worker, stopped_ends, wider_workers}
 use Rattle.pc_threads.proofs.threads.join_workers.Goals as goal
 
 pub loop-handle-preserved : goal.loop-handle-preserved
@@ -30,7 +30,7 @@ returns-in_err-ran-clause-ended g c has_log promised =
     let its : first.promise.1 ≡ has_log = All-head (λ handle. handle.promise.1 ≡ has_log) first others (subst (All (λ handle. handle.promise.1 ≡ has_log)) c.in-Some.ensures.steps.0 (was.3 has_log promised)) in
     let part = of_worker _ was.0 first others c.loop-handle.handle-iterator.rest.items _ c.in-Some.ensures.steps.0 was.1 in
     rw (p.1, p.2)
-    (wider_stop has_log has_log (transactions_in clients) _ 0 0 why (λ there. there) (omega (arith, part)) (omega arith)
+    (wider_workers has_log (transactions_in clients) _ why (omega (arith, part))
     (stopped_ends has_log clients why (subst (λ (b : Bool). HaveStopped b clients why) its c.in_err-ran.ensures.1)))
 
 pub returns-in_err-all-clause-ended : goal.returns-in_err-all-clause-ended
@@ -44,4 +44,4 @@ returns-in_err-all-clause-ended g c has_log promised =
     let part = of_worker _ was.0 first c.next.new.self.rest.items c.loop-handle.handle-iterator.rest.items _ c.in-Some.ensures.steps.0 was.1 in
     let before = clients_at_most st was.0 all.given_up all.sessions.items was.2 in
     let own = clients_at_most st first.promise.0.value ran.given_up ran.sessions.items c.in_ok-ran.ensures.0 in
-    rw (p.1, p.2) (both_stop has_log _ all.given_up ran.given_up _ (omega (arith, part, before, own)) c.in_err-all.ensures.stopped)
+    rw (p.1, p.2) (inr (both_stop _ all.given_up ran.given_up _ (omega (arith, part, before, own)) c.in_err-all.ensures.stopped))

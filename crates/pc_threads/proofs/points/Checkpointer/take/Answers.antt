@@ -21,7 +21,7 @@ returns-in-Err-clause-ended g c before next few cycled =
     refused_stop st there c.args.point stop seat c.fault_of.result c.fault_of.ensures e.shown
     (few_phases st before c.args.point old seat _ _ _ next cycled e.broken_off)
     (λ other.
-    full_stops st seat stop.seen there 0 c.args.point (point_of old + 1) stop.why (omega (arith, at, next))
+    full_stops st seat stop.seen 0 c.args.point (point_of old + 1) stop.why (omega (arith, at, next))
     (few_files st before c.args.point old seat _ _ _ next few cycled e.broken_off) e.full other)
 
 pub returns-in_err-write_point-in-Some-clause-ended : goal.returns-in_err-write_point-in-Some-clause-ended

@@ -1,10 +1,9 @@
 use Rattle.std.proofs.Common.{◌≡◌, [], ◌∷◌, All, subst, sym, ap}
-use Rattle.std.specs.Prelude.{◌||◌, is_some}
 use Rattle.std.proofs.lemmas.Result.{err_from_is_err_and}
 use Rattle.std.proofs.lemmas.List.Elements.{All-nil, All-cons, All-append}
 use Rattle.pc_workers.specs.Covering.{HaveOnlyTo}
 use Rattle.pc_threads.specs.Clients.{clients_in, transactions_in}
-use Rattle.pc_threads.specs.Faults.{IsThreadsEnd}
+use Rattle.pc_threads.proofs.StopLaws.{memory_stops}
 use Rattle.pc_threads.proofs.threads.fn.run_hands.scope.Goals as goal
 
 pub loop-collapser-preserved : goal.loop-collapser-preserved
@@ -35,6 +34,5 @@ returns-in_err-worked g c =
 pub returns-in_err-held : goal.returns-in_err-held
 returns-in_err-held g c =
     let p = err_from_is_err_and c.from_residual-in_err-held.result c.from_residual-in_err-held.ensures.1 in
-    let writes = is_some c.captures.room.now.lag || is_some c.captures.checkpointer.folder in
     let n = transactions_in (clients_in c.captures.workers.items) in
-    rw (p.1, p.2) (record { left = tt; ended = λ fresh. subst (IsThreadsEnd writes n c.captures.room.now.points) (sym c.in_err-held.ensures.ended) tt })
+    rw (p.1, p.2) (record { left = tt; ended = λ fresh. memory_stops n c.captures.room.now.points c.in_err-held.field-0.0 c.in_err-held.ensures.ended })

@@ -8,9 +8,9 @@ use Rattle.pc_model.specs.History.{History}
 use Rattle.pc_workers.specs.Checkpointing.{HasCycled}
 use Rattle.pc_workers.proofs.WholeCycles.{cycled_none}
 use Rattle.pc_threads.specs.Clients.{HaveWorked, clients_in, transactions_in}
-use Rattle.pc_threads.specs.Faults.{IsThreadsEnd, PointsHaveStopped, ThreadsHaveStopped}
+use Rattle.pc_threads.specs.Faults.{IsWorkersStop, PointsHaveStopped, ThreadsHaveStopped}
 use Rattle.pc_threads.proofs.PointStopLaws.{points_stop}
-use Rattle.pc_threads.proofs.StopLaws.{left_true, more_end}
+use Rattle.pc_threads.proofs.StopLaws.{workers_end}
 use Rattle.pc_threads.proofs.threads.fn.run_workers.scope.Goals as goal
 
 -- one more is started
@@ -40,19 +40,18 @@ returns-in_err-ran g c =
     let p = err_from_is_err_and c.from_residual-in_err-ran.result c.from_residual-in_err-ran.ensures.1 in
     let there = is_some c.captures.checkpointer.folder in
     let has_log = c.captures.has_log in
-    let fault = c.in_err-ran.field-0.0 in
+    let why = c.in_err-ran.field-0.0.why in
     let rest = c.loop-worker.worker-iterator.rest in
     let none : rest.items ≡ [] = nil_from_length rest.items (sym rest.ok.0 ∙ c.in-None.ensures.steps.0) in
     let promised = map (λ handle. handle.promise.0.value) c.loop-worker.handles.items in
     let all : promised ≡ c.captures.workers.items =
     sym (append-nil promised) ∙ ap (λ (more : List (List Client)). promised ++ more) (sym none) ∙ c.loop-worker.invariant.2 ∙ c.into_iter-worker-iterator.ensures.into_iter_gives.0 in
-    let n = transactions_in (clients_in c.captures.workers.items) in
     rw (p.1, p.2)
     (record {
       left = tt;
       ended = λ fresh.
-          more_end has_log (has_log || there) n n 0 c.captures.points fault (left_true has_log there) (omega arith) (omega arith)
-          (subst (λ (workers : List (List Client)). IsThreadsEnd has_log (transactions_in (clients_in workers)) 0 fault) all (c.in_err-ran.ensures.ended has_log c.loop-worker.invariant.3));
+          workers_end _ _ g.N.StoreName.name.setting has_log there (clients_in c.captures.workers.items) c.captures.points why
+          (subst (λ (workers : List (List Client)). IsWorkersStop has_log (transactions_in (clients_in workers)) why) all (c.in_err-ran.ensures.ended has_log c.loop-worker.invariant.3));
     })
 
 pub returns-in-Ok-take_points : goal.returns-in-Ok-take_points
