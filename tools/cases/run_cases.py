@@ -83,6 +83,9 @@ BAD_LINES = [
 ]
 
 
+LAG = b"before a client waits, 0 to 16777216 [default: 65536]"
+
+
 def usage_cases(folder):
     """Usage faults of a run, and its help."""
     written(folder, "empty.pcw", b"")
@@ -96,7 +99,7 @@ def usage_cases(folder):
     yield Case("the same, after =", ("run", "empty.pcw", "--dir="), 2, err=expected)
     joins = b"How many threads join the points' files, 1 to 64 [default: 2]"
     options = [b"<WORKLOAD>", b"--workers <N>", b"[default: 4]", b"--collapsers <N>", joins, b"--every <COMMITS>", b"--capacity <N>", b"[default: 65536]"]
-    options += [b"--run <N>", b"[default: 1]", b"--from <OLD>", b"--dir <DIR>", b"--lag <N>", b"--sync", b"--quiet", b"--report", b"--times <FILE>", FAULTS]
+    options += [b"--run <N>", b"[default: 1]", b"--from <OLD>", b"--dir <DIR>", b"--lag <N>", LAG, b"--sync", b"--quiet", b"--report", b"--times <FILE>", FAULTS]
     yield Case("run --help", ("run", "--help"), 0, parts=options)
     for option, name, low, high in RANGES:
         for wrong in (low - 1, high + 1):
@@ -183,8 +186,12 @@ def pace_cases(folder):
     written(folder, "four.pcw", FOUR)
     written(folder, "one.pcw", ONE)
     written(folder, "again.pcw", AGAIN)
-    for place, every, early, more in (("spread", 10_000, 1, ()), ("spread18", 18_000, 2, ("--every", "18000", "--workers", "1"))):
-        words = ("run", "again.pcw", "--dir", new_folder(folder, place), *more)
+    # The worker of the last client ends at once: points go on while the others work.
+    written(folder, "idle_client.pcw", AGAIN + b"client 5\n")
+    paces = [("spread", "again.pcw", 10_000, 1, ()), ("spread18", "again.pcw", 18_000, 2, ("--every", "18000", "--workers", "1"))]
+    paces.append(("spread5", "idle_client.pcw", 10_000, 1, ("--workers", "5")))
+    for place, name, every, early, more in paces:
+        words = ("run", name, "--dir", new_folder(folder, place), *more)
         yield Case(f"8 points, each {every} commits after the one before", words, 0, AGAIN_OUT, checks={f"{place}/log.pcl": is_spread(8, every, early)})
     for number, more in enumerate((("--lag", "0"), ("--lag", "1"), ("--sync",), ("--every", "1"), ("--every", "1000000000"), ("--capacity", "4000"))):
         words = ("run", "four.pcw", "--dir", new_folder(folder, f"paced{number}"), *more)
@@ -521,6 +528,12 @@ def late_fault_cases(folder):
         with concurrently(lambda: feed(pipe, ONE, work)):
             expected = {"status": 1, "err": f"pcalc: {name}: Device\n".encode()} if fails else {"status": 0, "out": ONE_OUT}
             yield Case(f"a {what} in the place of {name}", ("run", dir_name + ".pcw", "--dir", dir_name), **expected)
+    # What has the name of a file and isn't a plain one is written to: it takes bytes only when they are flushed.
+    place = os.path.join(folder, "full_part", "part-00001.pcp")
+    os.makedirs(os.path.dirname(place))
+    pipe = piped(folder, "full_part.pcw")
+    with concurrently(lambda: feed(pipe, ONE, lambda: os.symlink(FULL, place))):
+        yield Case("a part whose device is full", ("run", "full_part.pcw", "--dir", "full_part"), 1, err=b"pcalc: full_part.pcw: Device\n")
     written(folder, "long.pcw", LONG)
     words = ("run", "long.pcw", "--dir", new_folder(folder, "long_run"))
     yield Case("a log that can't be written, of a run that would take minutes", words, 1, err=b"pcalc: long.pcw: Device\n", file_size=1 << 20)

@@ -4,7 +4,7 @@ ghost use Rattle.std.specs.Prelude.{◌≤◌};
 use crate::again::again;
 use pc_collapse::{collapse_bag, collapse_rounds, fold};
 use pc_io::Tally;
-use pc_part::Part;
+use pc_part::{Part, join};
 use pc_types::{OpenGate, Refusal};
 use std::alloc::Global;
 use std::sync::Wait;
@@ -58,12 +58,13 @@ const WORKED: [&[u8]; 2] = [
 // By which call parts are joined.
 #[derive(Clone, Copy, Debug)]
 enum Call {
+    Join,
     Fold,
     Rounds,
     Bag,
 }
 
-const CALLS: [Call; 3] = [Call::Fold, Call::Rounds, Call::Bag];
+const CALLS: [Call; 4] = [Call::Join, Call::Fold, Call::Rounds, Call::Bag];
 
 // On how many threads.
 const COLLAPSERS: u8 = 2;
@@ -83,10 +84,23 @@ fn join_by<R: Threads + Wait + Sync>(
     parts: &[Part],
 ) -> Result<Part, Refusal> {
     match call {
+        Call::Join => join_in_turn(alloc, parts),
         Call::Fold => fold(alloc, parts),
         Call::Rounds => collapse_rounds(rt, alloc, parts, COLLAPSERS, &OpenGate),
         Call::Bag => collapse_bag(rt, alloc, parts, COLLAPSERS, &OpenGate),
     }
+}
+
+// The first two are joined, then each further one with that.
+fn join_in_turn(alloc: Global, parts: &[Part]) -> Result<Part, Refusal> {
+    let (Some(first), Some(second)) = (parts.first(), parts.get(1)) else {
+        return Err(Refusal::NoFile);
+    };
+    let mut joined = join(alloc, first, second)?;
+    for part in parts.iter().skip(2) {
+        joined = join(alloc, &joined, part)?;
+    }
+    Ok(joined)
 }
 
 fn has_text(alloc: Global, part: &Part, text: &[u8]) -> Result<bool, Refusal> {

@@ -155,6 +155,26 @@ fn an_older_transaction_is_the_same_at_each_refused_growth(rt: HostRuntime) -> R
     Ok(())
 }
 
+// A younger transaction dies of an older one's lock.
+const YOUNGER_DIES: [(Ask, Told); 8] = [
+    (Ask::Begin(1), Told::Begun(1)),
+    (Ask::Begin(2), Told::Begun(2)),
+    (Ask::Put(1, b"k", b"6"), Told::Ok),
+    (Ask::Get(2, b"k"), Told::Died),
+    (Ask::Get(2, b"k"), Told::Refused(Refusal::MustAbort)),
+    (Ask::Commit(2), Told::Refused(Refusal::MustAbort)),
+    (Ask::Abort(2), Told::Aborted),
+    (Ask::Commit(1), Told::Committed(1)),
+];
+
+#[test]
+fn a_younger_transaction_is_the_same_at_each_refused_growth(rt: HostRuntime) -> Result<(), Fail> {
+    let seed = RandomState::new(&rt)?;
+    let ended = replayed(rt.alloc(), seed, Some((b"k", b"5")), &YOUNGER_DIES, &[])?;
+    assert_eq!(rt; ended, RIGHT);
+    Ok(())
+}
+
 // Commits in resolve, which are of the next point.
 const COMMIT_IN_RESOLVE: [(Ask, Told); 19] = [
     (Ask::StartPoint, Told::Phase(Phase::Prepare, 1)),
