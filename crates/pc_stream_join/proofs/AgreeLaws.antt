@@ -1,4 +1,4 @@
--- Readers whose headers were read and are those of one join had such headers before, if they were known.
+-- Readers whose headers were read and are those of one join, and facts that stay known of readers.
 use Rattle.std.proofs.Common.{◌≡◌, ℕ, ◌≤◌, eqb, not, ◌||◌, cond, Bool, true, false, List, [], ◌∷◌, length, map, Option, Some, None, Result, Ok, refl, sym, ap, ◌∙◌, arith}
 use Rattle.std.specs.List.{All, list_any}
 use Rattle.std.proofs.lemmas.Bool.Decides.{nat_tests}
@@ -9,7 +9,7 @@ use Rattle.pc_types.specs.declared.Refusal.TheVariants.{OtherRun}
 use Rattle.pc_part.specs.declared.ranges.Range.{Range}
 use Rattle.pc_streams.specs.declared.reader.PartReader.{PartReader}
 use Rattle.pc_streams.specs.Readers.{StaysKnown, coming_of, header_of}
-use Rattle.pc_stream_join.specs.Headers.{AreHeaded, HaveOneHeader, StayKnown, all_headers, headers_fault, runs_fault}
+use Rattle.pc_stream_join.specs.Headers.{AreHeaded, StayKnown, all_headers, headers_fault, runs_fault}
 
 pub cons_is : {X : Type 0} (x y : X) (xs ys : List X) → x ∷ xs ≡ y ∷ ys → (x ≡ y) × (xs ≡ ys)
 cons_is x y xs ys is = (cc, cc)
@@ -86,9 +86,5 @@ runs_agree run (h ∷ hs) some all = ap (λ (t : Bool). cond t other_run None) (
 
 module _ {R : Type 0} (remaining : R → Option (List ℕ)) (run : ℕ) (ranges : List Range) (inputs : List (PartReader R)) (headed : AreHeaded remaining run ranges inputs) where
   -- the headers of all are those of one join
-  pub one_header : HaveOneHeader (map (header_of remaining) inputs)
+  pub one_header : (headers : List Header) → map (header_of remaining) inputs ≡ map Some headers → headers_fault (all_headers headers) ≡ None
   one_header headers known = ap headers_fault (headers_read headers headed.headers (sym known ∙ headed.read)) ∙ runs_agree run headed.headers headed.of_all.some headed.of_all.one_run
-
-  -- and so they were before they were read
-  pub one_header_before : (was : List (PartReader R)) → StayKnown remaining was inputs → HaveOneHeader (map (header_of remaining) was)
-  one_header_before was stay headers known = one_header headers (stay_known (header_of remaining) (λ (h : Header). h) was inputs headers (headers_stay remaining was inputs stay) known)

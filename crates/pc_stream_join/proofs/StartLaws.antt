@@ -17,7 +17,7 @@ use Rattle.pc_merge.specs.Merging.{AreAbove, Merging}
 use Rattle.pc_merge.specs.Standings.{AllStand, AreWithin}
 use Rattle.pc_streams.specs.declared.reader.PartReader.{PartReader}
 use Rattle.pc_streams.specs.Readers.{StaysKnown, coming_of, reads_within, standing_of}
-use Rattle.pc_stream_join.specs.Headers.{StayKnown}
+use Rattle.pc_stream_join.specs.Headers.{AreHeaded, StayKnown, WereHeaded}
 use Rattle.pc_stream_join.specs.Joining.{IsJoinRefusal, IsJoinWritten, IsUnjoinedFor, JoinStands, LeavesShort}
 use Rattle.pc_stream_join.specs.Steps.{Begun, IsJoining, JoinEnds}
 use Rattle.pc_stream_join.specs.Writing.{Writing, part_header_text}
@@ -76,6 +76,9 @@ module _ {R W : Type 0} (remaining : R → Option (List ℕ)) (contents : W → 
     ends_stand (Err why) ends = ends.stand
 
 module _ {R : Type 0} (remaining : R → Option (List ℕ)) where
+  pub were_headed : (inputs read : List (PartReader R)) (run : ℕ) (ranges : List Range) → StayKnown remaining inputs read → AreHeaded remaining run ranges read → WereHeaded remaining inputs
+  were_headed inputs read run ranges stays headed = record { run = run; ranges = ranges; read = read; stays = stays; headed = headed }
+
   one_known : (was now : Option Coming) (coming : Coming) → was ≡ Some coming → StaysKnown was now → now ≡ Some coming
   one_known None now coming is stays = absurd cc
   one_known (Some first) now coming is stays = stays ∙ is

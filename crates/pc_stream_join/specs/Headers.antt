@@ -49,10 +49,6 @@ abbrev pub IsHeadersFault : List (Option (Result (ℕ × List Range) Refusal)) �
 IsHeadersFault known why =
     (why ≡ OutOfMemory) ⊎ (why ≡ Device) ⊎ ((headers : List (Result (ℕ × List Range) Refusal)) → known ≡ map Some headers → headers_fault (all_headers headers) ≡ Some why)
 
--- the headers of all are those of one join, if they are known
-abbrev pub HaveOneHeader : List (Option (Result (ℕ × List Range) Refusal)) → Type 0
-HaveOneHeader known = (headers : List (Result (ℕ × List Range) Refusal)) → known ≡ map Some headers → headers_fault (all_headers headers) ≡ None
-
 -- the headers of all were read, and two are of different runs
 abbrev pub HaveTwoRuns : {R : Type 0} → (R → Option (List ℕ)) → List (PartReader R) → Type 0
 HaveTwoRuns remaining inputs =
@@ -108,6 +104,18 @@ StayKnown remaining [] [] = ⊤
 StayKnown remaining (was ∷ inputs) (now ∷ inputs_now) =
     StaysKnown (header_of remaining was) (header_of remaining now) × StaysKnown (coming_of remaining was) (coming_of remaining now) × StayKnown remaining inputs inputs_now
 StayKnown remaining inputs inputs_now = ⊥
+
+-- The headers of all were read, and they are those of one join, of this run and of these ranges.
+pub record WereHeaded {R : Type 0} (remaining : R → Option (List ℕ)) (inputs : List (PartReader R)) : Type 0 where
+  pub run : ℕ
+  pub ranges : List Range
+  pub read : List (PartReader R)
+  pub stays : StayKnown remaining inputs read
+  pub headed : AreHeaded remaining run ranges read
+
+-- if the headers of all were read, and two are of different runs, this is what is refused
+abbrev pub NamesOtherRun : {R : Type 0} → (R → Option (List ℕ)) → List (PartReader R) → List (PartReader R) → Refusal → Type 0
+NamesOtherRun remaining was now why = (runs : List ℕ) → AreReadTo remaining (length was) was now runs → runs_fault runs ≡ Some OtherRun → why ≡ OtherRun
 
 -- the points of the ranges that each has read
 abbrev pub points_read : {R : Type 0} → List (PartReader R) → Set number_order

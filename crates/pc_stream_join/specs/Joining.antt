@@ -23,7 +23,7 @@ use Rattle.pc_merge.specs.Standings.{AllStand, HasFailed}
 use Rattle.pc_streams.specs.declared.reader.PartReader.{PartReader}
 use Rattle.pc_streams.specs.Readers.{coming_of, header_of}
 use Rattle.pc_streams.specs.Refusals.{IsReadRefusal}
-use Rattle.pc_stream_join.specs.Headers.{AreHeaded, HaveOneHeader, IsHeadersFault, IsHeadersRefusal, StayKnown}
+use Rattle.pc_stream_join.specs.Headers.{IsHeadersFault, IsHeadersRefusal, NamesOtherRun, WereHeaded}
 use Rattle.pc_stream_join.specs.declared.join.Joined.{Joined}
 
 -- the file of a run, ranges and entries
@@ -68,16 +68,13 @@ JoinStands {X} was now failures failures_now (Err why) =
 
 -- The join of the inputs was written, with this result: its points and the number of its entries.
 pub record IsStreamJoined {R W : Type 0} (remaining : R → Option (List ℕ)) (contents : W → Option (List ℕ)) (inputs : List (PartReader R)) (old new : Tally W) (joined : Joined) : Type 0 where
-  pub run : ℕ
-  pub ranges : List Range
-  pub read : List (PartReader R)
-  pub stays : StayKnown remaining inputs read
-  pub headed : AreHeaded remaining run ranges read
-  pub written : IsJoinWritten remaining contents run ranges read old new joined.entries
-  pub points : joined.points ≡ set.items (file_of_entries run ranges written.given).points
+  pub header : WereHeaded remaining inputs
+  pub written : IsJoinWritten remaining contents header.run header.ranges header.read old new joined.entries
+  pub points : joined.points ≡ set.items (file_of_entries header.run header.ranges written.given).points
 
--- Why no join is written: the inputs have no header together, and the output is unchanged; or they have one, and their further
--- entries can't be joined.
+-- Why no join is written: the inputs have no header together, or it couldn't be read, and the output is unchanged; or they have
+-- one, and their further entries can't be joined.
 abbrev pub IsStreamCause : {R W : Type 0} → (R → Option (List ℕ)) → List (PartReader R) → List (PartReader R) → Tally W → Tally W → Refusal → Type 0
 IsStreamCause remaining inputs inputs_now old new why =
-    (IsHeadersFault (map (header_of remaining) inputs) why × IsHeadersRefusal remaining inputs inputs_now why × (new ≡ old)) ⊎ (HaveOneHeader (map (header_of remaining) inputs) × IsUnjoinedFor remaining inputs why × IsJoinRefusal why)
+    (IsHeadersFault (map (header_of remaining) inputs) why × IsHeadersRefusal remaining inputs inputs_now why × NamesOtherRun remaining inputs inputs_now why × (new ≡ old))
+    ⊎ (WereHeaded remaining inputs × IsUnjoinedFor remaining inputs why × IsJoinRefusal why)

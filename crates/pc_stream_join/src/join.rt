@@ -95,7 +95,7 @@ fn write_next<R: Read, W: Write>(
 
 /// Reads the headers of the inputs, as `read_headers` does, and writes the text of their join, as `join_entries` does; returns its
 /// points and the number of its entries. Its errors are those of `read_headers`, and then the output is unchanged; or, if the
-/// headers agree, those of `join_entries`.
+/// headers were read and agree, those of `join_entries`.
 pub fn stream_join<R: Read, W: Write>(
     alloc: Global,
     inputs: &mut [PartReader<R>],
