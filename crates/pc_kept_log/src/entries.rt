@@ -96,7 +96,7 @@ impl Log {
 
     /// Adds the entry at the end, for which it makes room: of a commit of a session from 1 to 64, with at most 256 writes, no two of
     /// which have one key, or a token. Answers its number: the first entry has number 1. Refuses with `LogFull` if and only if there
-    /// are 16,777,216 entries, and otherwise only with `OutOfMemory`; the entries are then as they were.
+    /// are 16,777,216 entries, and otherwise only with `OutOfMemory`, never if there is room for it; the entries are then as they were.
     pub fn append(&mut self, entry: &Entry) -> Result<Lsn, Refusal>
         requires few { HasFewWrites entry.now }
         requires fit { IsFitEntry entry.now }
@@ -104,6 +104,7 @@ impl Log {
         ensures number { IfOk result (λ number. number ≡ length (entries_of self.new)) }
         ensures full { length (entries_of self.old) ≡ MOST_LOG_ENTRIES → result ≡ Err Refusal.LogFull }
         ensures refusal { IfErr result (λ e. e ≡ (if length (entries_of self.old) == MOST_LOG_ENTRIES then Refusal.LogFull else Refusal.OutOfMemory)) }
+        ensures needed { result ≡ Err Refusal.OutOfMemory → ¬ HasRoomForEntry self.old (length (entry_text entry.now)) }
         ensures err { OnErr result (entries_of self.new ≡ entries_of self.old) }
     {
         if self.is_full() {
