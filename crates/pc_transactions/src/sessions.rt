@@ -147,8 +147,9 @@ impl Sessions {
         self.records.is_waiting(transaction)
     }
 
-    /// Whether a request of the session's open transaction waits; false if it has none open.
+    /// Whether a request of the session's open transaction waits; false if it has none open. Sessions are numbered from 1.
     pub fn has_waiting(&self, session: SessionNo) -> bool
+        requires { 1 ≤ session }
         ensures { result ≡ waits_in self.now.kept.rows (own_transaction self.now session) }
     {
         match self.active(session) {
@@ -157,8 +158,9 @@ impl Sessions {
         }
     }
 
-    /// Whether the session has an open transaction.
+    /// Whether the session, numbered from 1, has an open transaction.
     pub fn has_open(&self, session: SessionNo) -> bool
+        requires { 1 ≤ session }
         ensures { result ≡ is_some (own_transaction self.now session) }
     {
         match self.active(session) {
@@ -167,8 +169,9 @@ impl Sessions {
         }
     }
 
-    /// Whether the session's open transaction has written the key; false if it has none open.
+    /// Whether the open transaction of the session, numbered from 1, has written the key; false if it has none open.
     pub fn has_written(&self, session: SessionNo, key: &Key) -> bool
+        requires { 1 ≤ session }
         ensures { result ≡ is_some (written (writes_in (own_transaction self.now session)) key.now) }
     {
         match self.lanes.get(place(session)) {
