@@ -8,6 +8,7 @@ use Rattle.pc_jobs.specs.Workloads.{reading_of}
 use Rattle.pc_jobs.specs.declared.works.Workload.{Workload}
 use Rattle.pc_jobs.specs.declared.workloads.WorkloadReading.{WorkloadReading}
 use Rattle.pc_jobs.specs.declared.workloads.WorkloadReading.TheVariants as reading
+use Rattle.pc_texts.specs.declared.file_names.FileName.{FileName}
 use Rattle.pc_threads.specs.declared.fault.ThreadsFault.{ThreadsFault}
 use Rattle.pc_runs.specs.declared.failure.RunFailure.{RunFailure}
 use Rattle.pc_runs.specs.declared.failure.RunFailure.TheVariants as failure
@@ -29,15 +30,15 @@ read_as remaining (Ok reader) bytes text some worth script same reads is =
     if_some (remaining reader) (λ (held : List ℕ). bytes ≡ held) (λ (held : List ℕ). reading_of held ≡ worth)
     (λ held has. (λ k. reading_of (sym (same ∙ has) k)) ∙ (sym reads ∙ is)) script
 
-module _ {R S F D : Type 0} (remaining : R → Option (List ℕ)) (folder : Option (RunFolder D)) (begins : Beginning R S F → Type 0) where
+module _ {R S F D : Type 0} (refuses : FileName → Refusal → Type 0) (remaining : R → Option (List ℕ)) (folder : Option (RunFolder D)) (begins : Beginning R S F → Type 0) where
   -- the run has begun, and failed
   pub run_failed : (opened : Result R Refusal) (workload : Workload) (why : ThreadsFault F) (st : Setting) → IsOk opened → IsWorkloadReadAs remaining opened (reading.Runs workload) → IsUsable folder → begins (Begun st)
-      → EndsRun st workload (is_some folder) why → IsRunUnanswered remaining opened folder begins (failure.Run why)
+      → EndsRun refuses st workload (is_some folder) why → IsRunUnanswered refuses remaining opened folder begins (failure.Run why)
   run_failed opened workload why st there read usable begun ends = (there, usable, (workload, read, (st, begun, ends)))
 
   -- it has nothing to start from
   pub not_started : {T : Type 0} (theirs : S → Option (List ℕ)) (contents : T → Option (List ℕ)) (opened : Result R Refusal) (first : Start S) (old new : Tally T) (why : RunFailure R S F) → CanRun remaining opened → IsUsable folder
-      → IsUnstarted theirs contents first old new why → begins (Unstarted why) → IsRunUnanswered remaining opened folder begins why
+      → IsUnstarted theirs contents first old new why → begins (Unstarted why) → IsRunUnanswered refuses remaining opened folder begins why
   not_started theirs contents opened (start.Folder old_run) old new (failure.Start name lost) can usable is begun = (can, usable, begun)
   not_started theirs contents opened (start.Folder old_run) old new (failure.Unread why) can usable is begun = absurd is
   not_started theirs contents opened (start.Folder old_run) old new (failure.Run why) can usable is begun = absurd is

@@ -19,7 +19,7 @@ use Rattle.pc_texts.proofs.StatePairLaws.{pairs_of}
 use Rattle.pc_outcomes.specs.Leaving.{IsUntoldAfter, has_point}
 use Rattle.pc_shared.specs.Sitters.{Sitter, HasAll, IsEndOf}
 use Rattle.pc_threads.specs.Clients.{HaveWorked, IsFresh, clients_in, jobs_of, transactions_in}
-use Rattle.pc_threads.specs.Faults.{IsFileLost, IsThreadsEnd, lost_file_fault}
+use Rattle.pc_threads.specs.Faults.{IsFileLost, IsThreadsEnd, MayRefuse, lost_file_fault}
 use Rattle.pc_threads.proofs.StopLaws.{some_failed}
 use Rattle.pc_threads.specs.Files.{HasWritten}
 use Rattle.pc_threads.specs.declared.fault.ThreadsFault.{ThreadsFault}
@@ -50,38 +50,39 @@ log_there holds contents blank base (Some folder) (Some log) begun = refl
 log_there holds contents blank base None (Some log) begun = absurd begun
 log_there holds contents blank base (Some folder) None begun = absurd begun
 
--- a file that was lost for a reason of its folder was lost
-pub lost_for_any : {T : Type 0} (refuses : FileName → Refusal → Type 0) (name : FileName) (failures : ℕ) (given : FileFault T) → IsFileLost refuses name failures given → IsFileLost (λ file why. ⊤) name failures given
-lost_for_any refuses name failures (lost.Unmade file why) is = (is.0, tt)
-lost_for_any refuses name failures (lost.Failed file) is = is
+-- a file that was lost for a reason of its folder was lost for one of such a folder
+pub lost_for_one : {D T : Type 0} (refuses : D → FileName → Refusal → Type 0) (folder : D) (name : FileName) (failures : ℕ) (given : FileFault T) → IsFileLost (refuses folder) name failures given → IsFileLost (MayRefuse refuses) name failures given
+lost_for_one refuses folder name failures (lost.Unmade file why) is = (is.0, (folder, is.1))
+lost_for_one refuses folder name failures (lost.Failed file) is = is
 
-pub begin_lost_for_any : {T : Type 0} (refuses : FileName → Refusal → Type 0) (given : FileFault T) → IsBeginLost refuses given → IsBeginLost (λ file why. ⊤) given
-begin_lost_for_any refuses given (inl is) = inl (lost_for_any refuses Base 0 given is)
-begin_lost_for_any refuses given (inr (why, is, refused)) = inr (why, is, tt)
+pub begin_lost_for_one : {D T : Type 0} (refuses : D → FileName → Refusal → Type 0) (folder : D) (given : FileFault T) → IsBeginLost (refuses folder) given → IsBeginLost (MayRefuse refuses) given
+begin_lost_for_one refuses folder given (inl is) = inl (lost_for_one refuses folder Base 0 given is)
+begin_lost_for_one refuses folder given (inr (why, is, refused)) = inr (why, is, (folder, refused))
 
--- a lost file of which a call failed has counted that
-abbrev HasCounted : {T : Type 0} → FileFault T → Type 0
-HasCounted (lost.Unmade file why) = ⊤
-HasCounted (lost.Failed file) = 1 ≤ file.failures
+module _ (refuses : FileName → Refusal → Type 0) where
+  -- a lost file of a run was refused for such a reason, or has counted a failed call
+  abbrev pub IsLost : {T : Type 0} → FileFault T → Type 0
+  IsLost (lost.Unmade file why) = refuses file why
+  IsLost (lost.Failed file) = 1 ≤ file.failures
 
-file_counted : {T : Type 0} (refuses : FileName → Refusal → Type 0) (name : FileName) (failures : ℕ) (given : FileFault T) → IsFileLost refuses name failures given → HasCounted given
-file_counted refuses name failures (lost.Unmade file why) is = tt
-file_counted refuses name failures (lost.Failed file) risen = some_failed failures file.failures risen
+  file_lost : {T : Type 0} (name : FileName) (failures : ℕ) (given : FileFault T) → IsFileLost refuses name failures given → IsLost given
+  file_lost name failures (lost.Unmade file why) is = subst (λ (other : FileName). refuses other why) (sym is.0) is.1
+  file_lost name failures (lost.Failed file) risen = some_failed failures file.failures risen
 
-pub begin_counted : {T : Type 0} (refuses : FileName → Refusal → Type 0) (given : FileFault T) → IsBeginLost refuses given → HasCounted given
-begin_counted refuses given (inl is) = file_counted refuses Base 0 given is
-begin_counted refuses given (inr (why, is, refused)) = subst HasCounted (sym is) tt
+  pub begin_lost : {T : Type 0} (given : FileFault T) → IsBeginLost refuses given → IsLost given
+  begin_lost given (inl is) = file_lost Base 0 given is
+  begin_lost {T} given (inr (why, is, refused)) = subst (IsLost {T = T}) (sym is) refused
 
-pub log_counted : {D T : Type 0} (folder : Option D) (log : Option (Tally T)) (given : FileFault T) → IsLogLost folder log given → HasCounted given
-log_counted (Some folder) (Some log) given is = file_counted (λ file why. ⊤) Log log.failures given is
-log_counted (Some folder) None given is = absurd is
-log_counted None log given is = absurd is
+  pub log_lost : {D T : Type 0} (folder : Option D) (log : Option (Tally T)) (given : FileFault T) → IsLogLost refuses folder log given → IsLost given
+  log_lost (Some folder) (Some log) given is = file_lost Log log.failures given is
+  log_lost (Some folder) None given is = absurd is
+  log_lost None log given is = absurd is
 
--- there is a folder if its log is lost
-pub log_lost_there : {D T : Type 0} (folder : Option D) (log : Option (Tally T)) (given : FileFault T) → IsLogLost folder log given → IsTrue (is_some folder)
-log_lost_there (Some folder) (Some log) given is = refl
-log_lost_there (Some folder) None given is = absurd is
-log_lost_there None log given is = absurd is
+  -- there is a folder if its log is lost
+  pub log_lost_there : {D T : Type 0} (folder : Option D) (log : Option (Tally T)) (given : FileFault T) → IsLogLost refuses folder log given → IsTrue (is_some folder)
+  log_lost_there (Some folder) (Some log) given is = refl
+  log_lost_there (Some folder) None given is = absurd is
+  log_lost_there None log given is = absurd is
 
 -- the folder is left if there was one
 pub folder_there : {D : Type 0} (holds : D → FileName → List ℕ → Type 0) (points : ℕ) (first later : Option D) (files : List File) → HasWritten holds points first later files → is_some later ≡ is_some first
@@ -98,32 +99,33 @@ one_there false true c false x y z is = cc (y)
 one_there false false true false x y z is = cc (z)
 one_there false false false false x y z is = cc (is)
 
-module _ (st : Setting) (workload : Workload) (there : Bool) where
+module _ (refuses : FileName → Refusal → Type 0) (st : Setting) (workload : Workload) (there : Bool) where
   -- a fault of the threads
-  of_threads : {T : Type 0} (writes : Bool) (count : ℕ) (given : ThreadsFault T) → (IsTrue writes → IsTrue there) → count ≡ transactions_in workload.clients → IsThreadsEnd writes count workload.points given → EndsRun st workload there given
+  of_threads : {T : Type 0} (writes : Bool) (count : ℕ) (given : ThreadsFault T) → (IsTrue writes → IsTrue there) → count ≡ transactions_in workload.clients → IsThreadsEnd refuses writes count workload.points given → EndsRun refuses st workload there given
   of_threads writes count (fault.Refused why.OutOfMemory) on same end = tt
   of_threads writes count (fault.Refused why.Full) on same many = inr (omega (arith, same, many))
   of_threads writes count (fault.Refused why.PointsFull) on same end = end
   of_threads writes count (fault.Refused other) on same end = absurd end
-  of_threads writes count (fault.Unmade file why) on same end = on end
+  of_threads writes count (fault.Unmade file why) on same end = (on end.0, end.1)
   of_threads writes count (fault.Failed file) on same end = (on end.0, end.1)
   of_threads writes count fault.NoThread on same end = tt
 
   -- a stop of the threads over its store; if the log has no place left, all sessions of the store were compared
   pub of_stop : {N T : Type 0} (writes : Bool) (idle : List Sitter) (clients : List Client) (given : ThreadsStop N T) (why : ThreadsFault T) → (IsTrue writes → IsTrue there) → transactions_in clients ≡ transactions_in workload.clients → All IsFresh idle
-      → ((given_up : ℕ) (ran : List Sitter) → HaveWorked st clients given_up ran → HasAll st.sessions (idle ++ ran)) → IsFaultOfStop st given why → StoreHasStopped st writes idle clients workload.points given → EndsRun st workload there why
+      → ((given_up : ℕ) (ran : List Sitter) → HaveWorked st clients given_up ran → HasAll st.sessions (idle ++ ran)) → IsFaultOfStop st given why → StoreHasStopped refuses st writes idle clients workload.points given → EndsRun refuses st workload there why
   of_stop writes idle clients (stop.LogFull full all) why on same fresh back (is, (history, end)) (has, (ran, sessions, have)) =
       let whole : IsEndOf st (idle ++ ran) full.seat full.seen history = subst (λ (ss : List Sitter). IsEndOf st ss full.seat full.seen history) sessions end in
       let fills = fills_log st workload.points full clients all.given_up idle ran history has whole have fresh (back all.given_up ran have) in
-      subst (EndsRun st workload there) (sym is) (omega (arith, fills, same))
-  of_stop writes idle clients stop.LogEnded why on same fresh back is ended = subst (EndsRun st workload there) (sym is) tt
-  of_stop writes idle clients (stop.Other given) why on same fresh back is end = subst (EndsRun st workload there) (sym is) (of_threads writes (transactions_in clients) given on same end)
+      subst (EndsRun refuses st workload there) (sym is) (omega (arith, fills, same))
+  of_stop writes idle clients stop.LogEnded why on same fresh back is ended = subst (EndsRun refuses st workload there) (sym is) tt
+  of_stop writes idle clients (stop.Other given) why on same fresh back is end = subst (EndsRun refuses st workload there) (sym is) (of_threads writes (transactions_in clients) given on same end)
 
   -- one of a file of the folder
-  pub lost_ends : {T : Type 0} (given : FileFault T) → IsTrue there → HasCounted given → EndsRun st workload there (lost_file_fault given)
-  lost_ends (lost.Unmade file why) is counted = is
+  pub lost_ends : {T : Type 0} (given : FileFault T) → IsTrue there → IsLost refuses given → EndsRun refuses st workload there (lost_file_fault given)
+  lost_ends (lost.Unmade file why) is refused = (is, refused)
   lost_ends (lost.Failed file) is counted = (is, counted)
 
+module _ (st : Setting) (workload : Workload) where
   -- a store that can't be opened
   pub not_opened : (given : Refusal) → ((given ≡ why.Full) × (st.capacity < len st.base)) ⊎ (given ≡ why.OutOfMemory) → IsRunRefused st workload given
   not_opened given (inl (full, few)) = subst (IsRunRefused st workload) (sym full) (inl few)

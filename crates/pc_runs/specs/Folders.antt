@@ -46,9 +46,9 @@ abbrev pub IsBeginLost : {T : Type 0} → (FileName → Refusal → Type 0) → 
 IsBeginLost refuses lost = IsFileLost refuses Base 0 lost ⊎ ((why : Refusal) × (lost ≡ Unmade Log why) × refuses Log why)
 
 -- there is a folder, and the log's file was lost, of which as many calls had failed as the tally says
-abbrev pub IsLogLost : {D T : Type 0} → Option D → Option (Tally T) → FileFault T → Type 0
-IsLogLost (Some folder) (Some log) lost = IsFileLost (λ file why. ⊤) Log log.failures lost
-IsLogLost folder log lost = ⊥
+abbrev pub IsLogLost : {D T : Type 0} → (FileName → Refusal → Type 0) → Option D → Option (Tally T) → FileFault T → Type 0
+IsLogLost refuses (Some folder) (Some log) lost = IsFileLost refuses Log log.failures lost
+IsLogLost refuses folder log lost = ⊥
 
 -- After the text that was written to the log's file the rest was, and the file is whole; the other files stay.
 abbrev pub HasFinished : {D T : Type 0} → (D → FileName → List ℕ → Type 0) → (T → Option (List ℕ)) → Option (List ℕ) → List ℕ → Option D → Option (Tally T) → Option D → Type 0

@@ -101,10 +101,10 @@ abbrev pub CanRun : {R : Type 0} → (R → Option (List ℕ)) → Result R Refu
 CanRun remaining opened = IsOk opened × ((workload : Workload) × IsWorkloadReadAs remaining opened (reading.Runs workload))
 
 -- The workload of the file was run, if the folder is usable, over a store with which the run has begun; and this fault has ended it.
-abbrev pub RunHasFailed : {R S F D : Type 0} → (R → Option (List ℕ)) → Result R Refusal → Option (RunFolder D) → (Beginning R S F → Type 0) → ThreadsFault F → Type 0
-RunHasFailed remaining opened folder begins why = IsOk opened × IsUsable folder
+abbrev pub RunHasFailed : {R S F D : Type 0} → (FileName → Refusal → Type 0) → (R → Option (List ℕ)) → Result R Refusal → Option (RunFolder D) → (Beginning R S F → Type 0) → ThreadsFault F → Type 0
+RunHasFailed refuses remaining opened folder begins why = IsOk opened × IsUsable folder
     × ((workload : Workload) × IsWorkloadReadAs remaining opened (reading.Runs workload)
-    × ((st : Setting) × begins (Begun st) × EndsRun st workload (is_some folder) why))
+    × ((st : Setting) × begins (Begun st) × EndsRun refuses st workload (is_some folder) why))
 
 -- This is the output of the workload of the file, and the folder that is left: of a bad line, before anything is begun; otherwise
 -- the workload was run, of a setting with which it has begun, and only if the folder is usable.
@@ -123,19 +123,19 @@ IsOutputWritten remaining holds contents opened folder begins old new left statu
 -- Why nothing is printed: if the file wasn't opened, the reason for that; if it was, that it couldn't be read, or that an
 -- allocation failed; if its workload can be run, and the folder can't be used, the reason for this; if it can be used, and there is
 -- nothing to start from, that; and otherwise the fault that has ended the run.
-abbrev pub IsRunUnanswered : {R S F D : Type 0} → (R → Option (List ℕ)) → Result R Refusal → Option (RunFolder D) → (Beginning R S F → Type 0) → RunFailure R S F → Type 0
-IsRunUnanswered remaining opened folder begins (failure.Unread why) = IsUnread opened why × begins NotBegun
-IsRunUnanswered remaining opened folder begins (failure.Run why) = RunHasFailed remaining opened folder begins why
-IsRunUnanswered {R} {S} {F} remaining opened folder begins (failure.Folder name why) = CanRun remaining opened × IsUnusable {R = R} {S = S} {F = F} folder (failure.Folder name why) × begins NotBegun
-IsRunUnanswered remaining opened folder begins (failure.Start name why) = CanRun remaining opened × IsUsable folder × begins (Unstarted (failure.Start name why))
-IsRunUnanswered remaining opened folder begins failure.Output = ⊥
+abbrev pub IsRunUnanswered : {R S F D : Type 0} → (FileName → Refusal → Type 0) → (R → Option (List ℕ)) → Result R Refusal → Option (RunFolder D) → (Beginning R S F → Type 0) → RunFailure R S F → Type 0
+IsRunUnanswered refuses remaining opened folder begins (failure.Unread why) = IsUnread opened why × begins NotBegun
+IsRunUnanswered refuses remaining opened folder begins (failure.Run why) = RunHasFailed refuses remaining opened folder begins why
+IsRunUnanswered {R} {S} {F} refuses remaining opened folder begins (failure.Folder name why) = CanRun remaining opened × IsUnusable {R = R} {S = S} {F = F} folder (failure.Folder name why) × begins NotBegun
+IsRunUnanswered refuses remaining opened folder begins (failure.Start name why) = CanRun remaining opened × IsUsable folder × begins (Unstarted (failure.Start name why))
+IsRunUnanswered refuses remaining opened folder begins failure.Output = ⊥
 
 -- Why not all was printed: the output failed, which was counted, and a beginning of it went out; or there is nothing to print.
-abbrev pub IsCauseOfUnprinted : {R S F D T : Type 0} → (R → Option (List ℕ)) → (D → FileName → List ℕ → Type 0) → (T → Option (List ℕ)) → Result R Refusal → Option (RunFolder D) → (Beginning R S F → Type 0) → Tally T → Tally T
+abbrev pub IsCauseOfUnprinted : {R S F D T : Type 0} → (FileName → Refusal → Type 0) → (R → Option (List ℕ)) → (D → FileName → List ℕ → Type 0) → (T → Option (List ℕ)) → Result R Refusal → Option (RunFolder D) → (Beginning R S F → Type 0) → Tally T → Tally T
     → RunFailure R S F → Type 0
-IsCauseOfUnprinted {R} {S} {F} {D} remaining holds contents opened folder begins old new failure.Output = HasRisen (failures_of old) (failures_of new)
+IsCauseOfUnprinted {R} {S} {F} {D} refuses remaining holds contents opened folder begins old new failure.Output = HasRisen (failures_of old) (failures_of new)
     × ((left : Option D) × (some : Printed) × IsAnswer remaining holds opened folder begins left some × AppendsBeginning (contents (inner_of old)) (contents (inner_of new)) (printed_text some))
-IsCauseOfUnprinted remaining holds contents opened folder begins old new other = (new ≡ old) × IsRunUnanswered remaining opened folder begins other
+IsCauseOfUnprinted refuses remaining holds contents opened folder begins old new other = (new ≡ old) × IsRunUnanswered refuses remaining opened folder begins other
 
 -- the report of a failure, if the workload has this name; nothing if the output failed
 abbrev pub IsRunTold : {R S F T : Type 0} → (T → Option (List ℕ)) → Tally T → Tally T → List ℕ → RunFailure R S F → Type 0

@@ -24,7 +24,7 @@ use Rattle.pc_threads.specs.Clients.{HasDone, ClientHasStopped, HaveStopped, Hav
 use Rattle.pc_threads.specs.declared.files.FileFault.{FileFault}
 use Rattle.pc_threads.specs.declared.files.FileFault.TheVariants as lost
 use Rattle.pc_threads.specs.declared.threads.LogFault.{LogFault}
-use Rattle.pc_threads.specs.Faults.{IsFileLost, IsThreadsEnd, IsStop, IsWorkersStop, LogHasStopped, ThreadsHaveStopped, lost_file_fault, lost_log_fault, stop_of_workers}
+use Rattle.pc_threads.specs.Faults.{IsFileLost, IsThreadsEnd, IsStop, IsWorkersStop, LogHasStopped, MayRefuse, ThreadsHaveStopped, lost_file_fault, lost_log_fault, stop_of_workers}
 use Rattle.pc_threads.specs.declared.stop.ThreadsStop.{ThreadsStop}
 use Rattle.pc_threads.specs.declared.stop.ThreadsStop.TheVariants as stop
 
@@ -118,11 +118,11 @@ pub wider_workers : (has_log : Bool) (m n : ℕ) (given : Refusal) → m ≤ n �
 wider_workers has_log m n given low (inl device) = inl device
 wider_workers has_log m n given low (inr stop) = inr (wider_stop m n 0 0 given low (omega arith) stop)
 
-pub more_end : {T : Type 0} (a b : Bool) (m n p q : ℕ) (given : ThreadsFault T) → (IsTrue a → IsTrue b) → m ≤ n → p ≤ q → IsThreadsEnd a m p given → IsThreadsEnd b n q given
-more_end a b m n p q (fault.Refused why) on low few end = wider_stop m n p q why low few end
-more_end a b m n p q (fault.Unmade file why) on low few end = on end
-more_end a b m n p q (fault.Failed file) on low few end = (on end.0, end.1)
-more_end a b m n p q fault.NoThread on low few end = tt
+pub more_end : {T : Type 0} (refuses : FileName → Refusal → Type 0) (a b : Bool) (m n p q : ℕ) (given : ThreadsFault T) → (IsTrue a → IsTrue b) → m ≤ n → p ≤ q → IsThreadsEnd refuses a m p given → IsThreadsEnd refuses b n q given
+more_end refuses a b m n p q (fault.Refused why) on low few end = wider_stop m n p q why low few end
+more_end refuses a b m n p q (fault.Unmade file why) on low few end = (on end.0, end.1)
+more_end refuses a b m n p q (fault.Failed file) on low few end = (on end.0, end.1)
+more_end refuses a b m n p q fault.NoThread on low few end = tt
 
 module _ (transactions points : ℕ) where
   pub memory_stops : (given : Refusal) → given ≡ OutOfMemory → IsStop transactions points given
@@ -133,9 +133,9 @@ pub some_failed : (old new : ℕ) → HasRisen old new → 1 ≤ new
 some_failed old new risen = omega (arith, risen)
 
 -- a file that was lost ends it
-pub lost_ends : {T : Type 0} (refuses : FileName → Refusal → Type 0) (name : FileName) (failures : ℕ) (given : FileFault T) → IsFileLost refuses name failures given → IsThreadsEnd true 0 0 (lost_file_fault given)
-lost_ends refuses name failures (lost.Unmade file why) is = refl
-lost_ends refuses name failures (lost.Failed file) risen = (refl, some_failed failures file.failures risen)
+pub lost_ends : {D T : Type 0} (refuses : D → FileName → Refusal → Type 0) (folder : D) (name : FileName) (failures : ℕ) (given : FileFault T) → IsFileLost (refuses folder) name failures given → IsThreadsEnd (MayRefuse refuses) true 0 0 (lost_file_fault given)
+lost_ends refuses folder name failures (lost.Unmade file why) is = (refl, (folder, subst (λ (other : FileName). refuses folder other why) (sym is.0) is.1))
+lost_ends refuses folder name failures (lost.Failed file) risen = (refl, some_failed failures file.failures risen)
 
 -- why clients stop
 pub stopped_ends : (has_log : Bool) (clients : List Client) (given : Refusal) → HaveStopped has_log clients given → IsWorkersStop has_log (transactions_in clients) given
@@ -171,22 +171,22 @@ right_true false b is = is
 -- ---- why the other threads stop
 
 -- a fault that stops some of the threads stops the run
-pub more_stop_of : {N T : Type 0} (st : Setting) (a b : Bool) (clients : List Client) (points : ℕ) (given : ThreadsStop N T) → (IsTrue a → IsTrue b) → ThreadsHaveStopped st a clients points given → ThreadsHaveStopped st b clients points given
-more_stop_of st a b clients points (stop.LogFull full ran) on stopped = stopped
-more_stop_of st a b clients points stop.LogEnded on there = on there
-more_stop_of st a b clients points (stop.Other why) on end = more_end a b (transactions_in clients) (transactions_in clients) points points why on (omega arith) (omega arith) end
+pub more_stop_of : {N T : Type 0} (refuses : FileName → Refusal → Type 0) (st : Setting) (a b : Bool) (clients : List Client) (points : ℕ) (given : ThreadsStop N T) → (IsTrue a → IsTrue b) → ThreadsHaveStopped refuses st a clients points given → ThreadsHaveStopped refuses st b clients points given
+more_stop_of refuses st a b clients points (stop.LogFull full ran) on stopped = stopped
+more_stop_of refuses st a b clients points stop.LogEnded on there = on there
+more_stop_of refuses st a b clients points (stop.Other why) on end = more_end refuses a b (transactions_in clients) (transactions_in clients) points points why on (omega arith) (omega arith) end
 
 -- why workers stop
-pub workers_end : (N T : Type 0) (st : Setting) (has_log there : Bool) (clients : List Client) (points : ℕ) (given : Refusal) → IsWorkersStop has_log (transactions_in clients) given
-    → ThreadsHaveStopped {N = N} {T = T} st (has_log || there) clients points (stop_of_workers given)
-workers_end N T st has_log there clients points why.Device (inl (is, on)) = left_true has_log there on
-workers_end N T st has_log there clients points why.Device (inr end) = absurd end
-workers_end N T st has_log there clients points other (inl (is, on)) = cc (is)
-workers_end N T st has_log there clients points other (inr end) = wider_stop (transactions_in clients) (transactions_in clients) 0 points other (omega arith) (omega arith) end
+pub workers_end : (N T : Type 0) (refuses : FileName → Refusal → Type 0) (st : Setting) (has_log there : Bool) (clients : List Client) (points : ℕ) (given : Refusal) → IsWorkersStop has_log (transactions_in clients) given
+    → ThreadsHaveStopped {N = N} {T = T} refuses st (has_log || there) clients points (stop_of_workers given)
+workers_end N T refuses st has_log there clients points why.Device (inl (is, on)) = left_true has_log there on
+workers_end N T refuses st has_log there clients points why.Device (inr end) = absurd end
+workers_end N T refuses st has_log there clients points other (inl (is, on)) = cc (is)
+workers_end N T refuses st has_log there clients points other (inr end) = wider_stop (transactions_in clients) (transactions_in clients) 0 points other (omega arith) (omega arith) end
 
 -- why the logger stops
-pub logger_ends : {T : Type 0} (hands : Bool) (log : Option (Tally T)) (n points : ℕ) (stop : LogFault T) → LogHasStopped log stop → IsThreadsEnd (hands || is_some log) n points (lost_log_fault stop.why stop.out)
-logger_ends hands None n points stop stopped = absurd stopped
-logger_ends hands (Some log) n points stop (inl memory) = subst (λ (given : Refusal). IsThreadsEnd (hands || true) n points (lost_log_fault given stop.out)) (sym memory) tt
-logger_ends hands (Some log) n points stop (inr (device, risen)) =
-    subst (λ (given : Refusal). IsThreadsEnd (hands || true) n points (lost_log_fault given stop.out)) (sym device) (right_true hands true refl, some_failed log.failures stop.out.failures risen)
+pub logger_ends : {T : Type 0} (refuses : FileName → Refusal → Type 0) (hands : Bool) (log : Option (Tally T)) (n points : ℕ) (stop : LogFault T) → LogHasStopped log stop → IsThreadsEnd refuses (hands || is_some log) n points (lost_log_fault stop.why stop.out)
+logger_ends refuses hands None n points stop stopped = absurd stopped
+logger_ends refuses hands (Some log) n points stop (inl memory) = subst (λ (given : Refusal). IsThreadsEnd refuses (hands || true) n points (lost_log_fault given stop.out)) (sym memory) tt
+logger_ends refuses hands (Some log) n points stop (inr (device, risen)) =
+    subst (λ (given : Refusal). IsThreadsEnd refuses (hands || true) n points (lost_log_fault given stop.out)) (sym device) (right_true hands true refl, some_failed log.failures stop.out.failures risen)

@@ -31,6 +31,10 @@ abbrev pub IsFileLost : {T : Type 0} → (FileName → Refusal → Type 0) → F
 IsFileLost refuses name failures (lost.Unmade file why) = (file ≡ name) × refuses name why
 IsFileLost refuses name failures (lost.Failed file) = HasRisen failures file.failures
 
+-- a folder of this kind refuses the file of this name for this reason
+abbrev pub MayRefuse : {D : Type 0} → (D → FileName → Refusal → Type 0) → FileName → Refusal → Type 0
+MayRefuse {D} refuses name why = (folder : D) × refuses folder name why
+
 -- the fault of the run that a lost file is
 abbrev pub lost_file_fault : {T : Type 0} → FileFault T → ThreadsFault T
 lost_file_fault (lost.Unmade file why) = fault.Unmade file why
@@ -60,13 +64,13 @@ IsStop transactions points other = ⊥
 abbrev pub IsWorkersStop : Bool → ℕ → Refusal → Type 0
 IsWorkersStop has_log transactions why = ((why ≡ refusal.Device) × IsTrue has_log) ⊎ IsStop transactions 0 why
 
--- The fault of the run: besides those, if files are written, a file can't be made, or the device failed in a call of a file, which is
--- returned and has counted that; or a thread can't be started.
-abbrev pub IsThreadsEnd : {T : Type 0} → Bool → ℕ → ℕ → ThreadsFault T → Type 0
-IsThreadsEnd writes transactions points (fault.Refused why) = IsStop transactions points why
-IsThreadsEnd writes transactions points (fault.Unmade file why) = IsTrue writes
-IsThreadsEnd writes transactions points (fault.Failed file) = IsTrue writes × (1 ≤ file.failures)
-IsThreadsEnd writes transactions points fault.NoThread = ⊤
+-- The fault of the run: besides those, if files are written, a file can't be made, and the folder refuses it for this reason, or the
+-- device failed in a call of a file, which is returned and has counted that; or a thread can't be started.
+abbrev pub IsThreadsEnd : {T : Type 0} → (FileName → Refusal → Type 0) → Bool → ℕ → ℕ → ThreadsFault T → Type 0
+IsThreadsEnd refuses writes transactions points (fault.Refused why) = IsStop transactions points why
+IsThreadsEnd refuses writes transactions points (fault.Unmade file why) = IsTrue writes × refuses file why
+IsThreadsEnd refuses writes transactions points (fault.Failed file) = IsTrue writes × (1 ≤ file.failures)
+IsThreadsEnd refuses writes transactions points fault.NoThread = ⊤
 
 -- The log has no place left while the points up to this one were taken: a witness has seen a legal history whose log has none, and
 -- the checkpointer has entered at most the phases of this many points' cycles.
@@ -81,9 +85,9 @@ IsPointsFaultOf stop seat (points.LogFull full) = (stop.why ≡ refusal.LogFull)
 IsPointsFaultOf stop seat (points.Other why) = (stop.why ≢ refusal.LogFull) × (why ≡ fault.Refused stop.why)
 
 -- Why the points up to this one are not all taken, if files are written or not: the log has no place left, or one of the faults above.
-abbrev pub PointsHaveStopped : {N T : Type 0} → Setting → Bool → ℕ → PointsFault N T → Type 0
-PointsHaveStopped st writes last (points.LogFull full) = HasFullLog st last full
-PointsHaveStopped st writes last (points.Other why) = IsThreadsEnd writes 0 last why
+abbrev pub PointsHaveStopped : {N T : Type 0} → (FileName → Refusal → Type 0) → Setting → Bool → ℕ → PointsFault N T → Type 0
+PointsHaveStopped refuses st writes last (points.LogFull full) = HasFullLog st last full
+PointsHaveStopped refuses st writes last (points.Other why) = IsThreadsEnd refuses writes 0 last why
 
 -- the stop of the threads that a stop of workers is
 abbrev pub stop_of_workers : {N T : Type 0} → Refusal → ThreadsStop N T
@@ -98,7 +102,7 @@ stop_of (points.Other why) ran = stop.Other why
 -- Why the threads of a run with these clients and this many points have stopped before its end: the log has no place left, and the
 -- clients have run, each as its session; a client has found the end of the log, which is written, before its own; or one of the
 -- faults above.
-abbrev pub ThreadsHaveStopped : {N T : Type 0} → Setting → Bool → List Client → ℕ → ThreadsStop N T → Type 0
-ThreadsHaveStopped st writes clients last (stop.LogFull full ran) = HasFullLog st last full × HaveWorked st clients ran.given_up ran.sessions.items
-ThreadsHaveStopped st writes clients last stop.LogEnded = IsTrue writes
-ThreadsHaveStopped st writes clients last (stop.Other why) = IsThreadsEnd writes (transactions_in clients) last why
+abbrev pub ThreadsHaveStopped : {N T : Type 0} → (FileName → Refusal → Type 0) → Setting → Bool → List Client → ℕ → ThreadsStop N T → Type 0
+ThreadsHaveStopped refuses st writes clients last (stop.LogFull full ran) = HasFullLog st last full × HaveWorked st clients ran.given_up ran.sessions.items
+ThreadsHaveStopped refuses st writes clients last stop.LogEnded = IsTrue writes
+ThreadsHaveStopped refuses st writes clients last (stop.Other why) = IsThreadsEnd refuses writes (transactions_in clients) last why

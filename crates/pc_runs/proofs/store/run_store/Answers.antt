@@ -10,11 +10,12 @@ use Rattle.pc_jobs.specs.declared.works.Client.{Client}
 use Rattle.pc_outcomes.specs.Leaving.{IsLegacy, commits_in}
 use Rattle.pc_shared.specs.Sitters.{IsSitterSettled, Sitter, new_sitters}
 use Rattle.pc_threads.specs.Clients.{AreSeated, HaveSeats, HaveWorked, IsFresh, clients_in, transactions_in}
+use Rattle.pc_threads.specs.Faults.{MayRefuse}
 use Rattle.pc_workers.specs.Covering.{HaveJustTo}
 use Rattle.pc_runs.specs.Folders.{LeavesFiles, base_of}
 use Rattle.pc_runs.proofs.HistoryLaws.{behind_first, first_ones, left_after}
 use Rattle.std.proofs.lemmas.Result.{err_from_is_err_and}
-use Rattle.pc_runs.proofs.FaultLaws.{folder_there, log_counted, log_lost_there, log_there, lost_ends, no_memory, of_stop, one_there, same_transactions, untold_ends}
+use Rattle.pc_runs.proofs.FaultLaws.{folder_there, log_lost, log_lost_there, log_there, lost_ends, no_memory, of_stop, one_there, same_transactions, untold_ends}
 use Rattle.pc_runs.proofs.NewPasses.{as_many, some_passes}
 use Rattle.pc_runs.proofs.SeatingLaws.{all_back, dealt_seats}
 use Rattle.pc_runs.proofs.WorkLaws.{all_fresh, have_run}
@@ -89,12 +90,12 @@ returns-clause-run g c =
 pub returns-in_err-shared-clause-ended : goal.returns-in_err-shared-clause-ended
 returns-in_err-shared-clause-ended g c =
     let p = err_from_is_err_and c.from_residual.result c.from_residual.ensures.1 in
-    rw (p.1, p.2) (no_memory g.N.StoreName.name.setting c.args.workload (is_some c.args.folder) c.in_err-shared.field-0.0 c.in_err-shared.ensures.memory)
+    rw (p.1, p.2) (no_memory g.N.StoreName.name.setting c.args.workload c.in_err-shared.field-0.0 c.in_err-shared.ensures.memory)
 
 pub returns-in_err-board-clause-ended : goal.returns-in_err-board-clause-ended
 returns-in_err-board-clause-ended g c =
     let p = err_from_is_err_and c.from_residual-in_err-board.result c.from_residual-in_err-board.ensures.1 in
-    rw (p.1, p.2) (no_memory g.N.StoreName.name.setting c.args.workload (is_some c.args.folder) c.in_err-board.field-0.0 c.in_err-board.ensures.memory)
+    rw (p.1, p.2) (no_memory g.N.StoreName.name.setting c.args.workload c.in_err-board.field-0.0 c.in_err-board.ensures.memory)
 
 pub returns-in_err-dealt-clause-ended : goal.returns-in_err-dealt-clause-ended
 returns-in_err-dealt-clause-ended g c =
@@ -104,7 +105,7 @@ returns-in_err-dealt-clause-ended g c =
 pub returns-in_err-seating-clause-ended : goal.returns-in_err-seating-clause-ended
 returns-in_err-seating-clause-ended g c =
     let p = err_from_is_err_and c.from_residual-in_err-seating.result c.from_residual-in_err-seating.ensures.1 in
-    rw (p.1, p.2) (no_memory g.N.StoreName.name.setting c.args.workload (is_some c.args.folder) c.in_err-seating.field-0.0 c.in_err-seating.ensures.refused)
+    rw (p.1, p.2) (no_memory g.N.StoreName.name.setting c.args.workload c.in_err-seating.field-0.0 c.in_err-seating.ensures.refused)
 
 pub returns-in-Err-clause-ended : goal.returns-in-Err-clause-ended
 returns-in-Err-clause-ended g c =
@@ -116,7 +117,7 @@ returns-in-Err-clause-ended g c =
     let is : clients ≡ clients_in dealt = ap clients_in c.in_ok-seating.ensures.clients in
     let count = ap transactions_in is ∙ same_transactions c.args.context.now.crew.workers c.args.workload.clients dealt c.args.context.now.crew.in_range.0 c.in_ok-dealt.ensures in
     let seated = subst (λ (sessions : List Sitter). AreSeated (clients_in dealt) sessions seating.idle.items) c.in_ok-shared.ensures.sessions c.in_ok-seating.ensures.seated in
-    of_stop st c.args.workload (is_some c.args.folder) _ seating.idle.items clients c.in-Err.stop c.fault_of.result
+    of_stop (MayRefuse g.D.NewFiles.refuses) st c.args.workload (is_some c.args.folder) _ seating.idle.items clients c.in-Err.stop c.fault_of.result
     (one_there _ _ _ (is_some c.args.folder) (c.map.ensures.variant ∙ (c.as_ref.ensures.variant ∙ log)) refl log) count c.in_ok-seating.ensures.idle
     (λ given_up ran have. all_back st st.sessions (clients_in dealt) given_up seating.idle.items ran seated (subst (λ (cs : List Client). HaveWorked st cs given_up ran) is have))
     c.fault_of.ensures c.in-Err.ensures.ended
@@ -132,7 +133,7 @@ returns-in_err-folder-clause-ended g c =
     let ended = c.in-Ok.used.0 in
     let there = folder_there g.D.NewFiles.holds c.args.workload.points c.args.folder ended.folder ended.written.items c.in-Ok.ensures.written in
     rw (p.1, p.2)
-    (lost_ends g.N.StoreName.name.setting c.args.workload (is_some c.args.folder) c.in_err-folder.field-0.0 (subst IsTrue there (log_lost_there ended.folder c.in-Ok.used.1.out c.in_err-folder.field-0.0 c.in_err-folder.ensures.lost)) (log_counted ended.folder c.in-Ok.used.1.out c.in_err-folder.field-0.0 c.in_err-folder.ensures.lost))
+    (lost_ends (MayRefuse g.D.NewFiles.refuses) g.N.StoreName.name.setting c.args.workload (is_some c.args.folder) c.in_err-folder.field-0.0 (subst IsTrue there (log_lost_there (MayRefuse g.D.NewFiles.refuses) ended.folder c.in-Ok.used.1.out c.in_err-folder.field-0.0 c.in_err-folder.ensures.lost)) (log_lost (MayRefuse g.D.NewFiles.refuses) ended.folder c.in-Ok.used.1.out c.in_err-folder.field-0.0 c.in_err-folder.ensures.lost))
 
 pub returns-in_err-left-clause-ended : goal.returns-in_err-left-clause-ended
 returns-in_err-left-clause-ended g c =

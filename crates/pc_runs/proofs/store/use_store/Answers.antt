@@ -3,7 +3,7 @@ use Rattle.std.specs.Prelude.{◌||◌, is_some}
 use Rattle.std.proofs.lemmas.Result.{err_from_is_err_and}
 use Rattle.pc_jobs.specs.declared.works.Client.{Client}
 use Rattle.pc_threads.specs.Clients.{clients_in, transactions_in}
-use Rattle.pc_threads.specs.Faults.{ThreadsHaveStopped}
+use Rattle.pc_threads.specs.Faults.{MayRefuse, ThreadsHaveStopped}
 use Rattle.pc_threads.proofs.StopLaws.{memory_stops}
 use Rattle.pc_runs.proofs.StopLaws.{idle_stopped}
 use Rattle.pc_runs.proofs.store.use_store.Goals as goal
@@ -23,9 +23,9 @@ returns-in-Err-clause-ended g c =
     let there = is_some c.args.checkpointer.folder in
     let points = c.args.room.now.points in
     let ended = c.in-Err.ensures.ended (made.seat ∙ c.requires.fresh) in
-    idle_stopped st (lag || there || out) (clients_in c.args.seating.workers.items) c.args.seating.idle.items points stop c.with_idle.result c.with_idle.ensures
-    (subst (λ (b : Bool). ThreadsHaveStopped st (lag || b || out) (clients_in c.args.seating.workers.items) points stop) (ap is_some made.folder.0)
-    (subst (λ (workers : List (List Client)). ThreadsHaveStopped st (lag || is_some c.in_ok-hands.hands.checkpointer.folder || out) (clients_in workers) points stop) made.workers ended))
+    idle_stopped (MayRefuse g.D.NewFiles.refuses) st (lag || there || out) (clients_in c.args.seating.workers.items) c.args.seating.idle.items points stop c.with_idle.result c.with_idle.ensures
+    (subst (λ (b : Bool). ThreadsHaveStopped (MayRefuse g.D.NewFiles.refuses) st (lag || b || out) (clients_in c.args.seating.workers.items) points stop) (ap is_some made.folder.0)
+    (subst (λ (workers : List (List Client)). ThreadsHaveStopped (MayRefuse g.D.NewFiles.refuses) st (lag || is_some c.in_ok-hands.hands.checkpointer.folder || out) (clients_in workers) points stop) made.workers ended))
 
 pub returns-in_err-ended-clause-ended : goal.returns-in_err-ended-clause-ended
 returns-in_err-ended-clause-ended g c =

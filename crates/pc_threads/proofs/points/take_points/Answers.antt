@@ -4,6 +4,7 @@ use Rattle.pc_types.specs.declared.limits.TheConstants.{MOST_POINTS}
 use Rattle.pc_model.specs.History.{History}
 use Rattle.pc_workers.specs.Checkpointing.{HasCycled}
 use Rattle.pc_workers.proofs.WholeCycles.{cycled_on}
+use Rattle.pc_threads.specs.Faults.{MayRefuse}
 use Rattle.pc_threads.proofs.PointLaws.{more_points}
 use Rattle.pc_threads.proofs.points.take_points.Goals as goal
 
@@ -32,4 +33,4 @@ returns-in-Err-clause-ended g c cycled =
     let there : is_some c.await_commits.new.self.folder ≡ is_some c.args.checkpointer.folder = ap is_some c.await_commits.ensures.folder ∙ old.invariant.there in
     let next : old.others + 1 ≡ c.in-Ok.point = search rules in
     let few : c.in-Ok.point ≤ MOST_POINTS = search rules in
-    more_points st _ _ c.in-Ok.point c.args.last c.in-Err.fault (subst IsTrue there) (omega (arith, next, c.loop-others-test.true)) (c.in-Err.ensures.ended old.others next few before)
+    more_points (MayRefuse g.D.NewFiles.refuses) st _ _ c.in-Ok.point c.args.last c.in-Err.fault (subst IsTrue there) (omega (arith, next, c.loop-others-test.true)) (c.in-Err.ensures.ended old.others next few before)

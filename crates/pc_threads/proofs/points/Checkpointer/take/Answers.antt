@@ -4,6 +4,7 @@ use Rattle.std.proofs.lemmas.Result.{err_from_is_err_and}
 use Rattle.pc_model.specs.History.{History, point_of}
 use Rattle.pc_workers.specs.Checkpointing.{HasCycled}
 use Rattle.pc_workers.proofs.WholeCycles.{cycled_on}
+use Rattle.pc_threads.specs.Faults.{MayRefuse}
 use Rattle.pc_threads.proofs.FullLaws.{few_files, few_phases, full_stops}
 use Rattle.pc_threads.proofs.PointLaws.{other_stop, refused_stop}
 use Rattle.pc_threads.proofs.StopLaws.{more_end}
@@ -18,7 +19,7 @@ returns-in-Err-clause-ended g c before next few cycled =
     let old = c.args.self.at_store in
     let seat = c.checkpoint_loop.new.seat in
     let there = is_some c.args.self.folder in
-    refused_stop st there c.args.point stop seat c.fault_of.result c.fault_of.ensures e.shown
+    refused_stop (MayRefuse g.D.NewFiles.refuses) st there c.args.point stop seat c.fault_of.result c.fault_of.ensures e.shown
     (few_phases st before c.args.point old seat _ _ _ next cycled e.broken_off)
     (λ other.
     full_stops st seat stop.seen 0 c.args.point (point_of old + 1) stop.why (omega (arith, at, next))
@@ -33,4 +34,4 @@ returns-in_err-write_point-in-Some-clause-ended g c before next few cycled =
     let now : HasCycled st c.args.point [] seat = subst (λ n. HasCycled st n [] seat) next (cycled_on st before [] c.args.self.at_store seat cycled one) in
     let given = c.in_err-write_point-in-Some.field-0.0 in
     let end = c.in_err-write_point-in-Some.ensures.ended (omega (arith, next)) now in
-    rw (p.1, c.in-Some.is) (other_stop st true c.args.point given p.0 p.2 (more_end true true 0 0 0 c.args.point given (λ there. there) (omega arith) (omega arith) end))
+    rw (p.1, c.in-Some.is) (other_stop (MayRefuse g.D.NewFiles.refuses) st true c.args.point given p.0 p.2 (more_end (MayRefuse g.D.NewFiles.refuses) true true 0 0 0 c.args.point given (λ there. there) (omega arith) (omega arith) end))

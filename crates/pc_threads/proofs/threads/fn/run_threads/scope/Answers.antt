@@ -2,7 +2,7 @@ use Rattle.std.proofs.Common.{◌≡◌, ap, subst, ◌∙◌}
 use Rattle.std.specs.Prelude.{◌||◌, is_some}
 use Rattle.std.proofs.lemmas.Result.{err_from_is_err_and}
 use Rattle.pc_threads.specs.Clients.{clients_in, transactions_in}
-use Rattle.pc_threads.specs.Faults.{LogHasStopped}
+use Rattle.pc_threads.specs.Faults.{LogHasStopped, MayRefuse}
 use Rattle.pc_threads.proofs.StopLaws.{logger_ends}
 use Rattle.pc_threads.proofs.threads.fn.run_threads.scope.Goals as goal
 
@@ -17,6 +17,6 @@ returns-in_err-written g c =
       left = tt;
       logged = tt;
       ended = λ fresh.
-          logger_ends (is_some c.captures.room.now.lag || is_some hands.checkpointer.folder) c.captures.logger.out (transactions_in (clients_in hands.workers.items)) c.captures.room.now.points
+          logger_ends (MayRefuse g.D.NewFiles.refuses) (is_some c.captures.room.now.lag || is_some hands.checkpointer.folder) c.captures.logger.out (transactions_in (clients_in hands.workers.items)) c.captures.room.now.points
           stop (subst (λ log. LogHasStopped log stop) its c.in_err-written.ensures.1);
     })

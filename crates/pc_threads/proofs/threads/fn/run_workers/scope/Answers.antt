@@ -8,7 +8,7 @@ use Rattle.pc_model.specs.History.{History}
 use Rattle.pc_workers.specs.Checkpointing.{HasCycled}
 use Rattle.pc_workers.proofs.WholeCycles.{cycled_none}
 use Rattle.pc_threads.specs.Clients.{HaveWorked, clients_in, transactions_in}
-use Rattle.pc_threads.specs.Faults.{IsWorkersStop, PointsHaveStopped, ThreadsHaveStopped}
+use Rattle.pc_threads.specs.Faults.{IsWorkersStop, MayRefuse, PointsHaveStopped, ThreadsHaveStopped}
 use Rattle.pc_threads.proofs.PointStopLaws.{points_stop}
 use Rattle.pc_threads.proofs.StopLaws.{workers_end}
 use Rattle.pc_threads.proofs.threads.fn.run_workers.scope.Goals as goal
@@ -50,7 +50,7 @@ returns-in_err-ran g c =
     (record {
       left = tt;
       ended = λ fresh.
-          workers_end _ _ g.N.StoreName.name.setting has_log there (clients_in c.captures.workers.items) c.captures.points why
+          workers_end _ _ (MayRefuse g.D.NewFiles.refuses) g.N.StoreName.name.setting has_log there (clients_in c.captures.workers.items) c.captures.points why
           (subst (λ (workers : List (List Client)). IsWorkersStop has_log (transactions_in (clients_in workers)) why) all (c.in_err-ran.ensures.ended has_log c.loop-worker.invariant.3));
     })
 
@@ -97,8 +97,8 @@ returns-in-Err-most g c =
       left = tt;
       ended = λ fresh.
           let start : HasCycled st 0 [] seat = subst (λ (h : History). HasCycled st 0 h seat) fresh (cycled_none st seat c.requires.rest) in
-          subst (ThreadsHaveStopped st (c.captures.has_log || there) clients points) (sym c.with_clients.ensures)
-          (points_stop st c.captures.has_log there clients c.saturating_sub-beside.result points c.in-Err-most.fault ran low (c.in-Err-most.ensures.ended start) worked);
+          subst (ThreadsHaveStopped (MayRefuse g.D.NewFiles.refuses) st (c.captures.has_log || there) clients points) (sym c.with_clients.ensures)
+          (points_stop (MayRefuse g.D.NewFiles.refuses) st c.captures.has_log there clients c.saturating_sub-beside.result points c.in-Err-most.fault ran low (c.in-Err-most.ensures.ended start) worked);
     }
 
 pub returns-in-Err-take_points : goal.returns-in-Err-take_points
@@ -120,7 +120,7 @@ returns-in-Err-take_points g c =
       left = tt;
       ended = λ fresh.
           let start : HasCycled st 0 [] seat = subst (λ (h : History). HasCycled st 0 h seat) fresh (cycled_none st seat c.requires.rest) in
-          subst (ThreadsHaveStopped st (c.captures.has_log || there) clients points) (sym c.with_clients-in-Err-take_points.ensures)
-          (points_stop st c.captures.has_log there clients points points fault ran (omega arith)
-          (subst (λ (b : Bool). PointsHaveStopped st b points fault) c.in-Ok-most.ensures.there (c.in-Err-take_points.ensures.ended (c.in-Ok-most.ensures.cycles [] start))) worked);
+          subst (ThreadsHaveStopped (MayRefuse g.D.NewFiles.refuses) st (c.captures.has_log || there) clients points) (sym c.with_clients-in-Err-take_points.ensures)
+          (points_stop (MayRefuse g.D.NewFiles.refuses) st c.captures.has_log there clients points points fault ran (omega arith)
+          (subst (λ (b : Bool). PointsHaveStopped (MayRefuse g.D.NewFiles.refuses) st b points fault) c.in-Ok-most.ensures.there (c.in-Err-take_points.ensures.ended (c.in-Ok-most.ensures.cycles [] start))) worked);
     }
