@@ -10,15 +10,11 @@ use Rattle.pc_types.specs.Phases.{same_class}
 use Rattle.pc_transactions.specs.Sessions.{with_session, is_of_class, class_count}
 use Rattle.pc_transactions.specs.Actives.{active_in as session_at}
 use Rattle.pc_transactions.specs.Actives.{Active}
-use Rattle.pc_engine.specs.Stands.{active_after}
+use Rattle.pc_engine.specs.Stands.{active_now, active_after}
 
 -- the number is no session's
 abbrev pub is_past : List (Option Active) → ℕ → Bool
 is_past sessions s = eqb s 0 || nat_lt (length sessions) s
-
--- the session's last transaction, by the history
-abbrev pub active_now : ℕ → History → Active
-active_now s h = record { number = transaction_number_of s h; class = class_of s h; has_died = has_died s h; writes = writes_of s h }
 
 -- the session's open transaction after this effect
 abbrev pub active_by : ℕ → Effect → History → Option Active

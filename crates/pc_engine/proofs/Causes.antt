@@ -1,6 +1,7 @@
 -- The reply that is owed if a cause applies.
-use Rattle.pc_transactions.specs.Adds.{sum_causes, AddProceeds, IsRefusedFor, sum_or_zero}
-use Rattle.pc_types.specs.Changes.{content_number, sum_if, added, can_add}
+use Rattle.pc_transactions.specs.Adds.{sum_causes, AddProceeds, IsRefusedFor}
+use Rattle.std.specs.Option.{option_and_then}
+use Rattle.pc_types.specs.Changes.{content_number, sum_of, added, can_add, change_to}
 use Rattle.pc_types.specs.declared.Outcome.TheVariants.{Granted, Queued, Died}
 use Rattle.pc_types.specs.declared.Change.TheVariants.{Add}
 use Rattle.pc_types.specs.declared.Change.{Change}
@@ -13,8 +14,8 @@ use Rattle.pc_types.specs.declared.Refusal.TheVariants as why
 use Rattle.pc_engine.specs.Store.{Store, active}
 use Rattle.pc_types.specs.declared.Mode.TheVariants.{Exclusive}
 use Rattle.pc_types.specs.declared.Outcome.{Outcome}
-use Rattle.pc_model.specs.Database.{change_to, write_of, written}
-use Rattle.pc_model.specs.Replies.{first_refusal, by_outcome, is_granted}
+use Rattle.pc_model.specs.Database.{write_of, written}
+use Rattle.pc_model.specs.Replies.{first_refusal, by_outcome, is_granted, sum_or_zero}
 use Rattle.pc_answers.specs.Replies.{write_reply}
 use Rattle.pc_transactions.specs.Ongoing.{Ongoing, own_transaction, after_answer}
 use Rattle.pc_transactions.specs.Sessions.{with_session, after_writing, if_granted, writes_in, seen_in}
@@ -99,7 +100,7 @@ goes full o there own delta (Some sum) g = record {
   told_so = ap (λ x. by_outcome o (told.Sum (sum_or_zero x))) (sym g.2);
 }
   where
-    has_number : (n : Option ℤ) → sum_if n delta ≡ Some sum → is_none n ≡ false
+    has_number : (n : Option ℤ) → option_and_then (λ x. sum_of x delta) n ≡ Some sum → is_none n ≡ false
     has_number None e = absurd (let no : false ≡ true = ap is_some e in cc)
     has_number (Some n) e = refl
 

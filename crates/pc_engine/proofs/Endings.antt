@@ -38,8 +38,8 @@ use Rattle.pc_transactions.specs.Sessions.{number_in, writes_in, left_by, with_s
 use Rattle.pc_engine.specs.Store.{Store, setting_of, active}
 use Rattle.pc_transactions.specs.Actives.{Active, active_in as session_at}
 use Rattle.pc_engine.specs.Steps.{open_causes, begin_causes, abort_causes, Begins as BeginsIn, Commits as CommitsIn, Aborts as AbortsIn}
-use Rattle.pc_engine.specs.Stands.{Stands, Follows}
-use Rattle.pc_engine.proofs.ActiveSessions.{is_past, active_now, active_by, same_number, one_session}
+use Rattle.pc_engine.specs.Stands.{Stands, Follows, active_now}
+use Rattle.pc_engine.proofs.ActiveSessions.{is_past, active_by, same_number, one_session}
 use Rattle.pc_engine.proofs.LocalSteps.{same_setting, IsLocal, local_left, log_stays, keys_stay, closed_set_stays, state_stays_at}
 use Rattle.pc_engine.proofs.Owing.{states_stay, with_step, IsLeft, IsOpenIn, open_in, open_then, owes_follows, goes_on, unmoved, legal_then, refused_idle, same_cycle, not_first, by_session, in_transaction, locked_now}
 

@@ -33,8 +33,8 @@ use Rattle.pc_transactions.specs.Sessions.{number_in, has_died_in}
 use Rattle.pc_engine.specs.Store.{Store, Cycle, setting_of, active}
 use Rattle.pc_transactions.specs.Actives.{Active}
 use Rattle.pc_engine.specs.Steps.{open_causes, Owes}
-use Rattle.pc_engine.specs.Stands.{IsCycle, IsReadOff, Stands, KeepsPoints, Follows, by_key}
-use Rattle.pc_engine.proofs.ActiveSessions.{active_now, active_by}
+use Rattle.pc_engine.specs.Stands.{IsCycle, IsReadOff, Stands, KeepsPoints, Follows, by_key, active_now}
+use Rattle.pc_engine.proofs.ActiveSessions.{active_by}
 use Rattle.pc_engine.proofs.Serial.{is_serial}
 
 -- the history with one more step

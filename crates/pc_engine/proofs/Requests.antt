@@ -1,9 +1,8 @@
 -- What a read and a write leave of a world that represents a history.
 use Rattle.std.specs.Prelude.{ℤ}
 use Rattle.pc_types.specs.declared.Change.TheVariants.{Add}
-use Rattle.pc_types.specs.Changes.{added, fits_i64}
-use Rattle.pc_model.proofs.AddLaws.{add_stands}
-use Rattle.pc_transactions.specs.Adds.{sum_causes, sum_or_zero}
+use Rattle.pc_types.specs.Changes.{added, fits_i64, change_to}
+use Rattle.pc_transactions.specs.Adds.{sum_causes}
 use Rattle.std.proofs.Common.{◌≡◌, ℕ, List, [], ◌∷◌, ◌++◌, length, subst, Option, Some, None, is_some, is_none, refl, sym, ap, ◌∙◌, cond, true, false, Bool, not, eqb, ◌&&◌}
 use Rattle.std.proofs.lemmas.List.{length-set}
 use Rattle.pc_types.specs.declared.Mode.{Mode}
@@ -15,7 +14,7 @@ use Rattle.pc_types.specs.declared.Reply.TheVariants as told
 use Rattle.pc_types.specs.declared.Refusal.{Refusal}
 use Rattle.pc_types.specs.declared.Refusal.TheVariants as why
 use Rattle.pc_types.specs.Limits.{IsKey, IsValue}
-use Rattle.pc_model.specs.Database.{same_bytes, written, seen, change_to, write_of}
+use Rattle.pc_model.specs.Database.{same_bytes, written, seen, write_of}
 use Rattle.pc_model.specs.Log.{after}
 use Rattle.pc_model.specs.History.{History, Effect, effect_of, effect_of_get, effect_of_write, is_open, transaction_number_of, writes_of, has_died, effect_of_add}
 use Rattle.pc_model.specs.History.Effect.{Reads, Writes, Waits, Dies, Adds}
@@ -24,7 +23,7 @@ use Rattle.pc_model.specs.Standing.{HasLegalEffects}
 use Rattle.pc_types.specs.declared.Outcome.{Outcome}
 use Rattle.pc_model.specs.Locks.{Queue, outcome, queue_of, queue_by, queue_after, is_waiting}
 use Rattle.pc_types.specs.declared.Outcome.TheVariants.{Granted, Queued, Died}
-use Rattle.pc_model.specs.Replies.{first_refusal, no_session, too_many, is_full, read_reply, by_outcome, seen_by, sum_reply, write_causes as causes_of_write, add_causes as causes_of_add}
+use Rattle.pc_model.specs.Replies.{first_refusal, no_session, too_many, is_full, read_reply, by_outcome, seen_by, sum_or_zero, write_causes as causes_of_write, add_causes as causes_of_add}
 use Rattle.pc_records.specs.RowSteps.{is_full_for, rows_after}
 use Rattle.pc_records.specs.Following.{AreRecords}
 use Rattle.pc_records.specs.NewKeys.{is_one_too_many}
@@ -35,8 +34,8 @@ use Rattle.pc_engine.specs.Store.{Store, setting_of, active}
 use Rattle.pc_transactions.specs.Actives.{active_in as session_at}
 use Rattle.pc_transactions.specs.Actives.{Active}
 use Rattle.pc_engine.specs.Steps.{open_causes, write_refusal_causes, after_asking, outcome_in, Gets, WritesKey, AddsTo, adding_causes}
-use Rattle.pc_engine.specs.Stands.{IsReadOff, Stands, Follows}
-use Rattle.pc_engine.proofs.ActiveSessions.{is_past, active_now, active_by, same_number, one_session}
+use Rattle.pc_engine.specs.Stands.{IsReadOff, Stands, Follows, active_now}
+use Rattle.pc_engine.proofs.ActiveSessions.{is_past, active_by, same_number, one_session}
 use Rattle.pc_engine.proofs.LocalSteps.{IsLocal, local_left, log_stays, keys_stay, closed_set_stays, state_stays_at}
 use Rattle.pc_engine.proofs.Owing.{with_step, IsLeft, IsOpenIn, open_then, owes_follows, refused_idle, in_transaction}
 
@@ -61,13 +60,6 @@ add_effect : (s : ℕ) (key : List ℕ) (delta sum : ℤ) (o : Outcome) → effe
 add_effect s key delta sum Granted = refl
 add_effect s key delta sum Queued = refl
 add_effect s key delta sum Died = refl
-
--- if a granted add has a sum, that is the reply
-sum_told : (o : Outcome) (sum : Option ℤ) → (o ≡ Granted → is_none sum ≡ false) → by_outcome o (told.Sum (sum_or_zero sum)) ≡ by_outcome o (sum_reply sum)
-sum_told Granted None some = absurd (let no : true ≡ false = some refl in cc)
-sum_told Granted (Some n) some = refl
-sum_told Queued sum some = refl
-sum_told Died sum some = refl
 
 -- what a granted request does: it takes the lock, and leaves these sessions
 record IsGrant (w : Store) (h : History) (s : ℕ) (key : List ℕ) (mode : Mode) (granted : Effect) (sessions : List (Option Active)) : Type 0 where
@@ -222,8 +214,7 @@ module _ (old new : Store) (h : History) (s : ℕ) (reply : Reply) (stands : Sta
       (λ none d.
       let at = add_open key delta none in
       let O : Outcome = outcome (queue_of key h) (transaction_number_of s h) Exclusive in
-      d.0 ∙ ap (λ o. by_outcome o (told.Sum sum)) (outcome_same old h s key Exclusive at stands.parts) ∙ ap (λ v. by_outcome O (told.Sum (sum_or_zero (added delta v)))) (add_seen key at)
-      ∙ sum_told O (added delta (seen_by (setting_of old) s key h)) (λ granted. (add_stands (setting_of old) h s key delta (sym (adding_causes_are key delta) ∙ none) granted).0))
+      d.0 ∙ ap (λ o. by_outcome o (told.Sum sum)) (outcome_same old h s key Exclusive at stands.parts) ∙ ap (λ v. by_outcome O (told.Sum (sum_or_zero (added delta v)))) (add_seen key at))
       (λ none d legal.
       let now = rw d.0 at legal in
       let at = add_open key delta none in

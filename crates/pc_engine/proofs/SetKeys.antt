@@ -10,9 +10,9 @@ use Rattle.std.proofs.Common.{◌≡◌, ℕ, List, Option, Some, None, is_none,
 use Rattle.std.proofs.lemmas.Cmp.{eq_by_cmp_equiv}
 use Rattle.pc_types.specs.declared.Write.{Write}
 use Rattle.pc_types.specs.declared.Change.{Change}
-use Rattle.pc_types.specs.Changes.{CanMerge, added, number_text, or_same}
+use Rattle.pc_types.specs.Changes.{CanMerge, added, number_text, or_same, change_to}
 use Rattle.pc_model.specs.Changes.{Applies, AppliesIfAny}
-use Rattle.pc_model.specs.Database.{key_order, same_bytes, with_write, written, seen, change_to, write_of}
+use Rattle.pc_model.specs.Database.{key_order, same_bytes, with_write, written, seen, write_of}
 use Rattle.pc_model.proofs.WrittenKeyLaws.{merged_if, written_with}
 use Rattle.pc_records.specs.Rows.{Row, record_of, stored}
 use Rattle.pc_transactions.specs.Sessions.{seen_in, after_writing, writes_in}

@@ -8,7 +8,8 @@ use Rattle.pc_types.specs.declared.Phase.{Phase}
 use Rattle.pc_types.specs.declared.Phase.TheVariants.{Rest}
 use Rattle.pc_types.specs.declared.Reply.{Reply}
 use Rattle.pc_types.specs.declared.Reply.TheVariants as told
-use Rattle.pc_model.specs.Database.{KeysRise, database_of, change_to, write_of}
+use Rattle.pc_types.specs.Changes.{change_to}
+use Rattle.pc_model.specs.Database.{KeysRise, database_of, write_of}
 use Rattle.pc_model.specs.Files.{File, file_at, join_of}
 use Rattle.pc_types.specs.declared.Outcome.{Outcome}
 use Rattle.pc_types.specs.declared.Outcome.TheVariants.{Granted, Queued, Died}

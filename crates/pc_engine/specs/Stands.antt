@@ -33,9 +33,13 @@ pub record IsCycle (run : ℕ) (c : Cycle) (files : List File) (history : Histor
   pub taken : is_taking (phase_of history) ≡ true → c.taken ≡ by_key (taken history)
   pub shelved : files ≡ shelf run history
 
--- the session's open transaction, by the history
+-- the session's last transaction, by the history
+abbrev pub active_now : ℕ → History → Active
+active_now s history = record { number = transaction_number_of s history; class = class_of s history; has_died = has_died s history; writes = writes_of s history }
+
+-- the one that it has open, if any
 abbrev pub active_after : ℕ → History → Option Active
-active_after s history = if is_open s history then Some (record { number = transaction_number_of s history; class = class_of s history; has_died = has_died s history; writes = writes_of s history }) else None
+active_after s history = if is_open s history then Some (active_now s history) else None
 
 -- each part of the world is what is read off the history
 pub record IsReadOff (w : Store) (history : History) : Type 0 where

@@ -10,11 +10,11 @@ use Rattle.pc_types.specs.declared.Refusal.{Refusal}
 use Rattle.pc_types.specs.declared.Refusal.TheVariants as why
 use Rattle.pc_types.specs.declared.limits.TheConstants.{MOST_FILES, MOST_LOG_ENTRIES, MOST_POINTS, MOST_TRANSACTIONS}
 use Rattle.pc_types.specs.declared.Change.TheVariants.{Add}
-use Rattle.pc_types.specs.Changes.{added}
-use Rattle.pc_model.specs.Database.{key_cmp, change_to, write_of, written}
+use Rattle.pc_types.specs.Changes.{added, change_to}
+use Rattle.pc_model.specs.Database.{key_cmp, write_of, written}
 use Rattle.pc_model.specs.Sets as set
 use Rattle.pc_model.specs.Files.{File, file_at, join_of, triples_taken}
-use Rattle.pc_model.specs.Replies.{first_refusal, or_else, not_yet, no_session, read_reply, by_outcome, is_empty, join_refusal, IsFileReply}
+use Rattle.pc_model.specs.Replies.{first_refusal, or_else, not_yet, no_session, read_reply, by_outcome, sum_or_zero, is_empty, join_refusal, IsFileReply}
 use Rattle.pc_types.specs.Phases.{same_phase}
 use Rattle.pc_types.specs.declared.Mode.{Mode}
 use Rattle.pc_types.specs.declared.Mode.TheVariants.{Shared, Exclusive}
@@ -28,7 +28,7 @@ use Rattle.pc_phase.specs.declared.change.Change.TheVariants as change
 use Rattle.pc_records.specs.Rows.{record_of, at_point, requests_on}
 use Rattle.pc_records.specs.RowSteps.{is_full_for, is_waiting_in_rows, rows_after, released_rows, written_row, closed_row, left_rows}
 use Rattle.pc_records.specs.NewKeys.{new_keys, is_one_too_many}
-use Rattle.pc_transactions.specs.Adds.{sum_causes, sum_or_zero}
+use Rattle.pc_transactions.specs.Adds.{sum_causes}
 use Rattle.pc_engine.specs.Store.{Store, setting_of, active}
 use Rattle.pc_transactions.specs.Actives.{Active}
 use Rattle.pc_transactions.specs.Sessions.{with_session, number_in, has_died_in, writes_in, left_by, seen_in, class_count, after_writing, after_dying, if_died, if_granted}

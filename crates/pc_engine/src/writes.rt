@@ -1,7 +1,8 @@
 //! The writes of the open transaction.
 ghost use Rattle.std.specs.Prelude.{◌≡◌, IfOk, option_copied};
 ghost use Rattle.pc_types.specs.declared.Change.TheVariants.{Add};
-ghost use Rattle.pc_model.specs.Database.{change_to, write_of};
+ghost use Rattle.pc_types.specs.Changes.{change_to};
+ghost use Rattle.pc_model.specs.Database.{write_of};
 ghost use Rattle.pc_transactions.specs.Adds.{value_of_sum};
 
 use pc_types::{Change, Key, Value, Write};

@@ -8,7 +8,7 @@ use Rattle.std.proofs.lemmas.List.Elements.{All-from_recursion}
 use Rattle.pc_types.specs.declared.Change.{Change}
 use Rattle.pc_types.specs.declared.Change.TheVariants.{Add}
 use Rattle.pc_types.specs.declared.Write.{Write}
-use Rattle.pc_types.specs.Changes.{fits_i64, CanMerge}
+use Rattle.pc_types.specs.Changes.{fits_i64, CanMerge, change_to}
 use Rattle.pc_types.specs.declared.Entry.{Entry}
 use Rattle.pc_types.specs.declared.Entry.TheVariants.{Commit, Token}
 use Rattle.pc_types.specs.declared.Event.{Event}
@@ -22,7 +22,7 @@ use Rattle.pc_types.specs.Limits.{IsKey, IsValue}
 use Rattle.pc_types.specs.Phases.{next_phase, next_point}
 use Rattle.pc_model.specs.History.{History, Effect, effect, effect_of, log_of, entries_by, phase_of, phase_by, point_of, point_by, writes_of, writes_by, is_open, has_died}
 use Rattle.pc_model.specs.History.Effect.{Begins, Reads, Writes, Adds, Waits, Dies, Commits, Aborts, Moves, Takes, Shelves, Joins, Nothing}
-use Rattle.pc_model.specs.Database.{change_to, write_of, written, with_write}
+use Rattle.pc_model.specs.Database.{write_of, written, with_write}
 use Rattle.pc_model.specs.Replies.{Setting, certain, Answers, IsLegal, first_refusal, no_session, is_in_phase, log_is_full, too_many, is_full, write_causes, add_causes, transaction_causes, wrong_phase}
 use Rattle.pc_model.specs.Standing.{HasLegalEffects}
 use Rattle.pc_model.specs.Limits.{IsInLimits, AreInLimits}

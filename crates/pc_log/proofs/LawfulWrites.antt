@@ -7,9 +7,9 @@ use Rattle.std.proofs.lemmas.Cmp.{eq_by_cmp_equiv}
 use Rattle.pc_types.specs.declared.Change.{Change}
 use Rattle.pc_types.specs.declared.Write.{Write}
 use Rattle.pc_types.specs.declared.Change.TheVariants.{Set, Remove, Add}
-use Rattle.pc_types.specs.Changes.{number_text, added, set_to, merged, CanMerge}
+use Rattle.pc_types.specs.Changes.{number_text, added, or_same, merged, CanMerge, change_to}
 use Rattle.pc_types.specs.Limits.{IsKey, IsValue}
-use Rattle.pc_model.specs.Database.{same_bytes, change_to, write_of, written, with_write, key_order}
+use Rattle.pc_model.specs.Database.{same_bytes, write_of, written, with_write, key_order}
 use Rattle.pc_model.specs.Points.{is_among, with_key}
 use Rattle.pc_model.proofs.TouchedKeyLaws.{with_key_distinct, none_distinct}
 use Rattle.pc_log.specs.Texts.{IsChange, IsWrite, keys_of}
@@ -37,16 +37,16 @@ merges_to before (Some value) = tt
 number_is_value : (n : ℤ) → IsValue (number_text n)
 number_is_value n = omega (arith, number_length n)
 
-lawful_sum : (value : List ℕ) (sum : Option ℤ) → IsValue value → IsChange (set_to value sum)
-lawful_sum value None is = is
-lawful_sum value (Some n) is = number_is_value n
+lawful_sum : (there : Option (List ℕ)) (sum : Option ℤ) → IfSome there IsValue → IsChange (change_to (or_same there sum))
+lawful_sum there None is = lawful_change there is
+lawful_sum there (Some n) is = number_is_value n
 
 -- two valid changes that can be kept as one are a valid one
 lawful_merge : (before after : Change) → IsChange before → IsChange after → CanMerge (Some before) after → IsChange (merged before after)
 lawful_merge before (Set value) was is can = is
 lawful_merge before Remove was is can = tt
-lawful_merge (Set value) (Add d) was is can = lawful_sum value (added d (Some value)) was
-lawful_merge Remove (Add d) was is can = number_is_value d
+lawful_merge (Set value) (Add d) was is can = lawful_sum (Some value) (added d (Some value)) was
+lawful_merge Remove (Add d) was is can = lawful_sum None (added d None) tt
 lawful_merge (Add e) (Add d) was is can = can
 
 module _ (k : List ℕ) (change : Change) where

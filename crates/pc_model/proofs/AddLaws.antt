@@ -10,9 +10,9 @@ use Rattle.pc_types.specs.declared.Mode.TheVariants.{Exclusive}
 use Rattle.pc_types.specs.declared.Outcome.TheVariants.{Granted}
 use Rattle.pc_types.specs.declared.Refusal.{Refusal}
 use Rattle.pc_types.specs.declared.Refusal.TheVariants as why
-use Rattle.pc_types.specs.Changes.{added, can_add}
+use Rattle.pc_types.specs.Changes.{added, can_add, change_to}
 use Rattle.pc_model.specs.Maps.{get}
-use Rattle.pc_model.specs.Database.{Database, applied_all, change_to, write_of, with_write, written, seen}
+use Rattle.pc_model.specs.Database.{Database, applied_all, write_of, with_write, written, seen}
 use Rattle.pc_model.specs.Changes.{Applies, AllApply, AddsApply}
 use Rattle.pc_model.specs.Log.{after}
 use Rattle.pc_model.specs.History.{History, Effect, effect, contents, log_of, transaction_number_of, writes_of, writes_by, entries_by}

@@ -18,7 +18,7 @@ use Rattle.pc_model.specs.History.{History, writes_of, log_of, contents, begun, 
 use Rattle.pc_model.specs.Locks.{outcome, queue_of}
 use Rattle.pc_model.specs.Points.{taken}
 use Rattle.pc_model.specs.Files.{File, shelf, file_at, join_of}
-use Rattle.pc_model.specs.Replies.{Setting, closed_set, certain, or_else, is_empty, join_refusal, read_reply, by_outcome, TakesFirst, IsFileReply, Answers, IsLegal, IsLegalHistory, wrong_phase, seen_by, sum_reply}
+use Rattle.pc_model.specs.Replies.{Setting, closed_set, certain, or_else, is_empty, join_refusal, read_reply, by_outcome, TakesFirst, IsFileReply, Answers, IsLegal, IsLegalHistory, wrong_phase, seen_by, sum_or_zero}
 
 -- the Took of the first key, with what the database has
 abbrev pub take_reply : List (List ℕ) → Database → Reply
@@ -36,7 +36,7 @@ answer st history (asked.Get s key) =
     by_outcome (outcome (queue_of key history) (transaction_number_of s history) Shared) (read_reply (seen (written (writes_of s history) key) (map_of.get (contents st.base history) key)))
 answer st history (asked.Put s key value) = by_outcome (outcome (queue_of key history) (transaction_number_of s history) Exclusive) told.Ok
 answer st history (asked.Del s key) = by_outcome (outcome (queue_of key history) (transaction_number_of s history) Exclusive) told.Ok
-answer st history (asked.Add s key delta) = by_outcome (outcome (queue_of key history) (transaction_number_of s history) Exclusive) (sum_reply (added delta (seen_by st s key history)))
+answer st history (asked.Add s key delta) = by_outcome (outcome (queue_of key history) (transaction_number_of s history) Exclusive) (told.Sum (sum_or_zero (added delta (seen_by st s key history))))
 answer st history (asked.Commit s) = told.Committed (length (log_of history) + 1)
 answer st history (asked.Abort s) = told.Aborted
 answer st history asked.StartPoint = told.Phase phase.Prepare (point_of history + 1)

@@ -1,12 +1,13 @@
 -- Two changes of a key in a row are the merged one, and one more write of a transaction does what it does after all others.
 use Rattle.std.proofs.Common.{◌≡◌, ℕ, List, [], ◌∷◌, refl, sym, ap, subst, ◌∙◌, cond, Bool, true, false, Option, Some, None, is_some}
-use Rattle.std.specs.Prelude.{ℤ, pos, ◌+ℤ◌, if◌then◌else◌}
+use Rattle.std.specs.Prelude.{ℤ, ◌+ℤ◌, if◌then◌else◌}
+use Rattle.std.specs.Option.{option_and_then}
 use Rattle.std.proofs.lemmas.Cmp.{eq_by_cmp_equiv}
 use Rattle.pc_types.specs.declared.Change.{Change}
 use Rattle.pc_types.specs.declared.Change.TheVariants.{Set, Remove, Add}
 use Rattle.pc_types.specs.declared.Write.{Write}
-use Rattle.pc_types.specs.Changes.{fits_i64, number_text, content_number, sum_of, sum_if, added, or_same, changed_content, set_to, merged}
-use Rattle.pc_types.proofs.NumberLaws.{fits_is, read_back, none_is, is_sum, assoc, from_zero}
+use Rattle.pc_types.specs.Changes.{fits_i64, number_text, content_number, sum_of, added, or_same, changed_content, change_to, merged}
+use Rattle.pc_types.proofs.NumberLaws.{fits_is, read_back, is_sum, assoc}
 use Rattle.pc_model.specs.Maps.{get}
 use Rattle.pc_model.specs.Database.{Database, key_order, same_bytes, applied, applied_all, write_of, with_write, written, seen}
 use Rattle.pc_model.specs.DistinctWrites.{AreDistinct}
@@ -19,26 +20,19 @@ use Rattle.pc_model.proofs.DistinctWriteLaws.{distinct_with, seen_of}
 abbrev pub Merges : Change → Change → Option (List ℕ) → Type 0
 Merges a b there = (changed_content (merged a b) there ≡ changed_content b (changed_content a there)) × Applies (merged a b) there
 
--- an add after a value
-on_value : (v : List ℕ) (there : Option (List ℕ)) (o : Option ℤ) → (changed_content (set_to v o) there ≡ or_same (Some v) o) × Applies (set_to v o) there
-on_value v there None = (refl, tt)
-on_value v there (Some n) = (refl, tt)
-
--- an add after a removal
-on_none : (d : ℤ) (there : Option (List ℕ)) → is_some (added d None) ≡ true → Merges Remove (Add d) there
-on_none d there some =
-    let is : added d None ≡ sum_of (pos 0) d = ap (λ o. sum_if o d) none_is in
-    let sum = is_sum (pos 0) d (sym (ap is_some is) ∙ some) in
-    (sym (ap (or_same None) (is ∙ sum.0) ∙ ap (λ n. Some (number_text n)) (from_zero d)), tt)
+-- what leaves a content does so whatever was there
+on_value : (content there : Option (List ℕ)) → (changed_content (change_to content) there ≡ content) × Applies (change_to content) there
+on_value None there = (refl, tt)
+on_value (Some v) there = (refl, tt)
 
 -- an add after an add
-on_add : (e d : ℤ) (there : Option (List ℕ)) (o : Option ℤ) → content_number there ≡ o → is_some (sum_if o e) ≡ true → is_some (added d (or_same there (sum_if o e))) ≡ true →
-    (or_same there (sum_if o (e +ℤ d)) ≡ or_same (or_same there (sum_if o e)) (added d (or_same there (sum_if o e)))) × (is_some (sum_if o (e +ℤ d)) ≡ true)
+on_add : (e d : ℤ) (there : Option (List ℕ)) (o : Option ℤ) → content_number there ≡ o → is_some (option_and_then (λ x. sum_of x e) o) ≡ true → is_some (added d (or_same there (option_and_then (λ x. sum_of x e) o))) ≡ true →
+    (or_same there (option_and_then (λ x. sum_of x (e +ℤ d)) o) ≡ or_same (or_same there (option_and_then (λ x. sum_of x e) o)) (added d (or_same there (option_and_then (λ x. sum_of x e) o)))) × (is_some (option_and_then (λ x. sum_of x (e +ℤ d)) o) ≡ true)
 on_add e d there None is first second = cc
 on_add e d there (Some n) is first second =
     let one = is_sum n e first in
     let then_ : or_same there (sum_of n e) ≡ Some (number_text (n +ℤ e)) = ap (or_same there) one.0 in
-    let more : added d (or_same there (sum_of n e)) ≡ sum_of (n +ℤ e) d = ap (added d) then_ ∙ ap (λ o. sum_if o d) (read_back (n +ℤ e) (fits_is (n +ℤ e) one.1)) in
+    let more : added d (or_same there (sum_of n e)) ≡ sum_of (n +ℤ e) d = ap (added d) then_ ∙ ap (option_and_then (λ x. sum_of x d)) (read_back (n +ℤ e) (fits_is (n +ℤ e) one.1)) in
     let two = is_sum (n +ℤ e) d (sym (ap is_some more) ∙ second) in
     let all : sum_of n (e +ℤ d) ≡ Some ((n +ℤ e) +ℤ d) = ap (λ z. if fits_i64 z then Some z else None) (sym (assoc n e d)) ∙ two.0 in
     (ap (or_same there) all ∙ sym (ap (or_same (or_same there (sum_of n e))) (more ∙ two.0)), ap is_some all)
@@ -46,8 +40,8 @@ on_add e d there (Some n) is first second =
 pub merge : (a b : Change) (there : Option (List ℕ)) → Applies a there → Applies b (changed_content a there) → Merges a b there
 merge a (Set v) there first second = (refl, tt)
 merge a Remove there first second = (refl, tt)
-merge (Set v) (Add d) there first second = on_value v there (added d (Some v))
-merge Remove (Add d) there first second = on_none d there second
+merge (Set v) (Add d) there first second = on_value (changed_content (Add d) (Some v)) there
+merge Remove (Add d) there first second = on_value (changed_content (Add d) None) there
 merge (Add e) (Add d) there first second = on_add e d there (content_number there) refl first second
 
 -- a change after the earlier one does what both do in a row

@@ -24,7 +24,7 @@ use Rattle.pc_types.specs.declared.Class.{Class}
 use Rattle.pc_types.specs.declared.Class.TheVariants.{Before, During, After}
 use Rattle.pc_model.specs.Locks.{is_waiting, outcome, queue_of}
 use Rattle.pc_model.specs.Files.{shelf, numbers_to}
-use Rattle.pc_model.specs.Replies.{Setting, is_in_phase, closed_set, is_empty, first_refusal, or_else, no_session, log_is_full, transaction_causes, not_yet, wrong_phase, held_back_reply, TakesFirst, certain, Answers, IsLegal, IsLegalHistory, write_causes, add_causes, seen_by, sum_reply, by_outcome}
+use Rattle.pc_model.specs.Replies.{Setting, is_in_phase, closed_set, is_empty, first_refusal, or_else, no_session, log_is_full, transaction_causes, not_yet, wrong_phase, held_back_reply, TakesFirst, certain, Answers, IsLegal, IsLegalHistory, write_causes, add_causes, seen_by, sum_or_zero, by_outcome}
 use Rattle.pc_model.specs.LegalEffects.{some_active, Fits, IsIdle, IsIdleIfAny}
 use Rattle.pc_types.specs.Phases.{same_phase}
 use Rattle.pc_model.specs.Standing.{HasLegalEffects}
@@ -134,9 +134,8 @@ module _ (st : Setting) (h : History) where
   take_fits reply [] is from first = absurd first
   take_fits reply (key ∷ keys) is from first = let P : Reply → Type 0 = (λ r. Fits st h (effect_of asked.Take r)) in subst P (sym first.1) (from, keys, is)
 
-  add_fits : (s : ℕ) (key : List ℕ) (delta : ℤ) (o : Outcome) (sum : Option ℤ) → (o ≡ Granted → can_add (written (writes_of s h) key) delta ≡ true) → Fits st h (effect_of_add s key delta (by_outcome o (sum_reply sum)))
-  add_fits s key delta Granted None may = tt
-  add_fits s key delta Granted (Some n) may = may refl
+  add_fits : (s : ℕ) (key : List ℕ) (delta : ℤ) (o : Outcome) (sum : ℤ) → (o ≡ Granted → can_add (written (writes_of s h) key) delta ≡ true) → Fits st h (effect_of_add s key delta (by_outcome o (told.Sum sum)))
+  add_fits s key delta Granted sum may = may refl
   add_fits s key delta Queued sum may = tt
   add_fits s key delta Died sum may = tt
 
@@ -148,7 +147,7 @@ module _ (st : Setting) (h : History) where
   legal_fits (asked.Del s key) reply legal = write_case (Fits st h) tt s key None reply (λ counts. tt) tt tt
   legal_fits (asked.Add s key delta) reply legal = elim (answer_or_refusal (write_causes st s key h ++ add_causes st s key delta h) (Answers st h (asked.Add s key delta) reply) reply legal) [
     | inl answered ↦ let P : Reply → Type 0 = (λ r. Fits st h (effect_of (asked.Add s key delta) r)) in
-        subst P (sym answered.1) (add_fits s key delta (outcome (queue_of key h) (transaction_number_of s h) Exclusive) (added delta (seen_by st s key h)) (λ granted. (add_stands st h s key delta answered.0 granted).1))
+        subst P (sym answered.1) (add_fits s key delta (outcome (queue_of key h) (transaction_number_of s h) Exclusive) (sum_or_zero (added delta (seen_by st s key h))) (λ granted. (add_stands st h s key delta answered.0 granted).1))
     | inr refused ↦ let P : Effect → Type 0 = Fits st h in subst P (sym (ap (effect_of (asked.Add s key delta)) refused.1 ∙ refused_does_nothing (asked.Add s key delta) refused.0)) tt
   ]
   legal_fits (asked.Commit s) reply legal =

@@ -9,12 +9,12 @@ use Rattle.pc_model.specs.Log.{state_at}
 use Rattle.pc_model.specs.History.{History, Effect, effect, log_of, writes_of, phase_of, point_of, entries_by, point_by, contents}
 use Rattle.pc_model.specs.History.Effect.{Commits, Moves, Shelves}
 use Rattle.pc_model.specs.Replies.{Setting, open_set}
-use Rattle.pc_model.specs.Headline.{is_taking}
+use Rattle.pc_model.specs.Headline.{is_taking, taken_keys}
 use Rattle.pc_model.specs.Standing.{HasLegalEffects, is_past_token}
 use Rattle.pc_model.proofs.LogPieceLaws.{state_at_kept}
 use Rattle.pc_model.proofs.LegalEffectLaws.{effect_fits}
 use Rattle.pc_model.specs.LegalEffects.{Fits}
-use Rattle.pc_model.proofs.StandingLaws.{HasStanding, has_standing, in_phase, keys_taken, past_token}
+use Rattle.pc_model.proofs.StandingLaws.{HasStanding, has_standing, in_phase, past_token}
 use Rattle.pc_model.proofs.LogLaws.{after-append}
 use Rattle.pc_model.proofs.Tokens.{lacks_own}
 use Rattle.pc_model.proofs.QuietContents.{at_token}
@@ -63,4 +63,4 @@ sealed_state st h step legal n is = by_effect (effect step) is (effect_fits st h
         at_seal : Fits st h (Moves Resolve n) → state_at st.base (log_of h ++ Token Resolve n ∷ []) n ≡ contents st.base h
         at_seal fits =
             let begun = in_phase h s Prepare fits.0 in
-            rw fits.1 (sym (at_token st.base (point_of h) (log_of h) (begun.begun refl) (lacks_own (point_of h) (log_of h) (open_set h) (keys_taken h) begun)) ∙ after-append st.base (log_of h) (Token Resolve (point_of h) ∷ []))
+            rw fits.1 (sym (at_token st.base (point_of h) (log_of h) (begun.begun refl) (lacks_own (point_of h) (log_of h) (open_set h) (taken_keys h) begun)) ∙ after-append st.base (log_of h) (Token Resolve (point_of h) ∷ []))

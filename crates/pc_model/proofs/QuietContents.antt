@@ -17,7 +17,8 @@ use Rattle.pc_model.proofs.LogLaws.{after-append}
 use Rattle.pc_model.proofs.LogPieceLaws.{front_past, state_at_kept}
 use Rattle.pc_model.proofs.LegalEffectLaws.{effect_fits, one_phase}
 use Rattle.pc_model.proofs.Tokens.{lacks_own}
-use Rattle.pc_model.proofs.StandingLaws.{has_standing, in_phase, keys_taken, past_token}
+use Rattle.pc_model.specs.Headline.{taken_keys}
+use Rattle.pc_model.proofs.StandingLaws.{has_standing, in_phase, past_token}
 
 both : (a b : Bool) → (a && b) ≡ true → (a ≡ true) × (b ≡ true)
 both true b e = (refl, e)
@@ -61,7 +62,7 @@ module _ (st : Setting) (h : History) (legal : HasLegalEffects st h) (quiet : Is
   quiet_by (Moves Prepare n) fits past = cc
   quiet_by (Moves Resolve n) fits past =
       let s = in_phase h (has_standing st h legal) Prepare fits.0 in
-      rw fits.1 (at_token st.base (point_of h) (log_of h) (s.begun refl) (lacks_own (point_of h) (log_of h) (open_set h) (keys_taken h) s))
+      rw fits.1 (at_token st.base (point_of h) (log_of h) (s.begun refl) (lacks_own (point_of h) (log_of h) (open_set h) (taken_keys h) s))
   quiet_by (Moves Capture n) fits past = rw fits.1 (stays (Token Capture (point_of h) ∷ []) (λ db. refl) (ap is_past_token fits.0))
   quiet_by (Moves Complete n) fits past = absurd fits
   quiet_by (Shelves n) fits past = rw fits.1 (stays (Token Complete (point_of h) ∷ []) (λ db. refl) (ap is_past_token fits.0))

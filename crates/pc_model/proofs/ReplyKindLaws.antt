@@ -22,7 +22,7 @@ use Rattle.pc_model.specs.History.{History, is_open, begun, writes_of, transacti
 use Rattle.pc_model.specs.Points.{taken}
 use Rattle.pc_model.specs.Files.{File, shelf, file_at, join_of}
 use Rattle.pc_model.specs.Locks.{outcome, queue_of}
-use Rattle.pc_model.specs.Replies.{Setting, first_refusal, or_else, no_session, is_full, log_is_full, transaction_causes, write_causes, not_yet, wrong_phase, held_back_reply, closed_set, is_empty, join_causes, read_reply, by_outcome, TakesFirst, IsFileReply, IsLegal, add_causes, seen_by, sum_reply}
+use Rattle.pc_model.specs.Replies.{Setting, first_refusal, or_else, no_session, is_full, log_is_full, transaction_causes, write_causes, not_yet, wrong_phase, held_back_reply, closed_set, is_empty, join_causes, read_reply, by_outcome, TakesFirst, IsFileReply, IsLegal, add_causes, seen_by, sum_or_zero}
 use Rattle.pc_model.specs.ReplyKinds.{IsBeginReply, IsGetReply, IsWriteReply, IsCommitReply, IsAbortReply, IsMoveReply, IsTakeReply, IsDoneReply, IsJoinReply, IsReplyTo, IsAddReply}
 use Rattle.pc_model.proofs.CertainReplies.{answer_or_kind, by_either, by_causes, by_phase, by_count, by_held}
 
@@ -50,9 +50,8 @@ write_kind Granted = tt
 write_kind Queued = tt
 write_kind Died = tt
 
-add_kind : (o : Outcome) (sum : Option ℤ) → IsAddReply (by_outcome o (sum_reply sum))
-add_kind Granted None = tt
-add_kind Granted (Some n) = tt
+add_kind : (o : Outcome) (sum : ℤ) → IsAddReply (by_outcome o (told.Sum sum))
+add_kind Granted sum = tt
 add_kind Queued sum = tt
 add_kind Died sum = tt
 
@@ -88,8 +87,8 @@ reply_kind st h (asked.Del s key) r legal =
     legal_kind IsWriteReply (λ w. tt) (write_causes st s key h) (r ≡ by_outcome o told.Ok) r (as_told IsWriteReply (by_outcome o told.Ok) r (write_kind o)) legal
 reply_kind st h (asked.Add s key delta) r legal =
     let o = outcome (queue_of key h) (transaction_number_of s h) Exclusive in
-    let sum = added delta (seen_by st s key h) in
-    legal_kind IsAddReply (λ w. tt) (write_causes st s key h ++ add_causes st s key delta h) (r ≡ by_outcome o (sum_reply sum)) r (as_told IsAddReply (by_outcome o (sum_reply sum)) r (add_kind o sum)) legal
+    let sum = sum_or_zero (added delta (seen_by st s key h)) in
+    legal_kind IsAddReply (λ w. tt) (write_causes st s key h ++ add_causes st s key delta h) (r ≡ by_outcome o (told.Sum sum)) r (as_told IsAddReply (by_outcome o (told.Sum sum)) r (add_kind o sum)) legal
 reply_kind st h (asked.Commit s) r legal =
     let answer : Reply = told.Committed (length (log_of h) + 1) in
     legal_kind IsCommitReply (λ w. tt) (transaction_causes st s h ++ (log_is_full h, why.LogFull) ∷ []) (r ≡ answer) r (as_told IsCommitReply answer r tt) legal

@@ -1,7 +1,7 @@
 -- In a legal history each committed transaction has read correctly: while it is open, no other commit changes what it
 -- has read, since it holds a lock there.
 use Rattle.pc_types.specs.Changes.{added}
-use Rattle.std.proofs.Common.{◌≡◌, ℕ, List, [], ◌∷◌, ◌++◌, append-nil, eqb, not, ◌||◌, Option, Some, None, is_some, refl, sym, ap, subst, ◌∙◌, cond, Bool, true, false, ◌⊎◌, inl, inr, arith}
+use Rattle.std.proofs.Common.{◌≡◌, ℕ, List, [], ◌∷◌, ◌++◌, append-nil, eqb, not, ◌||◌, Option, Some, None, is_some, is_none, refl, sym, ap, subst, ◌∙◌, cond, Bool, true, false, ◌⊎◌, inl, inr, arith}
 use Rattle.std.specs.Prelude.{⊤, MatchOption, IfSome, MatchBool, ℤ}
 use Rattle.std.proofs.lemmas.Bool.Decides.{nat_tests}
 use Rattle.std.proofs.lemmas.Cmp.{eq_by_cmp_equiv}
@@ -26,11 +26,12 @@ use Rattle.pc_types.specs.declared.Outcome.TheVariants.{Granted, Queued, Died}
 use Rattle.pc_model.specs.Points.{is_among}
 use Rattle.pc_model.specs.Reads.{HasRightReads, HasReadFrom, ReadBy, RightBy}
 use Rattle.pc_model.specs.Standing.{HasLegalEffects}
-use Rattle.pc_model.specs.Replies.{Setting, first_refusal, or_else, transaction_causes, write_causes, too_many, is_full, log_is_full, no_session, read_reply, by_outcome, Answers, IsLegal, IsLegalHistory, add_causes, seen_by, sum_reply}
+use Rattle.pc_model.specs.Replies.{Setting, first_refusal, or_else, transaction_causes, write_causes, too_many, is_full, log_is_full, no_session, read_reply, by_outcome, Answers, IsLegal, IsLegalHistory, add_causes, seen_by, sum_or_zero}
 use Rattle.pc_model.proofs.EffectLaws.{refused_does_nothing, first_refusal_refuses, no_first, no_other}
 use Rattle.pc_model.proofs.EffectCases.{move_case, take_case, done_case, join_case}
 use Rattle.pc_model.proofs.CertainReplies.{answer_or_refusal}
 use Rattle.pc_model.proofs.LegalEffectLaws.{turned, legal_has_legal_effects}
+use Rattle.pc_model.proofs.AddLaws.{add_stands}
 use Rattle.pc_model.proofs.LogLaws.{after-append}
 use Rattle.pc_model.proofs.WrittenKeyLaws.{unwritten_stays}
 use Rattle.pc_model.proofs.Holding.{alone}
@@ -76,12 +77,12 @@ module _ (st : Setting) (history : History) where
   write_sound s key content Queued may is = ((may, is), tt)
   write_sound s key content Died may is = (tt, tt)
 
-  sum_sound : (s : ℕ) (key : List ℕ) (delta : ℤ) (o : Outcome) (sum : Option ℤ) → MayAsk s history → outcome (queue_of key history) (transaction_number_of s history) Exclusive ≡ o →
-      added delta (seen_by st s key history) ≡ sum → IsSound st.base history (effect_of_add s key delta (by_outcome o (sum_reply sum)))
-  sum_sound s key delta Granted None may is right = (tt, tt)
-  sum_sound s key delta Granted (Some n) may is right = ((may, is), right)
-  sum_sound s key delta Queued sum may is right = ((may, is), tt)
-  sum_sound s key delta Died sum may is right = (tt, tt)
+  sum_sound : (s : ℕ) (key : List ℕ) (delta : ℤ) (o : Outcome) (sum : Option ℤ) → (o ≡ Granted → is_none sum ≡ false) → MayAsk s history → outcome (queue_of key history) (transaction_number_of s history) Exclusive ≡ o →
+      added delta (seen_by st s key history) ≡ sum → IsSound st.base history (effect_of_add s key delta (by_outcome o (told.Sum (sum_or_zero sum))))
+  sum_sound s key delta Granted None some may is right = absurd (let no : true ≡ false = some refl in cc)
+  sum_sound s key delta Granted (Some n) some may is right = ((may, is), right)
+  sum_sound s key delta Queued sum some may is right = ((may, is), tt)
+  sum_sound s key delta Died sum some may is right = (tt, tt)
 
   begin_sound : (s : ℕ) (reply : Reply) → IsLegal st history (asked.Begin s) reply → IsSound st.base history (effect_of (asked.Begin s) reply)
   begin_sound s reply legal =
@@ -137,7 +138,7 @@ module _ (st : Setting) (history : History) where
   legal_sound (asked.Add s key delta) reply legal = elim (answer_or_refusal (write_causes st s key history ++ add_causes st s key delta history) (Answers st history (asked.Add s key delta) reply) reply legal) [
     | inl answered ↦ let P : Reply → Type 0 = (λ r. IsSound st.base history (effect_of (asked.Add s key delta) r)) in
         subst P (sym answered.1) (sum_sound s key delta (outcome (queue_of key history) (transaction_number_of s history) Exclusive) (added delta (seen_by st s key history))
-        (may_ask s ((too_many s key history, why.TooManyWrites) ∷ (is_full st key history, why.Full) ∷ add_causes st s key delta history) answered.0) refl refl)
+        (λ granted. (add_stands st history s key delta answered.0 granted).0) (may_ask s ((too_many s key history, why.TooManyWrites) ∷ (is_full st key history, why.Full) ∷ add_causes st s key delta history) answered.0) refl refl)
     | inr refused ↦ refused_sound st.base history (asked.Add s key delta) reply refused
   ]
   legal_sound (asked.Commit s) reply legal = elim (answer_or_refusal (transaction_causes st s history ++ (log_is_full history, why.LogFull) ∷ []) (Answers st history (asked.Commit s) reply) reply legal) [

@@ -11,7 +11,8 @@ use Rattle.pc_types.specs.declared.Refusal.TheVariants as why
 use Rattle.pc_types.specs.declared.Receipt.{Receipt}
 use Rattle.pc_types.specs.declared.Step.{Step}
 use Rattle.pc_types.specs.declared.Write.{Write}
-use Rattle.pc_model.specs.Database.{with_write, write_of, change_to}
+use Rattle.pc_types.specs.Changes.{change_to}
+use Rattle.pc_model.specs.Database.{with_write, write_of}
 use Rattle.pc_model.specs.History.{History, is_open, has_died}
 use Rattle.pc_model.specs.Locks.{is_waiting}
 use Rattle.pc_model.specs.Replies.{Setting, first_refusal, or_else, no_session, is_full, too_many, log_is_full, certain, Answers, IsLegal, IsLegalHistory, add_causes}

@@ -8,7 +8,8 @@ use Rattle.std.proofs.lemmas.Bool.Decides.{nat_tests}
 use Rattle.std.proofs.lemmas.Cmp.{eq_by_cmp_equiv}
 use Rattle.pc_types.specs.declared.Mode.{Mode}
 use Rattle.pc_types.specs.declared.Mode.TheVariants.{Shared, Exclusive}
-use Rattle.pc_model.specs.Database.{key_order, same_bytes, written, with_write, write_of, change_to}
+use Rattle.pc_types.specs.Changes.{change_to}
+use Rattle.pc_model.specs.Database.{key_order, same_bytes, written, with_write, write_of}
 use Rattle.pc_model.specs.History.{History, Effect, begun, begun_by, is_open, open_by, transaction_number_of, transaction_number_by, writes_of, writes_by}
 use Rattle.pc_model.specs.History.Effect.{Begins, Reads, Writes, Adds, Waits, Dies, Commits, Aborts, Moves, Takes, Shelves, Joins, Nothing}
 use Rattle.pc_types.specs.declared.Request.{Request}

@@ -19,13 +19,13 @@ use Rattle.pc_model.specs.Points.{Triples, touched, taken, part_of, joined, cont
 use Rattle.pc_model.specs.Files.{File, triples_taken, joined_file, file_at, join_of, shelved_by, shelf, conflict, numbers_to}
 use Rattle.pc_model.specs.Standing.{file_of_points, HasLegalEffects, IsOfItsPoints, JoinsWell, is_past_token}
 use Rattle.pc_model.specs.Replies.{Setting, closed_set}
-use Rattle.pc_model.specs.Headline.{TakesPointValue, IsMade, HasHeadline}
+use Rattle.pc_model.specs.Headline.{TakesPointValue, IsMade, HasHeadline, taken_keys}
 use Rattle.pc_model.specs.Headline.IsMade.{Shelved, Joined}
 use Rattle.pc_model.proofs.LogPieceLaws.{has_token-append}
 use Rattle.std.proofs.lemmas.Cmp.{eq_by_cmp_equiv}
 use Rattle.pc_model.proofs.LegalEffectLaws.{effect_fits}
 use Rattle.pc_model.specs.LegalEffects.{Fits}
-use Rattle.pc_model.proofs.StandingLaws.{has_standing, each_key_once, keys_taken, past_token}
+use Rattle.pc_model.proofs.StandingLaws.{has_standing, each_key_once, past_token}
 use Rattle.pc_model.proofs.TakenValues.{taken_values, triples_are}
 use Rattle.pc_model.proofs.ContentLaws.{one_number, contains-items, contains-union, content-union, IsOrdered, part_stays, content_stays, one_of_numbers, laid_content, no_conflict}
 
@@ -141,8 +141,8 @@ module _ (st : Setting) (h : History) (legal : HasLegalEffects st h) (values : T
       own : has_token (point_of h) (log_of h) ≡ true
       own = past_token st h legal (ap is_past_token at)
 
-      all_taken : keys_taken h ≡ touched (point_of h) (log_of h)
-      all_taken = sym (append-nil (keys_taken h)) ∙ ap (λ left. keys_taken h ++ left) (sym none) ∙ (each_key_once st h legal).taken_and_left own
+      all_taken : taken_keys h ≡ touched (point_of h) (log_of h)
+      all_taken = sym (append-nil (taken_keys h)) ∙ ap (λ left. taken_keys h ++ left) (sym none) ∙ (each_key_once st h legal).taken_and_left own
 
       triples : triples_taken (point_of h) (taken h) ≡ content st.base (log_of h ++ more) (set.items {o = number_order} (set.insert set.empty (point_of h)))
       triples = triples_are (point_of h) (state_at st.base (log_of h) (point_of h)) (taken h) (taken_values st h legal values (ap is_past_token at))

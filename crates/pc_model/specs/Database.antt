@@ -7,7 +7,6 @@ use Rattle.std.specs.FinMap.{slice_cmp-IsAntisymmetric, nat_cmp-IsAntisymmetric,
 use Rattle.pc_model.specs.Maps.{Order, Map, get, insert, remove, code, from_list}
 use Rattle.std.specs.Coded.{Coded, coded_list, coded_ℕ}
 use Rattle.pc_types.specs.declared.Change.{Change}
-use Rattle.pc_types.specs.declared.Change.TheVariants.{Set, Remove}
 use Rattle.pc_types.specs.declared.Write.{Write}
 use Rattle.pc_types.specs.Changes.{changed_content, merged}
 
@@ -48,11 +47,6 @@ applied db write = put db write.key (changed_content write.change (get db write.
 abbrev pub applied_all : Database → List Write → Database
 applied_all db [] = db
 applied_all db (write ∷ writes) = applied_all (applied db write) writes
-
--- a key is set to a value, or removed
-abbrev pub change_to : Option (List ℕ) → Change
-change_to None = Remove
-change_to (Some value) = Set value
 
 -- a write of this change
 abbrev pub write_of : List ℕ → Change → Write

@@ -20,13 +20,25 @@ is_taking Resolve = true
 is_taking Capture = true
 is_taking other = false
 
+-- the log has the token of the present point
+abbrev pub is_sealed : History → Bool
+is_sealed history = has_token (point_of history) (log_of history)
+
+-- the keys that the present point's part is to have
+abbrev pub touched_now : History → List (List ℕ)
+touched_now history = touched (point_of history) (log_of history)
+
+-- those of them that were taken, in order
+abbrev pub taken_keys : History → List (List ℕ)
+taken_keys history = map (λ t. t.0) (taken history)
+
 -- Each key once: after the point's token the keys taken and those left are together the touched ones, in their order, and
 -- outside resolve and capture none is left, so all were taken. No touched key is there twice.
 pub record TakesEachKeyOnce (history : History) : Type 0 where
-  pub taken_and_left : IsTrue (has_token (point_of history) (log_of history)) → map (λ t. t.0) (taken history) ++ closed_set history ≡ touched (point_of history) (log_of history)
+  pub taken_and_left : IsTrue (is_sealed history) → taken_keys history ++ closed_set history ≡ touched_now history
   pub none_left : IsFalse (is_taking (phase_of history)) → closed_set history ≡ []
-  pub all_taken : IsTrue (has_token (point_of history) (log_of history)) → IsFalse (is_taking (phase_of history)) → map (λ t. t.0) (taken history) ≡ touched (point_of history) (log_of history)
-  pub once : IsDistinct same_bytes (touched (point_of history) (log_of history))
+  pub all_taken : IsTrue (is_sealed history) → IsFalse (is_taking (phase_of history)) → taken_keys history ≡ touched_now history
+  pub once : IsDistinct same_bytes (touched_now history)
 
 -- if this effect is a Take, its content is what the key has in the state of the point
 abbrev pub ValueBy : Database → Effect → History → Type 0

@@ -16,7 +16,8 @@ use Rattle.pc_types.specs.declared.Event.TheVariants as asked
 use Rattle.pc_types.specs.declared.Reply.{Reply}
 use Rattle.pc_types.specs.declared.Reply.TheVariants as told
 use Rattle.pc_types.specs.declared.Step.{Step}
-use Rattle.pc_model.specs.Database.{Database, change_to, write_of, with_write}
+use Rattle.pc_types.specs.Changes.{change_to}
+use Rattle.pc_model.specs.Database.{Database, write_of, with_write}
 use Rattle.pc_model.specs.Log.{after}
 
 -- a history: the steps of a run so far, each an event with its reply, the last one first

@@ -1,5 +1,5 @@
 -- The legal replies to an event after a history: first the refusals in their order, then the answer.
-use Rattle.std.specs.Prelude.{◌≡◌, ℕ, ◌+◌, ◌==◌, ◌&&◌, ◌||◌, not, nat_lt, Bool, true, false, List, [], ◌∷◌, ◌++◌, Option, Some, None, if◌then◌else◌, map, filter, length, MatchOption, ◌⊎◌, ⊤, is_some, is_none, ℤ}
+use Rattle.std.specs.Prelude.{◌≡◌, ℕ, ◌+◌, ◌==◌, ◌&&◌, ◌||◌, not, nat_lt, Bool, true, false, List, [], ◌∷◌, ◌++◌, Option, Some, None, if◌then◌else◌, map, filter, length, MatchOption, ◌⊎◌, ⊤, is_some, is_none, ℤ, pos}
 use Rattle.pc_types.specs.Changes.{added, can_add}
 use Rattle.pc_types.specs.Changes as change
 use Rattle.pc_types.specs.Phases.{same_phase, same_class}
@@ -203,10 +203,10 @@ abbrev pub read_reply : Option (List ℕ) → Reply
 read_reply None = told.Absent
 read_reply (Some value) = told.Found value
 
--- the reply to an add that gives this; if there is no sum it is refused
-abbrev pub sum_reply : Option ℤ → Reply
-sum_reply None = told.Refused why.OutOfRange
-sum_reply (Some sum) = told.Sum sum
+-- the sum that an add gives; where its request is granted and no refusal is certain there is one
+abbrev pub sum_or_zero : Option ℤ → ℤ
+sum_or_zero None = pos 0
+sum_or_zero (Some sum) = sum
 
 -- the reply by the outcome of the request: this one if it is granted
 abbrev pub by_outcome : Outcome → Reply → Reply
@@ -232,7 +232,7 @@ Answers st history (asked.Get s key) reply =
 Answers st history (asked.Put s key value) reply = reply ≡ by_outcome (outcome (queue_of key history) (transaction_number_of s history) Exclusive) told.Ok
 Answers st history (asked.Del s key) reply = reply ≡ by_outcome (outcome (queue_of key history) (transaction_number_of s history) Exclusive) told.Ok
 Answers st history (asked.Add s key delta) reply =
-    reply ≡ by_outcome (outcome (queue_of key history) (transaction_number_of s history) Exclusive) (sum_reply (added delta (seen_by st s key history)))
+    reply ≡ by_outcome (outcome (queue_of key history) (transaction_number_of s history) Exclusive) (told.Sum (sum_or_zero (added delta (seen_by st s key history))))
 Answers st history (asked.Commit s) reply = reply ≡ told.Committed (length (log_of history) + 1)
 Answers st history (asked.Abort s) reply = ⊥
 Answers st history asked.StartPoint reply = reply ≡ told.Phase phase.Prepare (point_of history + 1)

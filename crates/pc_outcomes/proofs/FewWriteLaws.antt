@@ -2,7 +2,7 @@
 use Rattle.std.proofs.Common.{◌≡◌, ℕ, ◌+◌, ◌≤◌, ◌⊎◌, inl, inr, eqb, not, ◌&&◌, Bool, true, false, cond, List, [], ◌∷◌, ◌++◌, length, Option, Some, None, is_some, All, refl, sym, subst, arith}
 use Rattle.std.proofs.lemmas.Bool.Decides.{nat_tests}
 use Rattle.std.proofs.lemmas.List.Elements.{All-nil, All-cons, All-append}
-use Rattle.pc_types.specs.Changes.{merged}
+use Rattle.pc_types.specs.Changes.{merged, change_to}
 use Rattle.pc_types.specs.declared.Change.TheVariants.{Add}
 use Rattle.pc_types.specs.declared.Entry.TheVariants.{Commit, Token}
 use Rattle.pc_types.specs.declared.Event.{Event}
@@ -12,7 +12,7 @@ use Rattle.pc_types.specs.declared.Reply.{Reply}
 use Rattle.pc_types.specs.declared.Refusal.TheVariants as why
 use Rattle.pc_types.specs.declared.Write.{Write}
 use Rattle.pc_types.specs.declared.limits.TheConstants.{MOST_WRITES}
-use Rattle.pc_model.specs.Database.{change_to, same_bytes, with_write, write_of, written}
+use Rattle.pc_model.specs.Database.{same_bytes, with_write, write_of, written}
 use Rattle.pc_model.specs.FewWrites.{HasFewWrites}
 use Rattle.pc_model.specs.History.{History, Effect, effect, effect_of, entries_by, log_of, writes_by, writes_of}
 use Rattle.pc_model.specs.History.Effect.{Begins, Writes, Commits, Moves, Shelves}

@@ -1,5 +1,5 @@
 -- The outcome that an add would have.
-use Rattle.std.specs.Prelude.{◌≡◌, ℕ, ◌&&◌, ◌||◌, not, Bool, false, true, List, [], ◌∷◌, Option, Some, None, is_none, ℤ, pos}
+use Rattle.std.specs.Prelude.{◌≡◌, ℕ, ◌&&◌, ◌||◌, not, Bool, false, true, List, [], ◌∷◌, Option, Some, None, is_none, ℤ}
 use Rattle.pc_types.specs.declared.Change.{Change}
 use Rattle.pc_types.specs.declared.Outcome.{Outcome}
 use Rattle.pc_types.specs.declared.Outcome.TheVariants.{Granted}
@@ -23,11 +23,6 @@ AddProceeds full o there own delta (Some sum) = (full ≡ false) × (o ≡ Grant
 -- it is refused for this: the first cause that applies
 abbrev pub IsRefusedFor : Bool → Outcome → Option (List ℕ) → Option Change → ℤ → Refusal → Type 0
 IsRefusedFor full o there own delta r = first_refusal ((full, why.Full) ∷ sum_causes o there own delta) ≡ Some (told.Refused r)
-
--- the sum, or 0 if there is none
-abbrev pub sum_or_zero : Option ℤ → ℤ
-sum_or_zero None = pos 0
-sum_or_zero (Some sum) = sum
 
 -- what the sum leaves in the key's place, if there is one
 abbrev pub value_of_sum : Option ℤ → Option (List ℕ)

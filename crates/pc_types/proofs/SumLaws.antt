@@ -2,8 +2,9 @@
 use Rattle.std.proofs.Common.{◌≡◌, ◌<◌, ℕ, length, arith, List, refl, sym, ap, ◌∙◌, Bool, true, false, Option, Some, None, is_some, SomeIff}
 use Rattle.std.specs.Prelude.{ℤ, pos, ◌+ℤ◌, FitsSigned, ◌==◌, if◌then◌else◌}
 use Rattle.std.specs.Int.{w64, cast_signed, from_be_bytes}
+use Rattle.std.specs.Option.{option_and_then}
 use Rattle.std.proofs.lemmas.Bool.Decides.{nat_tests}
-use Rattle.pc_types.specs.Changes.{fits_i64, value_number, content_number, sum_of, sum_if}
+use Rattle.pc_types.specs.Changes.{fits_i64, value_number, content_number, sum_of, added}
 use Rattle.pc_types.proofs.NumberLaws.{fits_is, is_fit, none_is, from_zero}
 
 -- an answer that is the sum if and only if it fits
@@ -32,8 +33,8 @@ pub more : (value : List ℕ) → 8 < length value → content_number (Some valu
 more value many = apart value (grind (arith, nat_tests))
 
 -- nothing with a number added to it is that number
-pub zero_with : (d : ℤ) → FitsSigned w64 d → Some d ≡ sum_if (content_number None) d
-zero_with d f = sym (ap (λ o. sum_if o d) none_is ∙ by_sum (pos 0 +ℤ d) (from_zero d))
+pub zero_with : (d : ℤ) → FitsSigned w64 d → Some d ≡ added d None
+zero_with d f = sym (ap (option_and_then (λ n. sum_of n d)) none_is ∙ by_sum (pos 0 +ℤ d) (from_zero d))
   where
     by_sum : (z : ℤ) → z ≡ d → (if fits_i64 z then Some z else None) ≡ Some d
     by_sum z e = ap (λ x. if fits_i64 x then Some x else None) e ∙ ap (λ t. if t then Some d else None) (is_fit d f)

@@ -1,4 +1,5 @@
 -- The effect of a write on its key: the key is set, removed, or a signed number is added to the one that it has.
+use Rattle.std.specs.Option.{option_and_then}
 use Rattle.std.specs.Prelude.{◌≡◌, ℕ, ◌==◌, ◌^◌, nat_lt, Bool, true, List, length, Option, Some, None, if◌then◌else◌, ℤ, pos, negsuc, ◌+ℤ◌}
 use Rattle.std.specs.Int.{w64, to_be_bytes, from_be_bytes, cast_signed, cast_unsigned}
 use Rattle.pc_types.specs.declared.changes.Change.{Change}
@@ -26,14 +27,9 @@ content_number (Some value) = if length value == 8 then Some (value_number value
 abbrev pub sum_of : ℤ → ℤ → Option ℤ
 sum_of a b = if fits_i64 (a +ℤ b) then Some (a +ℤ b) else None
 
--- the same if there may be no first number
-abbrev pub sum_if : Option ℤ → ℤ → Option ℤ
-sum_if None d = None
-sum_if (Some n) d = sum_of n d
-
 -- what an add makes of what the key has: the new number, or none if it has no number or the sum doesn't fit
 abbrev pub added : ℤ → Option (List ℕ) → Option ℤ
-added d there = sum_if (content_number there) d
+added d there = option_and_then (λ n. sum_of n d) (content_number there)
 
 -- the value of this number, or else what was there
 abbrev pub or_same : Option (List ℕ) → Option ℤ → Option (List ℕ)
@@ -46,22 +42,19 @@ changed_content (Set value) there = Some value
 changed_content Remove there = None
 changed_content (Add d) there = or_same there (added d there)
 
--- a set value with a number added to it, if that can be
-abbrev pub set_to : List ℕ → Option ℤ → Change
-set_to value None = Set value
-set_to value (Some n) = Set (number_text n)
+-- the change that leaves the key with this content, whatever it had
+abbrev pub change_to : Option (List ℕ) → Change
+change_to None = Remove
+change_to (Some value) = Set value
 
--- an add after an earlier change of its key, as one change
-abbrev pub added_to : Change → ℤ → Change
-added_to (Set value) d = set_to value (added d (Some value))
-added_to Remove d = Set (number_text d)
-added_to (Add e) d = Add (e +ℤ d)
-
--- a change after an earlier one of its key, as one change
+-- A change after an earlier one of its key, as one change: an add after a value or a removal leaves what the add makes of that, and
+-- two adds add the sum of both numbers.
 abbrev pub merged : Change → Change → Change
 merged before (Set value) = Set value
 merged before Remove = Remove
-merged before (Add d) = added_to before d
+merged (Set value) (Add d) = change_to (changed_content (Add d) (Some value))
+merged Remove (Add d) = change_to (changed_content (Add d) None)
+merged (Add e) (Add d) = Add (e +ℤ d)
 
 -- whether an add can be kept as one change with the earlier change of its key, if there is one: the sum of two adds must fit
 abbrev pub can_add : Option Change → ℤ → Bool

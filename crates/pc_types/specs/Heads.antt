@@ -1,5 +1,7 @@
 -- The first bytes of a key as one number.
-use Rattle.std.specs.Prelude.{ℕ, zero, suc, ◌+◌, ◌*◌, ◌/◌, ◌^◌, List, [], ◌∷◌, drop}
+use Rattle.std.specs.Prelude.{ℕ, zero, suc, ◌+◌, ◌*◌, ◌/◌, ◌^◌, List, [], ◌∷◌}
+use Rattle.pc_types.specs.declared.limits.TheConstants.{SPACE_BYTES}
+use Rattle.pc_types.specs.Keys.{own_bytes}
 
 -- the number of that many digits of base 256 after n: the bytes, and after the last of them zeros
 abbrev pub base_256_value : ℕ → ℕ → List ℕ → ℕ
@@ -15,4 +17,4 @@ headed (suc space) own = 2 ^ 63 + (suc space * 2 ^ 47 + own / 2 ^ 17)
 
 -- the head of a key, as of one with zeros after it
 abbrev pub head : List ℕ → ℕ
-head key = headed (base_256_value 2 0 key) (base_256_value 8 0 (drop 2 key))
+head key = headed (base_256_value SPACE_BYTES 0 key) (base_256_value 8 0 (own_bytes key))

@@ -6,6 +6,7 @@ use Rattle.std.specs.Int.{w16, to_be_bytes, from_be_bytes}
 use Rattle.std.specs.declared.cmp.Ordering.{Ordering}
 use Rattle.std.specs.Ordering.{nat_cmp, ordering_then}
 use Rattle.std.specs.Cmp.Lexicographic.{slice_cmp}
+use Rattle.pc_types.specs.declared.limits.TheConstants.{SPACE_BYTES}
 use Rattle.pc_types.specs.Bytes.{IsBytes}
 
 -- the key of these bytes in a space
@@ -14,11 +15,11 @@ key_of space own = to_be_bytes w16 space ++ own
 
 -- the space of a key
 abbrev pub space_of : List ℕ → ℕ
-space_of key = from_be_bytes w16 (take 2 key)
+space_of key = from_be_bytes w16 (take SPACE_BYTES key)
 
 -- the bytes of a key's own
 abbrev pub own_bytes : List ℕ → List ℕ
-own_bytes key = drop 2 key
+own_bytes key = drop SPACE_BYTES key
 
 -- the order of a space and own bytes: by space, and in one space byte by byte
 abbrev pub pair_cmp : ℕ × List ℕ → ℕ × List ℕ → Ordering
@@ -34,4 +35,4 @@ KeysArePairs = (space : ℕ) (own : List ℕ) → space < 2 ^ 16 → (space_of (
 
 -- Each list of at least two bytes is made of its space and its own bytes.
 abbrev pub PairsAreKeys : Type 0
-PairsAreKeys = (key : List ℕ) → IsBytes key → 2 ≤ length key → (space_of key < 2 ^ 16) × (key_of (space_of key) (own_bytes key) ≡ key)
+PairsAreKeys = (key : List ℕ) → IsBytes key → SPACE_BYTES ≤ length key → (space_of key < 2 ^ 16) × (key_of (space_of key) (own_bytes key) ≡ key)

@@ -1,6 +1,7 @@
 //! Writes, and what each does to its key.
 ghost use Rattle.std.specs.Prelude.{◌≡◌, IfOk, option_copied, Some, true, is_some};
-ghost use Rattle.pc_types.specs.Changes.{fits_i64, content_number, added, added_to, can_add, merged, CanMerge};
+ghost use Rattle.pc_types.specs.Changes.{fits_i64, content_number, added, can_add, merged, CanMerge};
+ghost use Rattle.pc_types.specs.declared.changes.Change.TheVariants.{Add};
 
 use crate::keys::Key;
 use crate::values::Value;
@@ -55,7 +56,7 @@ impl Change {
     // An add is merged with this earlier change of its key.
     fn add(&mut self, alloc: Global, delta: i64)
         requires { can_add (Some self.old) delta ≡ true }
-        ensures { self.new ≡ added_to self.old delta }
+        ensures { self.new ≡ merged self.old (Add delta) }
     {
         match self {
             Change::Set(value) => {

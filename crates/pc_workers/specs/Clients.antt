@@ -3,7 +3,8 @@ use Rattle.pc_types.specs.declared.Change.TheVariants as change
 use Rattle.std.specs.Prelude.{◌≡◌, ◌++◌, ℕ, Bool, true, false, List, [], ◌∷◌, Some, None, length, map}
 use Rattle.pc_types.specs.declared.Receipt.{Receipt}
 use Rattle.pc_types.specs.declared.Write.{Write}
-use Rattle.pc_model.specs.Database.{with_write, change_to, write_of}
+use Rattle.pc_types.specs.Changes.{change_to}
+use Rattle.pc_model.specs.Database.{with_write, write_of}
 use Rattle.pc_model.specs.History.{is_open}
 use Rattle.pc_model.specs.Receipts.{own_of}
 use Rattle.pc_model.specs.Replies.{Setting}

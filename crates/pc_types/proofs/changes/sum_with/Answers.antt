@@ -1,15 +1,16 @@
 use Rattle.std.proofs.Common.{◌≡◌, Some, sym, ap, ◌∙◌, length, arith, FitsSigned}
 use Rattle.std.specs.Int.{w64, cast_signed, cast_unsigned, from_be_bytes}
+use Rattle.std.specs.Option.{option_and_then}
 use Rattle.std.proofs.lemmas.Int.{to_z-of_z}
-use Rattle.pc_types.specs.Changes.{content_number, sum_of, sum_if}
+use Rattle.pc_types.specs.Changes.{content_number, sum_of}
 use Rattle.pc_types.proofs.SumLaws.{sum_is, eight, fewer, more}
 use Rattle.pc_types.proofs.changes.sum_with.Goals as goal
 
 pub returns-in_default : goal.returns-in_default
-returns-in_default c = sym (ap (λ o. sum_if o c.args.delta) (fewer c.args.bytes.now (omega (arith, c.in_default.len_below))))
+returns-in_default c = sym (ap (option_and_then (λ n. sum_of n c.args.delta)) (fewer c.args.bytes.now (omega (arith, c.in_default.len_below))))
 
 pub returns-in_default-2 : goal.returns-in_default-2
-returns-in_default-2 c = sym (ap (λ o. sum_if o c.args.delta) (more c.args.bytes.now (omega (arith, c.in_default.len_at_least))))
+returns-in_default-2 c = sym (ap (option_and_then (λ n. sum_of n c.args.delta)) (more c.args.bytes.now (omega (arith, c.in_default.len_at_least))))
 
 pub returns-in-len8 : goal.returns-in-len8
 returns-in-len8 c =
@@ -19,4 +20,4 @@ returns-in-len8 c =
     let number : content_number (Some c.args.bytes.now) ≡ Some (cast_signed w64 (cast_unsigned w64 c.from_be_bytes.result)) = eight c.args.bytes.now long ∙ ap Some (sym (to_z-of_z w64 c.from_be_bytes.result inside ∙ read)) in
     sum_is (cast_signed w64 (cast_unsigned w64 c.from_be_bytes.result)) (cast_signed w64 (cast_unsigned w64 c.args.delta)) c.checked_add.result c.checked_add.ensures
     ∙ ap (sum_of (cast_signed w64 (cast_unsigned w64 c.from_be_bytes.result))) (to_z-of_z w64 c.args.delta c.ranges.delta)
-    ∙ ap (λ o. sum_if o c.args.delta) (sym number)
+    ∙ ap (option_and_then (λ n. sum_of n c.args.delta)) (sym number)
