@@ -44,7 +44,7 @@ if __name__ == "__main__":
     sys.path.insert(0, os.path.join(os.path.dirname(os.path.abspath(__file__)), "..", ".."))
 
 from tools import ROOT
-from tools.house import reach, rounds
+from tools.house import check_edits, reach, rounds
 from tools.house.gate_times import crates_of
 
 RECORD = os.path.join(ROOT, "tools", "house", "tried")
@@ -267,6 +267,11 @@ def chosen_of(words, is_since):
     return {name: bodies for name, bodies in chosen.items() if bodies}
 
 
+def faults_in(chosen):
+    """Why some of the chosen bodies can't be tried: an edit of another form, or one that changes nothing, isn't a body that was proved."""
+    return [f"{name}/{it}: {fault}" for name, bodies in chosen.items() for it in bodies for fault in check_edits.faults_of(path_of(name, it))]
+
+
 def main():
     reader = argparse.ArgumentParser(description=__doc__, formatter_class=argparse.RawDescriptionHelpFormatter)
     reader.add_argument("names", nargs="*")
@@ -279,7 +284,11 @@ def main():
         return list_states()
     if given.known:
         return list_forgotten()
-    return try_all(chosen_of(given.names, given.since), given.lanes)
+    chosen = chosen_of(given.names, given.since)
+    faults = faults_in(chosen)
+    if faults:
+        sys.exit("\n".join(faults))
+    return try_all(chosen, given.lanes)
 
 
 if __name__ == "__main__":

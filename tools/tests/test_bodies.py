@@ -6,7 +6,7 @@ from unittest import mock
 
 from support import InFolder
 
-from tools.house import gate_times, reach, spec_guide, try_bodies, try_meetings
+from tools.house import check_edits, gate_times, reach, spec_guide, try_bodies, try_meetings
 
 EDIT = "file: src/lib.rt\nold: 1\nnew: 2\npromise: one\n"
 SOURCE = """\
@@ -25,7 +25,7 @@ class Bodies(InFolder):
 
     def setUp(self):
         super().setUp()
-        self.move(gate_times, reach, spec_guide, try_bodies)
+        self.move(check_edits, gate_times, reach, spec_guide, try_bodies)
         self.write("crates.txt", "pc_low: std\npc_mid: pc_low\npc_high: pc_mid\n")
         self.write("crates/pc_low/src/lib.rt", SOURCE)
         self.write("crates/pc_mid/src/lib.rt", SOURCE.replace("low", "mid"))
@@ -60,6 +60,11 @@ class Bodies(InFolder):
         self.noted(ONE, HIGH)
         self.assertEqual(try_bodies.chosen_of([], True), {"pc_high": ["one"]})
         self.assertEqual(try_bodies.chosen_of([], False), {"pc_low": ["one"], "pc_high": ["one", "two"]})
+
+    def test_an_edit_of_another_form_is_not_tried(self):
+        self.assertEqual(try_bodies.faults_in({"pc_low": ["one"], "pc_high": ["two"]}), [])
+        self.write("crates/pc_low/tried/one.edit", EDIT + "  + 1\n")
+        self.assertEqual(try_bodies.faults_in({"pc_low": ["one"], "pc_high": ["two"]}), ["pc_low/one: a line of another form:   + 1"])
 
     def test_the_list_and_its_sums(self):
         self.noted(ONE)
