@@ -1,6 +1,6 @@
 -- The faults that end a run that has begun.
 use Rattle.std.proofs.Common.{◌≡◌, ◌⊎◌, inl, inr, ℕ, ◌<◌, ◌≤◌, Bool, true, false, List, [], ◌∷◌, ◌++◌, All, Option, Some, None, length, length-append, refl, sym, subst, ◌∙◌, arith}
-use Rattle.std.specs.Prelude.{⊤, IsTrue, ◌||◌, is_some}
+use Rattle.std.specs.Prelude.{IsTrue, ◌||◌, is_some}
 use Rattle.std.specs.List.{flat_map}
 use Rattle.pc_types.specs.declared.limits.TheConstants.{MOST_KEYS}
 use Rattle.pc_types.specs.declared.refusal.Refusal.{Refusal}
@@ -19,9 +19,9 @@ use Rattle.pc_texts.proofs.StatePairLaws.{pairs_of}
 use Rattle.pc_outcomes.specs.Leaving.{IsUntoldAfter, has_point}
 use Rattle.pc_shared.specs.Sitters.{Sitter, HasAll, IsEndOf}
 use Rattle.pc_threads.specs.Clients.{HaveWorked, IsFresh, clients_in, jobs_of, transactions_in}
-use Rattle.pc_threads.specs.Faults.{IsFileLost, IsThreadsEnd, MayRefuse, lost_file_fault}
+use Rattle.pc_threads.specs.Faults.{IsFileLost, IsThreadsEnd, lost_file_fault}
 use Rattle.pc_threads.proofs.StopLaws.{some_failed}
-use Rattle.pc_threads.specs.Files.{HasWritten}
+use Rattle.pc_threads.specs.Files.{HasWritten, RefusedBy, RefusesNoMore}
 use Rattle.pc_threads.specs.declared.fault.ThreadsFault.{ThreadsFault}
 use Rattle.pc_threads.specs.declared.fault.ThreadsFault.TheVariants as fault
 use Rattle.pc_threads.specs.declared.stop.ThreadsStop.{ThreadsStop}
@@ -50,15 +50,6 @@ log_there holds contents blank base (Some folder) (Some log) begun = refl
 log_there holds contents blank base None (Some log) begun = absurd begun
 log_there holds contents blank base (Some folder) None begun = absurd begun
 
--- a file that was lost for a reason of its folder was lost for one of such a folder
-pub lost_for_one : {D T : Type 0} (refuses : D → FileName → Refusal → Type 0) (folder : D) (name : FileName) (failures : ℕ) (given : FileFault T) → IsFileLost (refuses folder) name failures given → IsFileLost (MayRefuse refuses) name failures given
-lost_for_one refuses folder name failures (lost.Unmade file why) is = (is.0, (folder, is.1))
-lost_for_one refuses folder name failures (lost.Failed file) is = is
-
-pub begin_lost_for_one : {D T : Type 0} (refuses : D → FileName → Refusal → Type 0) (folder : D) (given : FileFault T) → IsBeginLost (refuses folder) given → IsBeginLost (MayRefuse refuses) given
-begin_lost_for_one refuses folder given (inl is) = inl (lost_for_one refuses folder Base 0 given is)
-begin_lost_for_one refuses folder given (inr (why, is, refused)) = inr (why, is, (folder, refused))
-
 module _ (refuses : FileName → Refusal → Type 0) where
   -- a lost file of a run was refused for such a reason, or has counted a failed call
   abbrev pub IsLost : {T : Type 0} → FileFault T → Type 0
@@ -73,16 +64,29 @@ module _ (refuses : FileName → Refusal → Type 0) where
   begin_lost given (inl is) = file_lost Base 0 given is
   begin_lost {T} given (inr (why, is, refused)) = subst (IsLost {T = T}) (sym is) refused
 
-  pub log_lost : {D T : Type 0} (folder : Option D) (log : Option (Tally T)) (given : FileFault T) → IsLogLost refuses folder log given → IsLost given
-  log_lost (Some folder) (Some log) given is = file_lost Log log.failures given is
+module _ {D T : Type 0} (refuses : D → FileName → Refusal → Type 0) where
+  pub log_lost : (folder : Option D) (log : Option (Tally T)) (given : FileFault T) → IsLogLost refuses folder log given → IsLost (RefusedBy refuses folder) given
+  log_lost (Some folder) (Some log) given is = file_lost (refuses folder) Log log.failures given is
   log_lost (Some folder) None given is = absurd is
   log_lost None log given is = absurd is
 
   -- there is a folder if its log is lost
-  pub log_lost_there : {D T : Type 0} (folder : Option D) (log : Option (Tally T)) (given : FileFault T) → IsLogLost refuses folder log given → IsTrue (is_some folder)
+  pub log_lost_there : (folder : Option D) (log : Option (Tally T)) (given : FileFault T) → IsLogLost refuses folder log given → IsTrue (is_some folder)
   log_lost_there (Some folder) (Some log) given is = refl
   log_lost_there (Some folder) None given is = absurd is
   log_lost_there None log given is = absurd is
+
+-- what a later folder refuses, the earlier one refused
+module _ (old new : FileName → Refusal → Type 0) (no_more : RefusesNoMore old new) where
+  pub lost_before : {T : Type 0} (given : FileFault T) → IsLost new given → IsLost old given
+  lost_before (lost.Unmade file why) refused = no_more file why refused
+  lost_before (lost.Failed file) counted = counted
+
+  pub ends_before : {T : Type 0} (st : Setting) (workload : Workload) (a b : Bool) (given : ThreadsFault T) → a ≡ b → EndsRun new st workload a given → EndsRun old st workload b given
+  ends_before st workload a b (fault.Refused why) same end = end
+  ends_before st workload a b (fault.Unmade file why) same end = (subst IsTrue same end.0, no_more file why end.1)
+  ends_before st workload a b (fault.Failed file) same end = (subst IsTrue same end.0, end.1)
+  ends_before st workload a b fault.NoThread same end = end
 
 -- the folder is left if there was one
 pub folder_there : {D : Type 0} (holds : D → FileName → List ℕ → Type 0) (points : ℕ) (first later : Option D) (files : List File) → HasWritten holds points first later files → is_some later ≡ is_some first

@@ -46,8 +46,8 @@ abbrev pub IsBeginLost : {T : Type 0} → (FileName → Refusal → Type 0) → 
 IsBeginLost refuses lost = IsFileLost refuses Base 0 lost ⊎ ((why : Refusal) × (lost ≡ Unmade Log why) × refuses Log why)
 
 -- there is a folder, and the log's file was lost, of which as many calls had failed as the tally says
-abbrev pub IsLogLost : {D T : Type 0} → (FileName → Refusal → Type 0) → Option D → Option (Tally T) → FileFault T → Type 0
-IsLogLost refuses (Some folder) (Some log) lost = IsFileLost refuses Log log.failures lost
+abbrev pub IsLogLost : {D T : Type 0} → (D → FileName → Refusal → Type 0) → Option D → Option (Tally T) → FileFault T → Type 0
+IsLogLost refuses (Some folder) (Some log) lost = IsFileLost (refuses folder) Log log.failures lost
 IsLogLost refuses folder log lost = ⊥
 
 -- After the text that was written to the log's file the rest was, and the file is whole; the other files stay.

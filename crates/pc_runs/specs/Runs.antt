@@ -1,5 +1,5 @@
 -- A run of a workload: the state that its store starts from, the reading of its text, its output, why it may fail, and the report of that.
-use Rattle.std.specs.Prelude.{◌≡◌, ℕ, Bool, List, Option, Result, Err, [], is_some, IsOk, IfOk, IfSome, MatchOption, codes}
+use Rattle.std.specs.Prelude.{◌≡◌, ℕ, Bool, List, Option, Some, None, Result, Ok, Err, [], is_some, IsOk, IfOk, IfSome, MatchOption, codes}
 use Rattle.std.specs.Io.KnownBytes.{Appends}
 use Rattle.pc_io.specs.Counted.{HasRisen, AppendsBeginning}
 use Rattle.pc_io.specs.Tallies.{inner_of, failures_of}
@@ -23,6 +23,7 @@ use Rattle.pc_threads.specs.declared.fault.ThreadsFault.TheVariants as fault
 use Rattle.pc_runs.specs.declared.failure.RunFailure.{RunFailure}
 use Rattle.pc_runs.specs.declared.failure.RunFailure.TheVariants as failure
 use Rattle.pc_runs.specs.declared.files.RunFolder.{RunFolder}
+use Rattle.pc_runs.specs.declared.files.Unusable.{Unusable}
 use Rattle.pc_runs.specs.declared.files.Unusable.TheVariants as unusable
 use Rattle.pc_runs.specs.declared.origin.Origin.{Origin}
 use Rattle.pc_runs.specs.declared.origin.Start.{Start}
@@ -90,6 +91,16 @@ IsWorkloadReadAs remaining opened worth = IfOk opened (λ reader. IfSome (remain
 -- if there is a folder, it has a maker of files
 abbrev pub IsUsable : {D : Type 0} → Option (RunFolder D) → Type 0
 IsUsable folder = IfSome folder (λ f. IsOk f.files)
+
+-- its value, if it is one
+abbrev pub ok_of : {D : Type 0} → Result D Unusable → Option D
+ok_of (Ok files) = Some files
+ok_of (Err why) = None
+
+-- the maker of the folder's files, if there is a folder, and it has one
+abbrev pub maker_of : {D : Type 0} → Option (RunFolder D) → Option D
+maker_of None = None
+maker_of (Some folder) = ok_of folder.files
 
 -- there is a folder of this name, and this prevents files from being made there
 abbrev pub IsUnusable : {R S F D : Type 0} → Option (RunFolder D) → RunFailure R S F → Type 0

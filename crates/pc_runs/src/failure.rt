@@ -4,7 +4,7 @@ ghost use Rattle.std.specs.Io.KnownBytes.{Appends};
 ghost use Rattle.pc_io.specs.Counted.{HasRisen, AppendsBeginning};
 ghost use Rattle.pc_io.specs.Tallies.{inner_of, failures_of};
 ghost use Rattle.pc_outcomes.specs.Outcomes.{printed_text};
-ghost use Rattle.pc_runs.specs.Runs.{IsRunTold, IsUsable, IsUnusable};
+ghost use Rattle.pc_runs.specs.Runs.{IsRunTold, IsUsable, IsUnusable, maker_of};
 
 use crate::files::{RunFolder, Unusable, report_unmade};
 use pc_io::Tally;
@@ -55,6 +55,7 @@ pub fn usable<R, S, F, D: Drop>(
     folder: Option<RunFolder<D>>,
 ) -> Result<Option<D>, RunFailure<R, S, F>>
     ensures usable { OnOk result (IsUsable folder) }
+    ensures maker { IfOk result (λ files. files ≡ maker_of folder) }
     ensures there { IfOk result (λ files. is_some files ≡ is_some folder) }
     ensures unusable { IfErr result (IsUnusable folder) }
 {

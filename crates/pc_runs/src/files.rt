@@ -6,6 +6,7 @@ ghost use Rattle.pc_texts.specs.Files.{report_text};
 ghost use Rattle.pc_texts.specs.declared.file_names.FileName.TheVariants as file;
 ghost use Rattle.pc_texts.specs.FileNames.{name_of_file};
 ghost use Rattle.pc_threads.specs.Faults.{IsFileLost};
+ghost use Rattle.pc_threads.specs.Files.{RefusesNoMore};
 ghost use Rattle.pc_runs.specs.Folders.{IsBeginLost};
 
 use pc_bases::Base;
@@ -52,7 +53,8 @@ fn write_base<F: Write + Drop, D: NewFiles<F>>(
     base: &Base,
 ) -> Result<(), FileFault<F>>
     ensures whole { OnOk result (D.holds folder.new file.Base (base_text base.now)) }
-    ensures lost { IfErr result (IsFileLost (D.refuses folder.new) file.Base 0) }
+    ensures refusals { RefusesNoMore (D.refuses folder.old) (D.refuses folder.new) }
+    ensures lost { IfErr result (IsFileLost (D.refuses folder.old) file.Base 0) }
 {
     let mut file = make_file(folder, FileName::Base)?;
     match base.encode(&mut file) {
@@ -69,7 +71,8 @@ pub fn begin_files<F: Write + Drop, D: NewFiles<F>>(
 ) -> Result<Tally<F>, FileFault<F>>
     ensures base { OnOk result (D.holds folder.new file.Base (base_text base.now)) }
     ensures log { IfOk result (λ log. F.contents (inner_of log) ≡ D.blank) }
-    ensures lost { IfErr result (IsBeginLost (D.refuses folder.new)) }
+    ensures refusals { RefusesNoMore (D.refuses folder.old) (D.refuses folder.new) }
+    ensures lost { IfErr result (IsBeginLost (D.refuses folder.old)) }
 {
     write_base(folder, base)?;
     make_file(folder, FileName::Log)

@@ -3,10 +3,10 @@ ghost use Rattle.std.specs.Prelude.{◌≡◌, ◌⊎◌, ◌≤◌, ⊤, is_som
 ghost use Rattle.pc_types.specs.declared.limits.TheConstants.{MOST_KEYS, MOST_SESSIONS};
 ghost use Rattle.pc_shared.specs.Sitters.{new_sitters};
 ghost use Rattle.pc_threads.specs.Clients.{HaveSeats};
-ghost use Rattle.pc_threads.specs.Faults.{MayRefuse};
+ghost use Rattle.pc_threads.specs.Files.{RefusedBy, RefusesNoMore};
 ghost use Rattle.pc_runs.specs.Faults.{EndsRun};
 ghost use Rattle.pc_runs.specs.Folders.{HasBegunFiles, IsBeginLost};
-ghost use Rattle.pc_runs.specs.Runs.{RunBegins, IsOutputWritten, IsAnswer, IsCauseOfUnprinted, IsFailed, IsWorkloadRun, IsRunUnanswered, run_setting};
+ghost use Rattle.pc_runs.specs.Runs.{RunBegins, IsOutputWritten, IsAnswer, IsCauseOfUnprinted, IsFailed, IsWorkloadRun, IsRunUnanswered, maker_of, run_setting};
 
 use crate::crew::RunContext;
 use crate::failure::{RunFailure, print, usable};
@@ -76,7 +76,7 @@ pub fn run_workload<
     ensures opened { ¬ (result.status ≡ 1) → IsOk workload.opened }
     ensures printed { ¬ (result.status ≡ 1) → IsOutputWritten {F = F} R.remaining D.holds W.contents workload.opened folder (RunBegins S.remaining E.contents origin errors.old errors.new) out.old out.new result.folder result.status }
     ensures cause { result.status ≡ 1 → IsFailed E.contents workload.name.items errors.new result.failure
-        (λ between. IsCauseOfUnprinted (MayRefuse D.refuses) R.remaining D.holds W.contents workload.opened folder (RunBegins S.remaining E.contents origin errors.old between) out.old out.new) }
+        (λ between. IsCauseOfUnprinted (RefusedBy D.refuses (maker_of folder)) R.remaining D.holds W.contents workload.opened folder (RunBegins S.remaining E.contents origin errors.old between) out.old out.new) }
 {
     let NamedFile { name, opened } = workload;
     match run_opened(rt, context, opened, origin, folder, out, errors) {
@@ -113,7 +113,7 @@ fn run_opened<
 ) -> Result<Finished<R, S, D, F>, RunFailure<R, S, F>>
     ensures opened { OnOk result (IsOk opened) }
     ensures printed { IfOk result (λ finished. IsOutputWritten {F = F} R.remaining D.holds W.contents opened folder (RunBegins S.remaining E.contents origin errors.old errors.new) out.old out.new finished.folder finished.status) }
-    ensures cause { IfErr result (IsCauseOfUnprinted (MayRefuse D.refuses) R.remaining D.holds W.contents opened folder (RunBegins S.remaining E.contents origin errors.old errors.new) out.old out.new) }
+    ensures cause { IfErr result (IsCauseOfUnprinted (RefusedBy D.refuses (maker_of folder)) R.remaining D.holds W.contents opened folder (RunBegins S.remaining E.contents origin errors.old errors.new) out.old out.new) }
 {
     let (printed, folder) = answer(rt, context, opened, origin, folder, errors)?;
     print::<R, S, F, W>(&printed, out)?;
@@ -144,7 +144,7 @@ fn answer<
 ) -> Result<(Printed, Option<D>), RunFailure<R, S, F>>
     ensures opened { OnOk result (IsOk opened) }
     ensures answer { IfOk result (λ r. IsAnswer {F = F} R.remaining D.holds opened folder (RunBegins S.remaining E.contents origin errors.old errors.new) r.1 r.0) }
-    ensures cause { IfErr result (IsRunUnanswered (MayRefuse D.refuses) R.remaining opened folder (RunBegins S.remaining E.contents origin errors.old errors.new)) }
+    ensures cause { IfErr result (IsRunUnanswered (RefusedBy D.refuses (maker_of folder)) R.remaining opened folder (RunBegins S.remaining E.contents origin errors.old errors.new)) }
 {
     let alloc = context.alloc;
     let text = read_opened(alloc, opened)?;
@@ -185,7 +185,7 @@ fn run_read<
     requires capacity { (1 ≤ capacity) × (capacity ≤ MOST_KEYS) }
     requires seats { HaveSeats (new_sitters MOST_SESSIONS) workload.clients }
     ensures run { IfOk result (λ r. IsWorkloadRun D.holds (run_setting base capacity) workload (is_some folder) r.1 r.0) }
-    ensures ended { IfErr result (EndsRun (MayRefuse D.refuses) (run_setting base capacity) workload (is_some folder)) }
+    ensures ended { IfErr result (EndsRun (RefusedBy D.refuses folder) (run_setting base capacity) workload (is_some folder)) }
 {
     if base.pairs().len() > capacity as usize {
         return Err(ThreadsFault::Refused(Refusal::Full));
@@ -202,7 +202,8 @@ fn begin<F: Write + Drop, D: NewFiles<F> + Drop>(
 ) -> Result<(Option<D>, Option<Tally<F>>), FileFault<F>>
     ensures there { IfOk result (λ r. is_some r.0 ≡ is_some folder) }
     ensures begun { IfOk result (λ r. HasBegunFiles D.holds F.contents D.blank base.now r.0 r.1) }
-    ensures lost { IfErr result (λ lost. IsTrue (is_some folder) × IsBeginLost (MayRefuse D.refuses) lost) }
+    ensures refusals { IfOk result (λ r. RefusesNoMore (RefusedBy D.refuses folder) (RefusedBy D.refuses r.0)) }
+    ensures lost { IfErr result (λ lost. IsTrue (is_some folder) × IsBeginLost (RefusedBy D.refuses folder) lost) }
 {
     match folder {
         Some(mut folder) => {

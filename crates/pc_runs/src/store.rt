@@ -8,7 +8,7 @@ ghost use Rattle.pc_outcomes.specs.Leaving.{AreLeftAfter, IsLegacy, IsUntoldAfte
 ghost use Rattle.pc_shared.specs.Sitters.{Sitter, new_sitters};
 ghost use Rattle.pc_shared.specs.Written.{CountsAsOut};
 ghost use Rattle.pc_threads.specs.Clients.{HaveSeats, HaveWorked, clients_in};
-ghost use Rattle.pc_threads.specs.Faults.{MayRefuse};
+ghost use Rattle.pc_threads.specs.Files.{RefusedBy, RefusesNoMore};
 ghost use Rattle.pc_workers.specs.Checkpointing.{HasCycled};
 ghost use Rattle.pc_workers.specs.Covering.{HaveOnlyTo, HaveJustTo};
 ghost use Rattle.pc_workers.specs.Logging.{rest_text};
@@ -159,8 +159,9 @@ fn use_store<
     ensures clients { IfOk result (λ r. (more : List Sitter) × (r.0.sessions.items ≡ seating.idle.items ++ more) × HaveWorked N.name.setting (clients_in seating.workers.items) r.0.given_up more) }
     ensures cover { IfOk result (λ r. HaveJustTo room.now.points r.0.joined.items) }
     ensures written { IfOk result (λ r. HasWritten D.holds room.now.points checkpointer.folder r.0.folder r.0.written.items) }
+    ensures refusals { IfOk result (λ r. RefusesNoMore (RefusedBy D.refuses checkpointer.folder) (RefusedBy D.refuses r.0.folder)) }
     ensures logged { IfOk result (λ r. HasLogged F.contents N.name.setting.run logger.out r.1.out r.1.pass) }
-    ensures ended { IfErr result (StoreHasStopped (MayRefuse D.refuses) N.name.setting (is_some room.now.lag || is_some checkpointer.folder || is_some logger.out) seating.idle.items (clients_in seating.workers.items) room.now.points) }
+    ensures ended { IfErr result (StoreHasStopped (RefusedBy D.refuses checkpointer.folder) N.name.setting (is_some room.now.lag || is_some checkpointer.folder || is_some logger.out) seating.idle.items (clients_in seating.workers.items) room.now.points) }
 {
     let Seating { workers, idle } = seating;
     let (board, passes) = board;
@@ -211,7 +212,7 @@ pub fn run_store<
     requires begun { HasBegunFiles D.holds F.contents D.blank (base_of N.name.setting) folder log }
     requires counts { CountsAsOut F.contents N.out }
     ensures run { IfOk result (λ r. IsWorkloadRun D.holds N.name.setting workload (is_some folder) r.1 r.0) }
-    ensures ended { IfErr result (EndsRun (MayRefuse D.refuses) N.name.setting workload (is_some folder)) }
+    ensures ended { IfErr result (EndsRun (RefusedBy D.refuses folder) N.name.setting workload (is_some folder)) }
 {
     let (alloc, crew) = (context.alloc, &context.crew);
     let Workload { points, clients } = workload;
@@ -315,7 +316,7 @@ fn finish_log<N: StoreName, F: Write + Drop, D: NewFiles<F> + Drop>(
 ) -> Result<Option<D>, FileFault<F>>
     requires { closed.now.logged ≤ length closed.now.world.log }
     ensures finished { IfOk result (λ later. HasFinished D.holds F.contents D.blank (rest_text closed.now.logged closed.now.world.log) folder log later) }
-    ensures lost { IfErr result (IsLogLost (MayRefuse D.refuses) folder log) }
+    ensures lost { IfErr result (IsLogLost D.refuses folder log) }
 {
     match (folder, log) {
         (Some(mut folder), Some(mut log)) => {

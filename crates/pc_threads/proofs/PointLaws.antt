@@ -11,12 +11,12 @@ use Rattle.pc_workers.specs.Checkpointing.{Shows}
 use Rattle.pc_workers.specs.declared.checkpointing.CheckpointFault.{CheckpointFault}
 use Rattle.pc_threads.specs.Faults.{HasFullLog, IsPointsFaultOf, IsStop, IsThreadsEnd, PointsHaveStopped}
 use Rattle.pc_threads.specs.declared.fault.ThreadsFault.{ThreadsFault}
-use Rattle.pc_threads.specs.declared.fault.ThreadsFault.TheVariants as fault
 use Rattle.pc_threads.specs.declared.points.FullLog.{FullLog}
 use Rattle.pc_threads.specs.declared.points.PointsFault.{PointsFault}
 use Rattle.pc_threads.specs.declared.points.PointsFault.TheVariants as points
 use Rattle.pc_threads.specs.declared.points.TheConstants.{TOKENS}
-use Rattle.pc_threads.proofs.StopLaws.{more_end}
+use Rattle.pc_threads.specs.Files.{RefusesNoMore}
+use Rattle.pc_threads.proofs.StopLaws.{end_before, more_end}
 
 -- after a refusal of the store
 pub refused_stop : {N T : Type 0} (refuses : FileName → Refusal → Type 0) (st : Setting) (writes : Bool) (last : ℕ) (given : CheckpointFault N) (seat : History) (stop : PointsFault N T) → IsPointsFaultOf given seat stop → Shows st seat given.why given.seen → length (phases_entered seat) ≤ TOKENS * last
@@ -40,3 +40,8 @@ wider_log st some all full low has = record { legal = has.legal; is_full = has.i
 pub more_points : {N T : Type 0} (refuses : FileName → Refusal → Type 0) (st : Setting) (a b : Bool) (some all : ℕ) (stop : PointsFault N T) → (IsTrue a → IsTrue b) → some ≤ all → PointsHaveStopped refuses st a some stop → PointsHaveStopped refuses st b all stop
 more_points refuses st a b some all (points.LogFull full) on low stopped = wider_log st some all full low stopped
 more_points refuses st a b some all (points.Other why) on low stopped = more_end refuses a b 0 0 some all why on (omega arith) low stopped
+
+-- a folder's refusal that stops the points is one of an earlier folder
+pub points_before : {N T : Type 0} (old new : FileName → Refusal → Type 0) (st : Setting) (writes : Bool) (last : ℕ) (stop : PointsFault N T) → RefusesNoMore old new → PointsHaveStopped new st writes last stop → PointsHaveStopped old st writes last stop
+points_before old new st writes last (points.LogFull full) no_more stopped = stopped
+points_before old new st writes last (points.Other why) no_more stopped = end_before old new no_more writes 0 last why stopped

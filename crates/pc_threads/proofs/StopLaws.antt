@@ -24,7 +24,8 @@ use Rattle.pc_threads.specs.Clients.{HasDone, ClientHasStopped, HaveStopped, Hav
 use Rattle.pc_threads.specs.declared.files.FileFault.{FileFault}
 use Rattle.pc_threads.specs.declared.files.FileFault.TheVariants as lost
 use Rattle.pc_threads.specs.declared.threads.LogFault.{LogFault}
-use Rattle.pc_threads.specs.Faults.{IsFileLost, IsThreadsEnd, IsStop, IsWorkersStop, LogHasStopped, MayRefuse, ThreadsHaveStopped, lost_file_fault, lost_log_fault, stop_of_workers}
+use Rattle.pc_threads.specs.Faults.{IsFileLost, IsThreadsEnd, IsStop, IsWorkersStop, LogHasStopped, ThreadsHaveStopped, lost_file_fault, lost_log_fault, stop_of_workers}
+use Rattle.pc_threads.specs.Files.{RefusesNoMore}
 use Rattle.pc_threads.specs.declared.stop.ThreadsStop.{ThreadsStop}
 use Rattle.pc_threads.specs.declared.stop.ThreadsStop.TheVariants as stop
 
@@ -133,9 +134,21 @@ pub some_failed : (old new : ℕ) → HasRisen old new → 1 ≤ new
 some_failed old new risen = omega (arith, risen)
 
 -- a file that was lost ends it
-pub lost_ends : {D T : Type 0} (refuses : D → FileName → Refusal → Type 0) (folder : D) (name : FileName) (failures : ℕ) (given : FileFault T) → IsFileLost (refuses folder) name failures given → IsThreadsEnd (MayRefuse refuses) true 0 0 (lost_file_fault given)
-lost_ends refuses folder name failures (lost.Unmade file why) is = (refl, (folder, subst (λ (other : FileName). refuses folder other why) (sym is.0) is.1))
-lost_ends refuses folder name failures (lost.Failed file) risen = (refl, some_failed failures file.failures risen)
+pub lost_ends : {T : Type 0} (refuses : FileName → Refusal → Type 0) (name : FileName) (failures : ℕ) (given : FileFault T) → IsFileLost refuses name failures given → IsThreadsEnd refuses true 0 0 (lost_file_fault given)
+lost_ends refuses name failures (lost.Unmade file why) is = (refl, subst (λ (other : FileName). refuses other why) (sym is.0) is.1)
+lost_ends refuses name failures (lost.Failed file) risen = (refl, some_failed failures file.failures risen)
+
+-- what an earlier folder refused
+module _ (old new : FileName → Refusal → Type 0) (no_more : RefusesNoMore old new) where
+  pub lost_before : {T : Type 0} (name : FileName) (failures : ℕ) (given : FileFault T) → IsFileLost new name failures given → IsFileLost old name failures given
+  lost_before name failures (lost.Unmade file why) is = (is.0, no_more name why is.1)
+  lost_before name failures (lost.Failed file) risen = risen
+
+  pub end_before : {T : Type 0} (writes : Bool) (transactions points : ℕ) (given : ThreadsFault T) → IsThreadsEnd new writes transactions points given → IsThreadsEnd old writes transactions points given
+  end_before writes transactions points (fault.Refused why) end = end
+  end_before writes transactions points (fault.Unmade file why) end = (end.0, no_more file why end.1)
+  end_before writes transactions points (fault.Failed file) end = end
+  end_before writes transactions points fault.NoThread end = end
 
 -- why clients stop
 pub stopped_ends : (has_log : Bool) (clients : List Client) (given : Refusal) → HaveStopped has_log clients given → IsWorkersStop has_log (transactions_in clients) given

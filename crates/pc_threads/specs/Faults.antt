@@ -31,10 +31,6 @@ abbrev pub IsFileLost : {T : Type 0} → (FileName → Refusal → Type 0) → F
 IsFileLost refuses name failures (lost.Unmade file why) = (file ≡ name) × refuses name why
 IsFileLost refuses name failures (lost.Failed file) = HasRisen failures file.failures
 
--- a folder of this kind refuses the file of this name for this reason
-abbrev pub MayRefuse : {D : Type 0} → (D → FileName → Refusal → Type 0) → FileName → Refusal → Type 0
-MayRefuse {D} refuses name why = (folder : D) × refuses folder name why
-
 -- the fault of the run that a lost file is
 abbrev pub lost_file_fault : {T : Type 0} → FileFault T → ThreadsFault T
 lost_file_fault (lost.Unmade file why) = fault.Unmade file why

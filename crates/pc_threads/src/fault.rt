@@ -12,7 +12,7 @@ use std::alloc::{AllocError, AllocFailed};
 pub enum ThreadsFault<F> {
     /// An allocation failed, or another call was refused.
     Refused(Refusal),
-    /// The file can't be made, or can't be made whole, and a folder of its kind refuses it for this reason.
+    /// The file can't be made, or can't be made whole, and the folder refuses it for this reason.
     Unmade(FileName, Refusal),
     /// The device failed in a call of this file, which has counted the failure.
     Failed(Tally<F>),

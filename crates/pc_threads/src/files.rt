@@ -8,7 +8,7 @@ ghost use Rattle.pc_model.specs.Sets as set;
 ghost use Rattle.pc_part.specs.Texts.{part_text};
 ghost use Rattle.pc_texts.specs.declared.file_names.FileName.TheVariants as file;
 ghost use Rattle.pc_threads.specs.Faults.{IsFileLost};
-ghost use Rattle.pc_threads.specs.Files.{KeepsOtherFiles};
+ghost use Rattle.pc_threads.specs.Files.{KeepsOtherFiles, RefusesNoMore};
 ghost use Rattle.pc_threads.specs.declared.files.FileFault.TheVariants as FileFault;
 
 use crate::fault::ThreadsFault;
@@ -25,12 +25,12 @@ pub trait NewFiles<F: Write> {
     ghost use Rattle.std.specs.Io.KnownBytes.{Appends};
     ghost use Rattle.pc_types.specs.declared.refusal.Refusal.{Refusal};
     ghost use Rattle.pc_texts.specs.declared.file_names.FileName.{FileName};
-    ghost use Rattle.pc_threads.specs.Files.{KeepsOtherFiles};
+    ghost use Rattle.pc_threads.specs.Files.{KeepsOtherFiles, RefusesNoMore};
 
     // The folder has this text under this name.
     ghost holds: { Self → FileName → List ℕ → Type 0 };
 
-    // The folder refuses the file of this name for this reason, as it is made or as it becomes whole.
+    // The folder refuses the file of this name for this reason, as it is made or as it becomes whole. No call adds such a reason.
     ghost refuses: { Self → FileName → Refusal → Type 0 };
 
     // The known bytes of a file that was just made.
@@ -40,14 +40,16 @@ pub trait NewFiles<F: Write> {
     /// cause that prevents this.
     fn make(&mut self, name: &FileName) -> Result<F, Refusal>
         ensures blank { IfOk result (λ file. F.contents file ≡ blank) }
-        ensures refused { IfErr result (refuses self.new name.now) }
+        ensures refused { IfErr result (refuses self.old name.now) }
+        ensures refusals { RefusesNoMore (refuses self.old) (refuses self.new) }
         ensures others { KeepsOtherFiles (holds self.old) (holds self.new) name.now };
 
     /// All bytes of the file were written and flushed: from now on it is whole, if it wasn't before. The other files stay. Its
     /// error is the cause that prevents this.
     fn finish(&mut self, name: &FileName, file: F) -> Result<(), Refusal>
         ensures whole { OnOk result ((text : List ℕ) → Appends blank (F.contents file) text → holds self.new name.now text) }
-        ensures refused { IfErr result (refuses self.new name.now) }
+        ensures refused { IfErr result (refuses self.old name.now) }
+        ensures refusals { RefusesNoMore (refuses self.old) (refuses self.new) }
         ensures others { KeepsOtherFiles (holds self.old) (holds self.new) name.now };
 }
 
@@ -82,7 +84,8 @@ pub fn make_file<F: Write, D: NewFiles<F>>(
     ensures blank { IfOk result (λ file. F.contents (inner_of file) ≡ D.blank) }
     ensures fresh { IfOk result (λ file. failures_of file ≡ 0) }
     ensures others { KeepsOtherFiles (D.holds folder.old) (D.holds folder.new) name }
-    ensures unmade { IfErr result (λ lost. (why : Refusal) × (lost ≡ FileFault.Unmade name why) × D.refuses folder.new name why) }
+    ensures refusals { RefusesNoMore (D.refuses folder.old) (D.refuses folder.new) }
+    ensures unmade { IfErr result (λ lost. (why : Refusal) × (lost ≡ FileFault.Unmade name why) × D.refuses folder.old name why) }
 {
     match folder.make(&name) {
         Ok(file) => Ok(Tally::new(file)),
@@ -108,7 +111,8 @@ pub fn finish_file<F: Write + Drop, D: NewFiles<F>>(
 ) -> Result<(), FileFault<F>>
     ensures whole { OnOk result ((text : List ℕ) → Appends D.blank (F.contents (inner_of file)) text → D.holds folder.new name text) }
     ensures others { KeepsOtherFiles (D.holds folder.old) (D.holds folder.new) name }
-    ensures lost { IfErr result (IsFileLost (D.refuses folder.new) name (failures_of file)) }
+    ensures refusals { RefusesNoMore (D.refuses folder.old) (D.refuses folder.new) }
+    ensures lost { IfErr result (IsFileLost (D.refuses folder.old) name (failures_of file)) }
 {
     let mut file = file;
     if !flush_file(&mut file) {
@@ -130,7 +134,8 @@ pub fn write_part<F: Write + Drop, D: NewFiles<F>>(
     requires { part.now.points ≡ set.insert set.empty point }
     ensures whole { OnOk result (D.holds folder.new (file.Part point) (part_text part.now)) }
     ensures others { KeepsOtherFiles (D.holds folder.old) (D.holds folder.new) (file.Part point) }
-    ensures lost { IfErr result (IsFileLost (D.refuses folder.new) (file.Part point) 0) }
+    ensures refusals { RefusesNoMore (D.refuses folder.old) (D.refuses folder.new) }
+    ensures lost { IfErr result (IsFileLost (D.refuses folder.old) (file.Part point) 0) }
 {
     let mut file = make_file(folder, FileName::Part(point))?;
     match part.encode(&mut file) {

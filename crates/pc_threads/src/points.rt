@@ -5,8 +5,8 @@ ghost use Rattle.pc_types.specs.declared.limits.TheConstants.{MOST_POINTS};
 ghost use Rattle.pc_model.specs.History.{History, phase_of};
 ghost use Rattle.pc_workers.specs.Checkpointing.{HasCycled};
 ghost use Rattle.pc_texts.specs.declared.file_names.FileName.TheVariants as file;
-ghost use Rattle.pc_threads.specs.Faults.{IsPointsFaultOf, IsThreadsEnd, MayRefuse, PointsHaveStopped};
-ghost use Rattle.pc_threads.specs.Files.{HasParts, HasWritten};
+ghost use Rattle.pc_threads.specs.Faults.{IsPointsFaultOf, IsThreadsEnd, PointsHaveStopped};
+ghost use Rattle.pc_threads.specs.Files.{HasParts, HasWritten, RefusedBy, RefusesNoMore};
 
 use crate::fault::ThreadsFault;
 use crate::files::{NewFiles, write_part};
@@ -87,7 +87,8 @@ fn write_point<N: StoreName, F: Write + Drop, D: NewFiles<F>, G: Gate, R: Wait>(
     ensures count { OnOk result (length written.new.items ≡ length written.old.items + 1) }
     ensures base { (text : List ℕ) → D.holds folder.old file.Base text → D.holds folder.new file.Base text }
     ensures seat { seat.new ≡ seat.old }
-    ensures ended { 1 ≤ point → HasCycled N.name.setting point [] seat.old → IfErr result (IsThreadsEnd (MayRefuse D.refuses) true 0 0) }
+    ensures refusals { RefusesNoMore (D.refuses folder.old) (D.refuses folder.new) }
+    ensures ended { 1 ≤ point → HasCycled N.name.setting point [] seat.old → IfErr result (IsThreadsEnd (D.refuses folder.old) true 0 0) }
 {
     written.reserve(1)?;
     let number = FileNo(u32::from(point.0));
@@ -123,7 +124,8 @@ impl<'a, N: StoreName, D: Drop> Checkpointer<'a, N, D> {
         ensures cycle { IfOk result (λ later. HasCycled N.name.setting 1 self.entry.at_store later.at_store) }
         ensures written { (first : Option D) (before : ℕ) → before + 1 ≡ point → HasWritten D.holds before first self.entry.folder self.entry.written.items → IfOk result (λ later. HasWritten D.holds point first later.folder later.written.items) }
         ensures there { IfOk result (λ later. is_some later.folder ≡ is_some self.entry.folder) }
-        ensures ended { (before : ℕ) → before + 1 ≡ point → point ≤ MOST_POINTS → HasCycled N.name.setting before [] self.entry.at_store → IfErr result (PointsHaveStopped (MayRefuse D.refuses) N.name.setting (is_some self.entry.folder) point) }
+        ensures refusals { IfOk result (λ later. RefusesNoMore (RefusedBy D.refuses self.entry.folder) (RefusedBy D.refuses later.folder)) }
+        ensures ended { (before : ℕ) → before + 1 ≡ point → point ≤ MOST_POINTS → HasCycled N.name.setting before [] self.entry.at_store → IfErr result (PointsHaveStopped (RefusedBy D.refuses self.entry.folder) N.name.setting (is_some self.entry.folder) point) }
     {
         let Checkpointer {
             mut at_store,
@@ -179,7 +181,8 @@ pub(crate) fn take_points<
     ensures cycles { (first : History) → HasCycled N.name.setting taken first checkpointer.entry.at_store → IfOk result (λ later. HasCycled N.name.setting last first later.at_store) }
     ensures written { (first : Option D) → HasWritten D.holds taken first checkpointer.entry.folder checkpointer.entry.written.items → IfOk result (λ later. HasWritten D.holds last first later.folder later.written.items) }
     ensures there { IfOk result (λ later. is_some later.folder ≡ is_some checkpointer.entry.folder) }
-    ensures ended { HasCycled N.name.setting taken [] checkpointer.entry.at_store → IfErr result (PointsHaveStopped (MayRefuse D.refuses) N.name.setting (is_some checkpointer.entry.folder) last) }
+    ensures refusals { IfOk result (λ later. RefusesNoMore (RefusedBy D.refuses checkpointer.entry.folder) (RefusedBy D.refuses later.folder)) }
+    ensures ended { HasCycled N.name.setting taken [] checkpointer.entry.at_store → IfErr result (PointsHaveStopped (RefusedBy D.refuses checkpointer.entry.folder) N.name.setting (is_some checkpointer.entry.folder) last) }
 {
     let mut checkpointer = checkpointer;
     for others in taken..last {

@@ -6,7 +6,8 @@ ghost use Rattle.pc_model.specs.History.{phase_of};
 ghost use Rattle.pc_shared.specs.Written.{CountsAsOut};
 ghost use Rattle.pc_workers.specs.Covering.{HaveOnlyTo};
 ghost use Rattle.pc_threads.specs.Clients.{HaveWorked, clients_in, transactions_in};
-ghost use Rattle.pc_threads.specs.Faults.{IsWorkersStop, LogHasStopped, MayRefuse, ThreadsHaveStopped};
+ghost use Rattle.pc_threads.specs.Faults.{IsWorkersStop, LogHasStopped, ThreadsHaveStopped};
+ghost use Rattle.pc_threads.specs.Files.{RefusedBy, RefusesNoMore};
 ghost use Rattle.pc_threads.specs.Logs.{HasLogged};
 ghost use Rattle.pc_threads.specs.Rested.{IsLeftByHands, IsLeftByWorkers};
 
@@ -259,7 +260,8 @@ fn run_workers<
 ) -> Result<Worked<N, D>, ThreadsStop<N, F>>
     requires rest { phase_of checkpointer.at_store ≡ Rest }
     ensures left { IfOk result (IsLeftByWorkers D.holds N.name.setting room.now.points workers.items checkpointer.entry) }
-    ensures ended { checkpointer.entry.at_store ≡ [] → IfErr result (ThreadsHaveStopped (MayRefuse D.refuses) N.name.setting (is_some room.now.lag || is_some checkpointer.entry.folder) (clients_in workers.items) room.now.points) }
+    ensures refusals { IfOk result (λ left. RefusesNoMore (RefusedBy D.refuses checkpointer.entry.folder) (RefusedBy D.refuses left.folder)) }
+    ensures ended { checkpointer.entry.at_store ≡ [] → IfErr result (ThreadsHaveStopped (RefusedBy D.refuses checkpointer.entry.folder) N.name.setting (is_some room.now.lag || is_some checkpointer.entry.folder) (clients_in workers.items) room.now.points) }
 {
     let handles = Vec::with_capacity(room.desk.alloc, workers.len())?;
     let (points, has_log) = (room.points, room.lag.is_some());
@@ -271,7 +273,8 @@ fn run_workers<
             requires has_log { has_log ≡ is_some room.now.lag }
             requires rest { phase_of checkpointer.at_store ≡ Rest }
             ensures left { IfOk result (IsLeftByWorkers D.holds N.name.setting points workers.items checkpointer.entry) }
-            ensures ended { checkpointer.entry.at_store ≡ [] → IfErr result (ThreadsHaveStopped (MayRefuse D.refuses) N.name.setting (has_log || is_some checkpointer.entry.folder) (clients_in workers.items) points) }
+            ensures refusals { IfOk result (λ left. RefusesNoMore (RefusedBy D.refuses checkpointer.entry.folder) (RefusedBy D.refuses left.folder)) }
+            ensures ended { checkpointer.entry.at_store ≡ [] → IfErr result (ThreadsHaveStopped (RefusedBy D.refuses checkpointer.entry.folder) N.name.setting (has_log || is_some checkpointer.entry.folder) (clients_in workers.items) points) }
         {
             let mut handles = handles;
             for worker in workers {
@@ -311,7 +314,8 @@ fn run_hands<
 ) -> Result<Rested<N, D>, ThreadsStop<N, F>>
     requires rest { phase_of hands.checkpointer.at_store ≡ Rest }
     ensures left { IfOk result (IsLeftByHands D.holds N.name.setting room.now.points hands.entry.workers.items hands.entry.checkpointer) }
-    ensures ended { hands.entry.checkpointer.at_store ≡ [] → IfErr result (ThreadsHaveStopped (MayRefuse D.refuses) N.name.setting (is_some room.now.lag || is_some hands.entry.checkpointer.folder) (clients_in hands.entry.workers.items) room.now.points) }
+    ensures refusals { IfOk result (λ left. RefusesNoMore (RefusedBy D.refuses hands.entry.checkpointer.folder) (RefusedBy D.refuses left.worked.folder)) }
+    ensures ended { hands.entry.checkpointer.at_store ≡ [] → IfErr result (ThreadsHaveStopped (RefusedBy D.refuses hands.entry.checkpointer.folder) N.name.setting (is_some room.now.lag || is_some hands.entry.checkpointer.folder) (clients_in hands.entry.workers.items) room.now.points) }
 {
     let Hands {
         checkpointer,
@@ -329,7 +333,8 @@ fn run_hands<
             requires points { points ≡ room.now.points }
             requires rest { phase_of checkpointer.at_store ≡ Rest }
             ensures left { IfOk result (IsLeftByHands D.holds N.name.setting room.entry.now.points workers.items checkpointer.entry) }
-            ensures ended { checkpointer.entry.at_store ≡ [] → IfErr result (ThreadsHaveStopped (MayRefuse D.refuses) N.name.setting (is_some room.entry.now.lag || is_some checkpointer.entry.folder) (clients_in workers.items) room.entry.now.points) }
+            ensures refusals { IfOk result (λ left. RefusesNoMore (RefusedBy D.refuses checkpointer.entry.folder) (RefusedBy D.refuses left.worked.folder)) }
+            ensures ended { checkpointer.entry.at_store ≡ [] → IfErr result (ThreadsHaveStopped (RefusedBy D.refuses checkpointer.entry.folder) N.name.setting (is_some room.entry.now.lag || is_some checkpointer.entry.folder) (clients_in workers.items) room.entry.now.points) }
         {
             let mut handles = handles;
             for collapser in collapsers {
@@ -390,7 +395,8 @@ pub fn run_threads<
     requires counts { CountsAsOut F.contents N.out }
     ensures left { IfOk result (λ r. IsLeftByHands D.holds N.name.setting room.now.points hands.entry.workers.items hands.entry.checkpointer r.0) }
     ensures logged { IfOk result (λ r. HasLogged F.contents N.name.setting.run logger.out r.1.out r.1.pass) }
-    ensures ended { hands.entry.checkpointer.at_store ≡ [] → IfErr result (ThreadsHaveStopped (MayRefuse D.refuses) N.name.setting (is_some room.now.lag || is_some hands.entry.checkpointer.folder || is_some logger.out) (clients_in hands.entry.workers.items) room.now.points) }
+    ensures refusals { IfOk result (λ r. RefusesNoMore (RefusedBy D.refuses hands.entry.checkpointer.folder) (RefusedBy D.refuses r.0.worked.folder)) }
+    ensures ended { hands.entry.checkpointer.at_store ≡ [] → IfErr result (ThreadsHaveStopped (RefusedBy D.refuses hands.entry.checkpointer.folder) N.name.setting (is_some room.now.lag || is_some hands.entry.checkpointer.folder || is_some logger.out) (clients_in hands.entry.workers.items) room.now.points) }
 {
     if logger.out.is_none() {
         let rested = run_hands(rt, room, hands)?;
@@ -404,7 +410,8 @@ pub fn run_threads<
             requires counts { CountsAsOut F.contents N.out }
             ensures left { IfOk result (λ r. IsLeftByHands D.holds N.name.setting room.entry.now.points hands.entry.workers.items hands.entry.checkpointer r.0) }
             ensures logged { IfOk result (λ r. HasLogged F.contents N.name.setting.run logger.out r.1.out r.1.pass) }
-            ensures ended { hands.entry.checkpointer.at_store ≡ [] → IfErr result (ThreadsHaveStopped (MayRefuse D.refuses) N.name.setting (is_some room.entry.now.lag || is_some hands.entry.checkpointer.folder || is_some logger.out) (clients_in hands.entry.workers.items) room.entry.now.points) }
+            ensures refusals { IfOk result (λ r. RefusesNoMore (RefusedBy D.refuses hands.entry.checkpointer.folder) (RefusedBy D.refuses r.0.worked.folder)) }
+            ensures ended { hands.entry.checkpointer.at_store ≡ [] → IfErr result (ThreadsHaveStopped (RefusedBy D.refuses hands.entry.checkpointer.folder) N.name.setting (is_some room.entry.now.lag || is_some hands.entry.checkpointer.folder || is_some logger.out) (clients_in hands.entry.workers.items) room.entry.now.points) }
         {
             let given = Snapshot::of(&logger);
             let Ok(logging) = scope.spawn_with(LogOf(given), move || logger.run(rt, room)) else {

@@ -5,7 +5,7 @@ use Rattle.pc_types.specs.declared.limits.TheConstants.{MOST_KEYS}
 use Rattle.pc_model.specs.Replies.{Setting}
 use Rattle.pc_shared.specs.Sitters.{new_sitters}
 use Rattle.pc_threads.specs.Clients.{HaveSeats}
-use Rattle.pc_threads.specs.Faults.{MayRefuse}
+use Rattle.pc_threads.specs.Files.{RefusedBy}
 use Rattle.pc_runs.specs.Runs.{run_setting}
 use Rattle.pc_runs.proofs.FaultLaws.{begin_lost, lost_ends, not_opened, too_large}
 use Rattle.pc_runs.proofs.run.run_read.Goals as goal
@@ -22,7 +22,8 @@ run_store-requires-clause-counts g c κs within now text gone = (now, gone)
 pub returns-in_err-folder-clause-ended : goal.returns-in_err-folder-clause-ended
 returns-in_err-folder-clause-ended g c =
     let p = err_from_is_err_and c.from_residual.result c.from_residual.ensures.1 in
-    rw (p.1, p.2) (lost_ends (MayRefuse g.D.NewFiles.refuses) (run_setting c.args.base c.args.capacity) c.args.workload (is_some c.args.folder) c.in_err-folder.field-0.0 c.in_err-folder.ensures.lost.0 (begin_lost (MayRefuse g.D.NewFiles.refuses) c.in_err-folder.field-0.0 c.in_err-folder.ensures.lost.1))
+    let refused = RefusedBy g.D.NewFiles.refuses c.args.folder in
+    rw (p.1, p.2) (lost_ends refused (run_setting c.args.base c.args.capacity) c.args.workload (is_some c.args.folder) c.in_err-folder.field-0.0 c.in_err-folder.ensures.lost.0 (begin_lost refused c.in_err-folder.field-0.0 c.in_err-folder.ensures.lost.1))
 
 pub returns-in_err-opened-clause-ended : goal.returns-in_err-opened-clause-ended
 returns-in_err-opened-clause-ended g c =

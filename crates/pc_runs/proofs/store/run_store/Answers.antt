@@ -10,12 +10,12 @@ use Rattle.pc_jobs.specs.declared.works.Client.{Client}
 use Rattle.pc_outcomes.specs.Leaving.{IsLegacy, commits_in}
 use Rattle.pc_shared.specs.Sitters.{IsSitterSettled, Sitter, new_sitters}
 use Rattle.pc_threads.specs.Clients.{AreSeated, HaveSeats, HaveWorked, IsFresh, clients_in, transactions_in}
-use Rattle.pc_threads.specs.Faults.{MayRefuse}
+use Rattle.pc_threads.specs.Files.{RefusedBy}
 use Rattle.pc_workers.specs.Covering.{HaveJustTo}
 use Rattle.pc_runs.specs.Folders.{LeavesFiles, base_of}
 use Rattle.pc_runs.proofs.HistoryLaws.{behind_first, first_ones, left_after}
 use Rattle.std.proofs.lemmas.Result.{err_from_is_err_and}
-use Rattle.pc_runs.proofs.FaultLaws.{folder_there, log_lost, log_lost_there, log_there, lost_ends, no_memory, of_stop, one_there, same_transactions, untold_ends}
+use Rattle.pc_runs.proofs.FaultLaws.{folder_there, log_lost, log_lost_there, log_there, lost_before, lost_ends, no_memory, of_stop, one_there, same_transactions, untold_ends}
 use Rattle.pc_runs.proofs.NewPasses.{as_many, some_passes}
 use Rattle.pc_runs.proofs.SeatingLaws.{all_back, dealt_seats}
 use Rattle.pc_runs.proofs.WorkLaws.{all_fresh, have_run}
@@ -117,7 +117,7 @@ returns-in-Err-clause-ended g c =
     let is : clients ≡ clients_in dealt = ap clients_in c.in_ok-seating.ensures.clients in
     let count = ap transactions_in is ∙ same_transactions c.args.context.now.crew.workers c.args.workload.clients dealt c.args.context.now.crew.in_range.0 c.in_ok-dealt.ensures in
     let seated = subst (λ (sessions : List Sitter). AreSeated (clients_in dealt) sessions seating.idle.items) c.in_ok-shared.ensures.sessions c.in_ok-seating.ensures.seated in
-    of_stop (MayRefuse g.D.NewFiles.refuses) st c.args.workload (is_some c.args.folder) _ seating.idle.items clients c.in-Err.stop c.fault_of.result
+    of_stop (RefusedBy g.D.NewFiles.refuses c.args.folder) st c.args.workload (is_some c.args.folder) _ seating.idle.items clients c.in-Err.stop c.fault_of.result
     (one_there _ _ _ (is_some c.args.folder) (c.map.ensures.variant ∙ (c.as_ref.ensures.variant ∙ log)) refl log) count c.in_ok-seating.ensures.idle
     (λ given_up ran have. all_back st st.sessions (clients_in dealt) given_up seating.idle.items ran seated (subst (λ (cs : List Client). HaveWorked st cs given_up ran) is have))
     c.fault_of.ensures c.in-Err.ensures.ended
@@ -131,9 +131,14 @@ pub returns-in_err-folder-clause-ended : goal.returns-in_err-folder-clause-ended
 returns-in_err-folder-clause-ended g c =
     let p = err_from_is_err_and c.from_residual-in_err-folder.result c.from_residual-in_err-folder.ensures.1 in
     let ended = c.in-Ok.used.0 in
+    let refuses = g.D.NewFiles.refuses in
+    let first = RefusedBy refuses c.args.folder in
+    let given = c.in_err-folder.field-0.0 in
+    let is = c.in_err-folder.ensures.lost in
     let there = folder_there g.D.NewFiles.holds c.args.workload.points c.args.folder ended.folder ended.written.items c.in-Ok.ensures.written in
     rw (p.1, p.2)
-    (lost_ends (MayRefuse g.D.NewFiles.refuses) g.N.StoreName.name.setting c.args.workload (is_some c.args.folder) c.in_err-folder.field-0.0 (subst IsTrue there (log_lost_there (MayRefuse g.D.NewFiles.refuses) ended.folder c.in-Ok.used.1.out c.in_err-folder.field-0.0 c.in_err-folder.ensures.lost)) (log_lost (MayRefuse g.D.NewFiles.refuses) ended.folder c.in-Ok.used.1.out c.in_err-folder.field-0.0 c.in_err-folder.ensures.lost))
+    (lost_ends first g.N.StoreName.name.setting c.args.workload (is_some c.args.folder) given (subst IsTrue there (log_lost_there refuses ended.folder c.in-Ok.used.1.out given is))
+    (lost_before first (RefusedBy refuses ended.folder) c.in-Ok.ensures.refusals given (log_lost refuses ended.folder c.in-Ok.used.1.out given is)))
 
 pub returns-in_err-left-clause-ended : goal.returns-in_err-left-clause-ended
 returns-in_err-left-clause-ended g c =

@@ -1,4 +1,4 @@
-use Rattle.std.proofs.Common.{◌+◌, true, [], length, refl, ap, arith}
+use Rattle.std.proofs.Common.{◌+◌, [], length, refl, ap, arith}
 use Rattle.std.proofs.lemmas.Result.{err_from_is_err_and}
 use Rattle.pc_types.specs.declared.Phase.TheVariants.{Rest}
 use Rattle.pc_texts.specs.declared.file_names.FileName.TheVariants as file
@@ -25,4 +25,4 @@ returns-in_err-ticket-clause-ended g c some cycled =
 pub returns-in_err-write_part-clause-ended : goal.returns-in_err-write_part-clause-ended
 returns-in_err-write_part-clause-ended g c some cycled =
     let p = err_from_is_err_and c.from_residual-in_err-write_part.result c.from_residual-in_err-write_part.ensures.1 in
-    rw (p.1, p.2) (lost_ends g.D.NewFiles.refuses c.write_part.new.folder (file.Part c.args.point) 0 c.in_err-write_part.field-0.0 c.in_err-write_part.ensures.lost)
+    rw (p.1, p.2) (lost_ends (g.D.NewFiles.refuses c.args.folder.now) (file.Part c.args.point) 0 c.in_err-write_part.field-0.0 c.in_err-write_part.ensures.lost)

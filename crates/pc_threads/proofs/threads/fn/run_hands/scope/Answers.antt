@@ -23,16 +23,17 @@ returns g c =
     let only = c.in_ok-held.ensures.only c.captures.points c.loop-collapser.invariant.2 in
     record {
       left = record { worked = c.in_ok-worked.ensures.left; held = subst (λ n. HaveOnlyTo n c.in_ok-held.held.items) c.requires.points only };
+      refusals = c.in_ok-worked.ensures.refusals;
       ended = λ fresh. tt;
     }
 
 pub returns-in_err-worked : goal.returns-in_err-worked
 returns-in_err-worked g c =
     let p = err_from_is_err_and c.from_residual.result c.from_residual.ensures.1 in
-    rw (p.1, p.2) (record { left = tt; ended = λ fresh. c.in_err-worked.ensures.ended fresh })
+    rw (p.1, p.2) (record { left = tt; refusals = tt; ended = λ fresh. c.in_err-worked.ensures.ended fresh })
 
 pub returns-in_err-held : goal.returns-in_err-held
 returns-in_err-held g c =
     let p = err_from_is_err_and c.from_residual-in_err-held.result c.from_residual-in_err-held.ensures.1 in
     let n = transactions_in (clients_in c.captures.workers.items) in
-    rw (p.1, p.2) (record { left = tt; ended = λ fresh. memory_stops n c.captures.room.now.points c.in_err-held.field-0.0 c.in_err-held.ensures.ended })
+    rw (p.1, p.2) (record { left = tt; refusals = tt; ended = λ fresh. memory_stops n c.captures.room.now.points c.in_err-held.field-0.0 c.in_err-held.ensures.ended })

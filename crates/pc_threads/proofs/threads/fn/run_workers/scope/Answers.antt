@@ -8,7 +8,9 @@ use Rattle.pc_model.specs.History.{History}
 use Rattle.pc_workers.specs.Checkpointing.{HasCycled}
 use Rattle.pc_workers.proofs.WholeCycles.{cycled_none}
 use Rattle.pc_threads.specs.Clients.{HaveWorked, clients_in, transactions_in}
-use Rattle.pc_threads.specs.Faults.{IsWorkersStop, MayRefuse, PointsHaveStopped, ThreadsHaveStopped}
+use Rattle.pc_threads.specs.Faults.{IsWorkersStop, PointsHaveStopped, ThreadsHaveStopped}
+use Rattle.pc_threads.specs.Files.{RefusedBy}
+use Rattle.pc_threads.proofs.PointLaws.{points_before}
 use Rattle.pc_threads.proofs.PointStopLaws.{points_stop}
 use Rattle.pc_threads.proofs.StopLaws.{workers_end}
 use Rattle.pc_threads.proofs.threads.fn.run_workers.scope.Goals as goal
@@ -49,8 +51,9 @@ returns-in_err-ran g c =
     rw (p.1, p.2)
     (record {
       left = tt;
+      refusals = tt;
       ended = λ fresh.
-          workers_end _ _ (MayRefuse g.D.NewFiles.refuses) g.N.StoreName.name.setting has_log there (clients_in c.captures.workers.items) c.captures.points why
+          workers_end _ _ (RefusedBy g.D.NewFiles.refuses c.captures.checkpointer.folder) g.N.StoreName.name.setting has_log there (clients_in c.captures.workers.items) c.captures.points why
           (subst (λ (workers : List (List Client)). IsWorkersStop has_log (transactions_in (clients_in workers)) why) all (c.in_err-ran.ensures.ended has_log c.loop-worker.invariant.3));
     })
 
@@ -75,6 +78,7 @@ returns-in-Ok-take_points g c =
             cycles = c.in-Ok-take_points.ensures.cycles seat (c.in-Ok-most.ensures.cycles seat (cycled_none st seat c.requires.rest));
             files = λ first had. c.in-Ok-take_points.ensures.written first (c.in-Ok-most.ensures.written first had);
           };
+      refusals = λ name why is. c.in-Ok-most.ensures.refusals name why (c.in-Ok-take_points.ensures.refusals name why is);
       ended = λ fresh. tt;
     })
 
@@ -95,10 +99,11 @@ returns-in-Err-most g c =
     let low : c.saturating_sub-beside.result ≤ points = search rules in
     record {
       left = tt;
+      refusals = tt;
       ended = λ fresh.
           let start : HasCycled st 0 [] seat = subst (λ (h : History). HasCycled st 0 h seat) fresh (cycled_none st seat c.requires.rest) in
-          subst (ThreadsHaveStopped (MayRefuse g.D.NewFiles.refuses) st (c.captures.has_log || there) clients points) (sym c.with_clients.ensures)
-          (points_stop (MayRefuse g.D.NewFiles.refuses) st c.captures.has_log there clients c.saturating_sub-beside.result points c.in-Err-most.fault ran low (c.in-Err-most.ensures.ended start) worked);
+          subst (ThreadsHaveStopped (RefusedBy g.D.NewFiles.refuses c.captures.checkpointer.folder) st (c.captures.has_log || there) clients points) (sym c.with_clients.ensures)
+          (points_stop (RefusedBy g.D.NewFiles.refuses c.captures.checkpointer.folder) st c.captures.has_log there clients c.saturating_sub-beside.result points c.in-Err-most.fault ran low (c.in-Err-most.ensures.ended start) worked);
     }
 
 pub returns-in-Err-take_points : goal.returns-in-Err-take_points
@@ -116,11 +121,14 @@ returns-in-Err-take_points g c =
     let there = is_some c.captures.checkpointer.folder in
     let clients : List Client = clients_in c.captures.workers.items in
     let fault = c.in-Err-take_points.fault in
+    let refused = RefusedBy g.D.NewFiles.refuses c.captures.checkpointer.folder in
     record {
       left = tt;
+      refusals = tt;
       ended = λ fresh.
           let start : HasCycled st 0 [] seat = subst (λ (h : History). HasCycled st 0 h seat) fresh (cycled_none st seat c.requires.rest) in
-          subst (ThreadsHaveStopped (MayRefuse g.D.NewFiles.refuses) st (c.captures.has_log || there) clients points) (sym c.with_clients-in-Err-take_points.ensures)
-          (points_stop (MayRefuse g.D.NewFiles.refuses) st c.captures.has_log there clients points points fault ran (omega arith)
-          (subst (λ (b : Bool). PointsHaveStopped (MayRefuse g.D.NewFiles.refuses) st b points fault) c.in-Ok-most.ensures.there (c.in-Err-take_points.ensures.ended (c.in-Ok-most.ensures.cycles [] start))) worked);
+          subst (ThreadsHaveStopped (RefusedBy g.D.NewFiles.refuses c.captures.checkpointer.folder) st (c.captures.has_log || there) clients points) (sym c.with_clients-in-Err-take_points.ensures)
+          (points_stop refused st c.captures.has_log there clients points points fault ran (omega arith)
+          (points_before refused (RefusedBy g.D.NewFiles.refuses c.in-Ok-most.checkpointer.folder) st there points fault c.in-Ok-most.ensures.refusals
+          (subst (λ (b : Bool). PointsHaveStopped (RefusedBy g.D.NewFiles.refuses c.in-Ok-most.checkpointer.folder) st b points fault) c.in-Ok-most.ensures.there (c.in-Err-take_points.ensures.ended (c.in-Ok-most.ensures.cycles [] start)))) worked);
     }
