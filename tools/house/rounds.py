@@ -124,12 +124,12 @@ def reasons_of(said, copy, functions):
     """Why each of the functions was refused, by what the check said; a function without a verdict is left out."""
     owners, notes = {}, {}
     for path, line, rest in NOTE.findall(said):
-        if not copy.has(path):
-            continue  # of a library below
         if path not in owners:
-            owners[path] = owners_in(copy.read(path))
-        notes.setdefault((path, owners[path][int(line)]), []).append(rest)
-    verdicts = SAID.findall(said)
+            owners[path] = owners_in(copy.read(path)) if copy.has(path) else []
+        if int(line) < len(owners[path]):  # otherwise it is of a library below
+            notes.setdefault((path, owners[path][int(line)]), []).append(rest)
+    crate = os.path.basename(copy.folder)
+    verdicts = [(full, verdict) for full, verdict in SAID.findall(said) if full.startswith(f"{crate}::")]
     found = {}
     for function in functions:
         own = [verdict for full, verdict in verdicts if is_of(full, function)]

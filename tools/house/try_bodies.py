@@ -10,7 +10,7 @@
     try_bodies.py --known           prints the bodies that were refused and not tried again after the function that they change has changed; the status
                                     is 1 if there is one; the last line has the sums
 
-They are tried on a copy of the repository, N crates at a time with --lanes N (otherwise one), once the libraries below
+They are tried on a copy of the repository, on N copies at a time with --lanes N, once the libraries below
 them are built: bodies that change different functions in one text, by one check of these functions (tools/house/rounds.py), and the others
 one by one, by `rt must-fail`. What was refused is noted in tools/house/tried, a line for each crate, reason and date, in which a body has
 three checksums: of its own text, of the items that it changes, and of what these reach (tools/house/reach.py). A note is void once one of
@@ -33,6 +33,7 @@ import functools
 import glob
 import hashlib
 import os
+import queue
 import re
 import shutil
 import subprocess
@@ -163,8 +164,17 @@ def try_crate(copy, name, bodies, tree, check=rounds.check):
     return refused
 
 
+def try_in(copies, name, bodies, tree):
+    """The same in one of the copies that no other crate is tried in: an upper crate would be checked over a lower one's wrong body."""
+    copy = copies.get()
+    try:
+        return try_crate(copy, name, bodies, tree)
+    finally:
+        copies.put(copy)
+
+
 def needed_by(names):
-    """The libraries below these crates, lowest first. They are built before the first body is tried, since two lanes must not build one."""
+    """The libraries below these crates, lowest first. They are built before the first body is tried."""
     below = {it for name in names for it in crates_of()[name]}
     return [it for it in crates_of() if it in below]
 
@@ -181,23 +191,32 @@ def linked(one, other):
 
 
 def copy_in(folder):
-    """A copy of the repository, in which these crates have no wrong body of the gate."""
+    """A copy of the repository, in which no crate has a wrong body of the gate."""
     shutil.copytree(ROOT, folder, ignore=shutil.ignore_patterns(".git"), copy_function=linked)
     for name in crates():
         shutil.rmtree(f"{folder}/crates/{name}/must-fail", ignore_errors=True)
         os.makedirs(f"{folder}/crates/{name}/must-fail")
 
 
+def copies_in(room, names, lanes):
+    """As many copies, in which the libraries below these crates are built. The later ones are made of the first."""
+    first, copies = os.path.join(room, "0"), queue.SimpleQueue()
+    copy_in(first)
+    for name in needed_by(names):
+        subprocess.run(["rt", "lib"], cwd=f"{first}/crates/{name}", check=True, capture_output=True)
+    copies.put(first)
+    for lane in range(1, lanes):
+        copies.put(shutil.copytree(first, os.path.join(room, str(lane)), copy_function=linked))
+    return copies
+
+
 def try_all(chosen, lanes):
     """Tries the chosen bodies, by crate, and notes the results of each crate once they are tried. The status is 1 if one wasn't refused by a clause."""
     today = Today()
     with tempfile.TemporaryDirectory(prefix="tried-") as room:
-        copy = os.path.join(room, "copy")
-        copy_in(copy)
-        for name in needed_by(chosen):
-            subprocess.run(["rt", "lib"], cwd=f"{copy}/crates/{name}", check=True, capture_output=True)
+        copies = copies_in(room, chosen, min(lanes, len(chosen)))
         with ThreadPoolExecutor(lanes) as pool:
-            runs = {pool.submit(try_crate, copy, name, chosen[name], today.tree): name for name in chosen}
+            runs = {pool.submit(try_in, copies, name, chosen[name], today.tree): name for name in chosen}
             are_refused = [note_crate(runs[it], chosen[runs[it]], it.result(), today) for it in as_completed(runs)]
     return 0 if all(are_refused) else 1
 

@@ -143,13 +143,16 @@ class Bodies(InFolder):
         self.write("repository/crates/pc_low/tried/one.edit", EDIT)
         self.write("repository/.git/HEAD", "")
         self.write("repository/crates/pc_low/out/pc_low.rlib/a", "")
-        here, copy = os.path.join(self.folder, "repository"), os.path.join(self.folder, "copy")
+        here, room = os.path.join(self.folder, "repository"), os.path.join(self.folder, "room")
         for module in (gate_times, try_bodies):
             self.replace(module, ROOT=here)
-        try_bodies.copy_in(copy)
-        self.assertEqual(os.listdir(os.path.join(copy, "crates/pc_low/must-fail")), [])
-        self.assertFalse(os.path.exists(os.path.join(copy, ".git")))
-        self.assertFalse(os.path.samefile(os.path.join(copy, "crates.txt"), os.path.join(here, "crates.txt")))
+        copies = try_bodies.copies_in(room, ["pc_low"], 2)
+        both = [copies.get(), copies.get()]
+        self.assertTrue(copies.empty())
+        for copy, other in zip(both, (here, both[0])):
+            self.assertEqual(os.listdir(os.path.join(copy, "crates/pc_low/must-fail")), [])
+            self.assertFalse(os.path.exists(os.path.join(copy, ".git")))
+            self.assertFalse(os.path.samefile(os.path.join(copy, "crates.txt"), os.path.join(other, "crates.txt")))
 
     def tried(self, *said):
         """The results of both bodies of a crate if checks print these texts, in turn."""

@@ -93,9 +93,11 @@ class Rounds(InFolder):
         self.texts["free"] = edit("no such text", "7")
         self.assertEqual(self.tried(["free"]), {})
 
-    def test_a_note_of_a_library_below_is_ignored(self):
-        said = "note: src/elsewhere.rt:19:5: it is not proved that what the function ensures holds (`returns`)\nfn pc_one::One::new: no proof: x\n"
-        self.assertEqual(self.tried(["method"], said), {"method": "fits"})
+    def test_what_is_said_of_a_library_below_is_ignored(self):
+        for place in ("elsewhere.rt:19", "lib.rt:1900"):
+            said = f"note: src/{place}:5: it is not proved that what the function ensures holds (`returns`)\nfn pc_one::One::new: no proof: x\n"
+            self.assertEqual(self.tried(["method"], said), {"method": "fits"})
+        self.assertEqual(self.tried(["method"], "fn pc_below::One::new: not proved\n"), {})
         self.assertEqual(self.copy.first, {})
 
 
