@@ -65,13 +65,8 @@ fn serve_generation<R: Read + Drop, W: Write + Drop>(
     generation: Generation<W>,
     input: &mut BufReader<R>,
 ) -> Result<Option<Generation<W>>, Failure> {
-    let number = generation.number;
-    let folder = generation_path(store.dir, number)?;
-    let path = path_in(store.dir.rt.alloc(), folder.as_str(), LOG)?;
-    let log = match LogFile::open(store.dir, path.as_str(), store.options.is_synced) {
-        Ok(log) => log,
-        Err(why) => return Err(Failure::Log(number, why)),
-    };
+    let folder = generation_path(store.dir, generation.number)?;
+    let log = log_of(store, folder.as_str(), generation.number)?;
     let points = DiskPoints {
         dir: store.dir,
         folder: folder.as_str(),
@@ -80,7 +75,16 @@ fn serve_generation<R: Read + Drop, W: Write + Drop>(
     answer_lines(store, generation, log, points, input)
 }
 
-// The same, with the log of the generation, and the folder of its points.
+// The log of the generation of this number and folder.
+fn log_of<'a>(store: &Store<'a>, folder: &str, number: u32) -> Result<LogFile<'a>, Failure> {
+    let path = path_in(store.dir.rt.alloc(), folder, LOG)?;
+    match LogFile::open(store.dir, path.as_str(), store.options.is_synced) {
+        Ok(log) => Ok(log),
+        Err(why) => Err(Failure::Log(number, why)),
+    }
+}
+
+// Answers them over the log of the generation, and into the folder of its points.
 fn answer_lines<R: Read + Drop, W: Write + Drop>(
     store: &Store<'_>,
     generation: Generation<W>,
@@ -98,7 +102,7 @@ fn answer_lines<R: Read + Drop, W: Write + Drop>(
         Ok(Stopped::Ended) => Ok(None),
         Ok(Stopped::Filled) => {
             let (world, out) = service.into_world();
-            Ok(Some(next_generation(store, number, world, out)?))
+            next_generation(store, number, world, out)
         }
         Err(why) => Err(failure_of(why, number)),
     }
@@ -110,7 +114,7 @@ fn next_generation<W: Write + Drop>(
     number: u32,
     world: World,
     out: Tally<W>,
-) -> Result<Generation<W>, Failure> {
+) -> Result<Option<Generation<W>>, Failure> {
     let base = match next_base(&world) {
         Ok(base) => base,
         Err(why) => return Err(Failure::Refused(why)),
@@ -123,11 +127,11 @@ fn next_generation<W: Write + Drop>(
                 generation,
                 ..
             },
-        ) => Ok(Generation {
+        ) => Ok(Some(Generation {
             world,
             number: generation,
             out,
-        }),
+        })),
         Err(why) => Err(Failure::Refused(why)),
     }
 }

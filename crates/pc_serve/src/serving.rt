@@ -22,7 +22,7 @@ use pc_types::Refusal;
 use std::alloc::AllocError;
 use std::hash::RandomState;
 use std::io;
-use std::io::{BufReader, Write};
+use std::io::{BufReader, Read, Write};
 use std::random::RandomSource;
 use std::string::String;
 
@@ -182,8 +182,23 @@ fn store_of<'a>(
     }
 }
 
-// Serves the store; the status.
+// Serves the store on standard input and output; the status.
 fn serve_from<E: Write>(store: &Store<'_>, errors: &mut Tally<E>) -> io::Result<u8> {
+    let (rt, causes) = (store.dir.rt, store.dir.causes);
+    let name = String::from_str(rt.alloc(), INPUT)?;
+    let stdin = Typed::new(Noted::new(rt.stdin(), name, causes), rt);
+    let mut input = BufReader::with_capacity(rt.alloc(), ROOM, stdin)?;
+    let out = Tally::new(output_before(rt, causes, io::writer(rt))?);
+    serve_lines(store, &mut input, out, errors)
+}
+
+// Opens the store, and serves it to the lines of this input; the status.
+fn serve_lines<R: Read + Drop, W: Write + Drop, E: Write>(
+    store: &Store<'_>,
+    input: &mut BufReader<R>,
+    out: Tally<W>,
+    errors: &mut Tally<E>,
+) -> io::Result<u8> {
     let base = match base_of(store, errors) {
         Ok(base) => base,
         Err(lost) => {
@@ -192,7 +207,7 @@ fn serve_from<E: Write>(store: &Store<'_>, errors: &mut Tally<E>) -> io::Result<
         }
     };
     match open(store, store.latest, base) {
-        Ok(opened) => serve_opened(store, opened, errors),
+        Ok(opened) => serve_opened(store, opened, input, out, errors),
         Err(why) => {
             let _ = report(store.dir.path.as_bytes(), why, errors);
             Ok(FAILED)
@@ -251,33 +266,30 @@ pub fn open(store: &Store<'_>, latest: Option<u32>, base: Base) -> Result<Opened
 }
 
 // Serves the store that was opened; the status.
-fn serve_opened<E: Write>(
+fn serve_opened<R: Read + Drop, W: Write + Drop, E: Write>(
     store: &Store<'_>,
     opened: OpenedStore,
+    input: &mut BufReader<R>,
+    out: Tally<W>,
     errors: &mut Tally<E>,
 ) -> io::Result<u8>
     requires { Stands opened.world [] }
 {
-    let (rt, causes) = (store.dir.rt, store.dir.causes);
-    let alloc = rt.alloc();
+    let mut out = out;
     let OpenedStore {
         world,
         generation,
         ..
     } = opened;
-    let mut out = Tally::new(output_before(rt, causes, io::writer(rt))?);
     if put_ready(&world, &mut out).is_err() {
         return Ok(FAILED);
     }
-    let name = String::from_str(alloc, INPUT)?;
-    let stdin = Typed::new(Noted::new(rt.stdin(), name, causes), rt);
-    let mut input = BufReader::with_capacity(alloc, ROOM, stdin)?;
     let first = Generation {
         world,
         number: generation,
         out,
     };
-    match serve_generations(store, first, &mut input) {
+    match serve_generations(store, first, input) {
         Ok(()) => Ok(0),
         Err(failure) => tell_failure(store, failure, errors),
     }
