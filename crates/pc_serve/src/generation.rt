@@ -84,7 +84,7 @@ fn log_of<'a>(store: &Store<'a>, folder: &str, number: u32) -> Result<LogFile<'a
     }
 }
 
-// Answers them over the log of the generation, and into the folder of its points.
+// The same as `serve_generation`, over the log of the generation, and with the folder of its points.
 fn answer_lines<R: Read + Drop, W: Write + Drop>(
     store: &Store<'_>,
     generation: Generation<W>,
