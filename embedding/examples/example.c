@@ -50,6 +50,23 @@ static void commits_and_dies(pcalc *store)
     MUST(pcalc_commit(store, 2, &answer), PCALC_COMMITTED);
 }
 
+/* Writes the log's text at the end of a file: its header, and its entries, of which each call shows some. */
+static void writes_the_log(pcalc *store, FILE *file)
+{
+    pcalc_answer answer;
+    uint8_t *header = shown(store, PCALC_LOG, 0, &answer);
+    fwrite(header, 1, answer.value_bytes, file);
+    free(header);
+    uint32_t written = 0;
+    do {
+        uint8_t *text = shown(store, PCALC_ENTRIES, written, &answer);
+        fwrite(text, 1, answer.value_bytes, file);
+        written += (uint32_t)answer.entries;
+        free(text);
+    } while (answer.entries > 0);
+    printf("log of %u entries%s\n", (unsigned)written, ferror(file) ? ", not all of it written" : "");
+}
+
 static void takes_a_point(pcalc *store)
 {
     pcalc_answer answer;
@@ -97,6 +114,11 @@ int main(void)
     MUST(pcalc_begin(&store, 1, &answer), PCALC_CLOSED);
     MUST(pcalc_open(&store, &options, &answer), PCALC_OPENED);
     commits_and_dies(&store);
+    FILE *file = tmpfile();
+    if (file) {
+        writes_the_log(&store, file);
+        fclose(file);
+    }
     takes_a_point(&store);
     goes_on(&store, &options);
     pcalc_close(&store);

@@ -27,7 +27,7 @@ int main()
     try {
         older.put(std::string(256, 'k'), "x");
     } catch (const pcalc_refused &why) {
-        std::cout << "refused " << why.refusal << "\n";
+        std::cout << why.what() << "\n";
     }
     older.abort();
     pcalc_store again(store.text(PCALC_BASE), {}, store.log());

@@ -7,30 +7,38 @@ enum { THREADS = 4, ADDS = 250, POINTS = 3, KEYS = 10 };
 struct worker {
     pcalc_shared *shared;
     uint32_t session;
+    int commits;
 };
 
-/* One transaction; returns false if it died, and then it is undone. */
-static bool adds_once(pcalc_shared *shared, uint32_t session, int turn)
+/* One transaction; returns the kind of its last answer. If that died, or was refused, it is undone. */
+static uint32_t adds_once(pcalc_shared *shared, uint32_t session, int turn)
 {
-    pcalc_answer answer;
-    pcalc_ask ask = { PCALC_BEGIN, session, 0, 0, 0, 1 };
-    pcalc_ask_shared(shared, &ask, NULL, 0, NULL, 0, NULL, 0, &answer);
-    ask.kind = PCALC_ADD;
+    pcalc_answer answer, undone;
     char key[2] = { 'k', (char)('0' + turn % KEYS) };
-    uint32_t told = pcalc_ask_shared(shared, &ask, key, 2, NULL, 0, NULL, 0, &answer);
-    if (told == PCALC_SUM) {
-        told = pcalc_ask_shared(shared, &ask, "all", 3, NULL, 0, NULL, 0, &answer);
+    uint32_t told = pcalc_begin_shared(shared, session, &answer);
+    if (told == PCALC_BEGUN) {
+        told = pcalc_add_shared(shared, session, 0, key, 2, 1, &answer);
     }
-    ask.kind = told == PCALC_SUM ? PCALC_COMMIT : PCALC_ABORT;
-    return pcalc_ask_shared(shared, &ask, NULL, 0, NULL, 0, NULL, 0, &answer) == PCALC_COMMITTED;
+    if (told == PCALC_SUM) {
+        told = pcalc_add_shared(shared, session, 0, "all", 3, 1, &answer);
+    }
+    if (told == PCALC_SUM) {
+        told = pcalc_commit_shared(shared, session, &answer);
+    }
+    if (told == PCALC_DIED || told == PCALC_REFUSED) {
+        pcalc_abort_shared(shared, session, &undone);
+    }
+    return told;
 }
 
+/* Begins again what died, and ends once the log has failed: PCALC_UNKNOWN may be there after a start, so it isn't made again. */
 static void *work(void *of)
 {
     struct worker *worker = of;
-    for (int turn = 0; turn < ADDS; turn++) {
-        while (!adds_once(worker->shared, worker->session, turn)) {
-        }
+    uint32_t told = PCALC_COMMITTED;
+    while (worker->commits < ADDS && (told == PCALC_COMMITTED || told == PCALC_DIED)) {
+        told = adds_once(worker->shared, worker->session, worker->commits);
+        worker->commits += told == PCALC_COMMITTED;
     }
     return NULL;
 }
@@ -46,12 +54,9 @@ static long long number_of(pcalc_shared *shared, const char *key, size_t length)
 {
     pcalc_answer answer;
     uint8_t bytes[8] = { 0 };
-    pcalc_ask ask = { PCALC_BEGIN, 1, 0, 0, 0, 0 };
-    pcalc_ask_shared(shared, &ask, NULL, 0, NULL, 0, NULL, 0, &answer);
-    ask.kind = PCALC_GET;
-    pcalc_ask_shared(shared, &ask, key, length, NULL, 0, bytes, sizeof bytes, &answer);
-    ask.kind = PCALC_ABORT;
-    pcalc_ask_shared(shared, &ask, NULL, 0, NULL, 0, NULL, 0, &answer);
+    pcalc_begin_shared(shared, 1, &answer);
+    pcalc_get_shared(shared, 1, 0, key, length, bytes, sizeof bytes, &answer);
+    pcalc_abort_shared(shared, 1, &answer);
     uint64_t number = 0;
     for (int i = 0; i < 8; i++) {
         number = number << 8 | bytes[i];
@@ -81,19 +86,23 @@ int main(int count, char **words)
         return failed("the folder DIR", fault);
     }
     for (uint32_t i = 0; i < THREADS; i++) {
-        workers[i] = (struct worker){ &shared, i + 1 };
+        workers[i] = (struct worker){ &shared, i + 1, 0 };
         pthread_create(&threads[i], NULL, work, &workers[i]);
     }
     for (int i = 0; i < POINTS && !fault; i++) {
         fault = pcalc_take_point(&shared, &answer);
     }
+    int commits = 0;
     for (int i = 0; i < THREADS; i++) {
         pthread_join(threads[i], NULL);
+        commits += workers[i].commits;
     }
-    printf("all %lld\n", number_of(&shared, "all", 3));
-    for (char key[2] = { 'k', '0' }; key[1] < '0' + KEYS; key[1]++) {
-        printf("%.2s %lld\n", key, number_of(&shared, key, 2));
+    if (commits == THREADS * ADDS) {
+        printf("all %lld\n", number_of(&shared, "all", 3));
+        for (char key[2] = { 'k', '0' }; key[1] < '0' + KEYS; key[1]++) {
+            printf("%.2s %lld\n", key, number_of(&shared, key, 2));
+        }
     }
     int ended = pcalc_unshare(&shared);
-    return fault ? failed("a point", fault) : ended ? failed("the log", ended) : 0;
+    return ended ? failed("the log", ended) : fault ? failed("a point", fault) : commits != THREADS * ADDS;
 }

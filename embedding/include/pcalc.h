@@ -15,12 +15,13 @@
  *     is not closed leaks its memory.
  *   - Calls on one `pcalc` don't overlap in time. They may come from several threads, if a lock, or the start or end of a thread, orders
  *     them (pcalc_threads.h does that).
- *   - No pointer is null, except to bytes or buffers of length 0 in the short forms. Bytes and buffers have the lengths that are passed,
- *     and no two of the objects that are passed to a call overlap.
+ *   - No pointer is null, except to bytes or buffers in the short forms, which refuse a null one with a length above 0. Bytes and buffers
+ *     have the lengths that are passed, and no two of the objects that are passed to a call overlap.
  *   - The program's malloc, realloc and free belong together, and align a block to each power of two up to 16 that divides its size.
  *   - No call is made in a signal handler, or in a forked child of a multithreaded program.
  *
- * A refused call changes nothing, so it may be made again. Each function with an `answer` returns the answer's kind.
+ * A refused call changes nothing, so it may be made again; that isn't said of PCALC_UNKNOWN. Each function with an `answer` returns the
+ * answer's kind.
  */
 #ifndef PCALC_H
 #define PCALC_H
@@ -92,6 +93,11 @@ enum pcalc_kind {
     PCALC_OPEN         /* the store was open already */
 };
 
+/* A kind of pcalc_threads.h alone, which no function of the archive returns: the log's file failed while the commit waited for it. The
+ * commit may be there after a start over the folder, or not. It has ended, and it is not refused: never just make it again, but look after
+ * the start whether it is there. number: its entry. */
+enum pcalc_kind_of_threads { PCALC_UNKNOWN = 64 };
+
 /* Why a call was refused. */
 enum pcalc_refusal {
     PCALC_OUT_OF_MEMORY = 1,
@@ -122,7 +128,7 @@ enum pcalc_refusal {
     PCALC_TRAILING = 26,
     PCALC_NOT_COVERED = 27,
     PCALC_TOKEN_ORDER = 28,
-    PCALC_DEVICE = 30,
+    PCALC_DEVICE = 30,         /* the log's file has failed (pcalc_threads.h) */
     PCALC_OUT_OF_RANGE = 31    /* the sum leaves 64 signed bits */
 };
 
@@ -131,7 +137,8 @@ enum pcalc_text {
     PCALC_BASE = 1,    /* base.pcb: the base from which the store starts */
     PCALC_PART = 2,    /* part-NNNNN.pcp: given, a further part; shown, file `number` of the shelf */
     PCALC_LOG = 3,     /* log.pcl: given, the log; shown, its header */
-    PCALC_ENTRIES = 4  /* shown, entries of the log after the first `number`; the answer's `entries` is how many */
+    PCALC_ENTRIES = 4  /* shown, some of the log's entries after the first `number`: the answer's `entries` is how many, at most 65,536, and
+                          0 only if there are none. Show those after them, until it is 0: pcalc_write_entries of pcalc_folder.h does */
 };
 
 /* A call as numbers. Fields that its event doesn't use are ignored. */
@@ -176,12 +183,14 @@ typedef struct pcalc_recovered {
  * Returns PCALC_GIVEN; PCALC_OPEN if the store is open; or PCALC_REFUSED with PCALC_BAD_KIND or PCALC_OUT_OF_MEMORY. */
 uint32_t pcalc_give(pcalc *store, uint32_t what, const uint8_t *bytes, size_t length, pcalc_answer *answer);
 
-/* Reports the state recovered from the texts, and opens nothing. Returns 0, or a refusal; `recovered` is then unchanged. */
+/* Reports the state recovered from the texts, and opens nothing. Returns 0, or a refusal, and `recovered` is then unchanged:
+ * PCALC_WRONG_PHASE if the store is open, PCALC_SHORT if nothing was given or the base has no bytes, another fault, or
+ * PCALC_OUT_OF_MEMORY. */
 uint32_t pcalc_recover(pcalc *store, pcalc_recovered *recovered);
 
-/* Opens the store: without pairs if nothing was given, otherwise with the recovered state. Returns PCALC_OPENED; PCALC_OPEN if it was open
- * already; or PCALC_REFUSED, and what was given is kept: with PCALC_NO_SESSION or PCALC_BAD_LENGTH if an option is out of range, PCALC_FULL
- * for more pairs than room, and otherwise a fault of a text or PCALC_OUT_OF_MEMORY. */
+/* Opens the store: without pairs if nothing was given, otherwise with the recovered state; a text of no bytes was given, too. Returns
+ * PCALC_OPENED; PCALC_OPEN if it was open already; or PCALC_REFUSED, and what was given is kept: with PCALC_NO_SESSION or PCALC_BAD_LENGTH
+ * if an option is out of range, PCALC_FULL for more pairs than room, and otherwise a fault of a text or PCALC_OUT_OF_MEMORY. */
 uint32_t pcalc_open(pcalc *store, const pcalc_options *options, pcalc_answer *answer);
 
 /* Asks an event, with the bytes of its key and value, if it has them. */
@@ -206,11 +215,45 @@ static inline const uint8_t *pcalc_at(const void *bytes, const uint8_t *none)
     return bytes ? (const uint8_t *)bytes : none;
 }
 
+/* Answers with a refusal. */
+static inline uint32_t pcalc_refuse(uint32_t refusal, pcalc_answer *answer)
+{
+    const pcalc_answer refused = { PCALC_REFUSED, refusal, 0, 0, 0, 0, 0, 0, 0, 0 };
+    *answer = refused;
+    return PCALC_REFUSED;
+}
+
+/* Why no key and value, or no rooms for them, are there: one is null and has a length. 0 if both may be used. */
+static inline uint32_t pcalc_null(const void *key, size_t key_length, const void *value, size_t value_length)
+{
+    return !key && key_length > 0 ? PCALC_KEY_LENGTH : !value && value_length > 0 ? PCALC_VALUE_LENGTH : 0;
+}
+
+/* The word of a refusal, as the program prints it; "?" for a number that is none. */
+static inline const char *pcalc_refusal_name(uint32_t refusal)
+{
+    static const char *const names[] = {
+        "?", "OutOfMemory", "Full", "KeyLength", "ValueLength", "NoTransaction", "AlreadyBegun", "MustAbort", "WrongPhase", "TooManyWrites",
+        "LogFull", "PointsFull", "NoSession", "NoFile", "OtherRun", "Conflict", "Gap", "ShelfFull", "StillWaiting", "NotNumber", "Short",
+        "BadMagic", "BadRanges", "KeyOrder", "BadKind", "BadLength", "Trailing", "NotCovered", "TokenOrder", "?", "Device", "OutOfRange"
+    };
+    return names[refusal < sizeof names / sizeof *names ? refusal : 0];
+}
+
+/* Asks an event, with bytes that may be null if their length is 0. */
+static inline uint32_t pcalc_ask_with(pcalc *store, const pcalc_ask *ask, const void *key, size_t key_length, const void *value,
+                                      size_t value_length, pcalc_answer *answer)
+{
+    const uint8_t none = 0;
+    uint32_t fault = pcalc_null(key, key_length, value, value_length);
+    return fault ? pcalc_refuse(fault, answer)
+                 : pcalc_call(store, ask, pcalc_at(key, &none), key_length, pcalc_at(value, &none), value_length, answer);
+}
+
 static inline uint32_t pcalc_plainly(pcalc *store, uint32_t kind, uint32_t session, pcalc_answer *answer)
 {
     const pcalc_ask ask = { kind, session, 0, 0, 0, 0 };
-    const uint8_t none = 0;
-    return pcalc_call(store, &ask, &none, 0, &none, 0, answer);
+    return pcalc_ask_with(store, &ask, NULL, 0, NULL, 0, answer);
 }
 
 /* Begins a transaction of the session. */
@@ -237,7 +280,8 @@ static inline uint32_t pcalc_get(pcalc *store, uint32_t session, uint32_t space,
 {
     const pcalc_ask ask = { PCALC_GET, session, space, 0, 0, 0 };
     uint8_t none = 0;
-    uint32_t kind = pcalc_call(store, &ask, pcalc_at(key, &none), key_length, &none, 0, answer);
+    uint32_t fault = pcalc_null(key, key_length, room, room_length);
+    uint32_t kind = fault ? pcalc_refuse(fault, answer) : pcalc_ask_with(store, &ask, key, key_length, NULL, 0, answer);
     if (kind == PCALC_FOUND && room_length > 0) {
         pcalc_copy(store, 0, &none, 0, (uint8_t *)room, room_length);
     }
@@ -249,16 +293,14 @@ static inline uint32_t pcalc_put(pcalc *store, uint32_t session, uint32_t space,
                                  size_t value_length, pcalc_answer *answer)
 {
     const pcalc_ask ask = { PCALC_PUT, session, space, 0, 0, 0 };
-    const uint8_t none = 0;
-    return pcalc_call(store, &ask, pcalc_at(key, &none), key_length, pcalc_at(value, &none), value_length, answer);
+    return pcalc_ask_with(store, &ask, key, key_length, value, value_length, answer);
 }
 
 /* Removes a key; returns PCALC_MADE even if it has no value. */
 static inline uint32_t pcalc_del(pcalc *store, uint32_t session, uint32_t space, const void *key, size_t key_length, pcalc_answer *answer)
 {
     const pcalc_ask ask = { PCALC_DEL, session, space, 0, 0, 0 };
-    const uint8_t none = 0;
-    return pcalc_call(store, &ask, pcalc_at(key, &none), key_length, &none, 0, answer);
+    return pcalc_ask_with(store, &ask, key, key_length, NULL, 0, answer);
 }
 
 /* Adds to the number that is a key's value, 8 bytes in big-endian order, or to 0 if it has no value. */
@@ -266,8 +308,7 @@ static inline uint32_t pcalc_add(pcalc *store, uint32_t session, uint32_t space,
                                  pcalc_answer *answer)
 {
     const pcalc_ask ask = { PCALC_ADD, session, space, 0, 0, delta };
-    const uint8_t none = 0;
-    return pcalc_call(store, &ask, pcalc_at(key, &none), key_length, &none, 0, answer);
+    return pcalc_ask_with(store, &ask, key, key_length, NULL, 0, answer);
 }
 
 /* A step of a point's cycle: PCALC_POINT, PCALC_SEAL, PCALC_CAPTURE, PCALC_DONE or PCALC_REST. */
@@ -280,7 +321,8 @@ static inline uint32_t pcalc_phase(pcalc *store, uint32_t kind, pcalc_answer *an
 static inline uint32_t pcalc_take(pcalc *store, void *key_room, size_t key_room_length, void *value_room, size_t value_room_length,
                                   pcalc_answer *answer)
 {
-    uint32_t kind = pcalc_plainly(store, PCALC_TAKE, 0, answer);
+    uint32_t fault = pcalc_null(key_room, key_room_length, value_room, value_room_length);
+    uint32_t kind = fault ? pcalc_refuse(fault, answer) : pcalc_plainly(store, PCALC_TAKE, 0, answer);
     if (kind == PCALC_TOOK || kind == PCALC_TOOK_ABSENT) {
         uint8_t no_key, no_value;
         pcalc_copy(store, 0, key_room ? (uint8_t *)key_room : &no_key, key_room_length, value_room ? (uint8_t *)value_room : &no_value,
@@ -293,8 +335,7 @@ static inline uint32_t pcalc_take(pcalc *store, void *key_room, size_t key_room_
 static inline uint32_t pcalc_join(pcalc *store, uint32_t first, uint32_t second, pcalc_answer *answer)
 {
     const pcalc_ask ask = { PCALC_JOIN, 0, 0, first, second, 0 };
-    const uint8_t none = 0;
-    return pcalc_call(store, &ask, &none, 0, &none, 0, answer);
+    return pcalc_ask_with(store, &ask, NULL, 0, NULL, 0, answer);
 }
 
 #ifdef __cplusplus

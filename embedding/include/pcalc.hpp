@@ -8,7 +8,8 @@
 //     std::optional<std::string> fig = store.begin(1).get("fig");
 //
 // A refusal is thrown as pcalc_refused. If a lock can't be granted immediately, pcalc_waits is thrown (make the same call again once
-// another transaction has ended) or pcalc_died (only an abort is accepted then).
+// another transaction has ended) or pcalc_died (only an abort is accepted then). pcalc_must throws the same for answers of pcalc_threads.h,
+// and pcalc_unknown.
 #ifndef PCALC_HPP
 #define PCALC_HPP
 
@@ -26,8 +27,14 @@
 
 // A refused call, with the reason's number in pcalc_refusal.
 struct pcalc_refused : std::runtime_error {
-    explicit pcalc_refused(const pcalc_answer &answer) : std::runtime_error("pcalc refused, number " + std::to_string(answer.refusal)), refusal(answer.refusal) {}
+    explicit pcalc_refused(const pcalc_answer &answer) : std::runtime_error(std::string("pcalc refused: ") + pcalc_refusal_name(answer.refusal)), refusal(answer.refusal) {}
     std::uint32_t refusal;
+};
+
+// A commit that may be there after a start, or not: the log failed (PCALC_UNKNOWN). It is no refusal, and must not just be made again.
+struct pcalc_unknown : std::runtime_error {
+    explicit pcalc_unknown(const pcalc_answer &answer) : std::runtime_error("it is unknown whether the commit is kept"), entry(answer.number) {}
+    std::uint64_t entry;
 };
 
 struct pcalc_waits : std::runtime_error {
@@ -37,6 +44,23 @@ struct pcalc_waits : std::runtime_error {
 struct pcalc_died : std::runtime_error {
     pcalc_died() : std::runtime_error("an older transaction has the lock") {}
 };
+
+// The answer of any call, unless its kind is thrown.
+inline const pcalc_answer &pcalc_must(const pcalc_answer &answer)
+{
+    switch (answer.kind) {
+    case PCALC_REFUSED:
+        throw pcalc_refused(answer);
+    case PCALC_UNKNOWN:
+        throw pcalc_unknown(answer);
+    case PCALC_WAIT:
+        throw pcalc_waits();
+    case PCALC_DIED:
+        throw pcalc_died();
+    default:
+        return answer;
+    }
+}
 
 class pcalc_store;
 
@@ -128,7 +152,7 @@ private:
     struct unopened {};
     explicit pcalc_store(unopened) {} // delegated to first, so that the destructor runs even if a public constructor throws
 
-    void must(std::uint32_t kind) const { return kind == PCALC_REFUSED ? throw pcalc_refused(answer) : void(); }
+    void must(std::uint32_t) const { pcalc_must(answer); }
 
     void give(std::uint32_t what, std::string_view bytes) { must(pcalc_give(&handle, what, at(bytes), bytes.size(), &answer)); }
 
@@ -161,9 +185,8 @@ inline const pcalc_answer &pcalc_transaction::ask(std::uint32_t kind, std::strin
         throw std::logic_error("the transaction has ended");
     }
     const pcalc_ask asked = { kind, session, space, 0, 0, delta };
-    const std::uint32_t told = pcalc_call(&store->handle, &asked, store->at(key), key.size(), store->at(value), value.size(), &store->answer);
-    store->must(told);
-    return told == PCALC_WAIT ? throw pcalc_waits() : told == PCALC_DIED ? throw pcalc_died() : store->answer;
+    pcalc_ask_with(&store->handle, &asked, key.data(), key.size(), value.data(), value.size(), &store->answer);
+    return pcalc_must(store->answer);
 }
 
 inline pcalc_transaction::~pcalc_transaction()

@@ -115,10 +115,51 @@ static inline int pcalc_give_file(pcalc *store, uint32_t what, const char *dir, 
     return failed;
 }
 
+/* Writes all of the log's entries after the first `*number` at the end of a file that has the log's header and those before, and adds to
+ * `*number` how many. Returns 0 or an error number; after an error the file must not be written any more, as its last entry may not be
+ * whole. */
+static inline int pcalc_write_entries(pcalc *store, int file, uint32_t *number)
+{
+    pcalc_answer answer;
+    int failed = 0;
+    do {
+        uint8_t *text = pcalc_show(store, PCALC_ENTRIES, *number, &answer) == PCALC_TEXT ? pcalc_shown(store, &answer) : NULL;
+        failed = text ? pcalc_write_all(file, text, answer.value_bytes) : ENOMEM;
+        *number += failed ? 0 : (uint32_t)answer.entries;
+        free(text);
+    } while (!failed && answer.entries > 0);
+    return failed;
+}
+
 static inline int pcalc_is_part(const struct dirent *entry)
 {
     size_t length = strlen(entry->d_name);
     return length >= 4 && strcmp(entry->d_name + length - 4, ".pcp") == 0;
+}
+
+/* Whether a folder has it because of a run, or of a served store. */
+static inline int pcalc_is_of_store(const struct dirent *entry)
+{
+    const char *name = entry->d_name;
+    return pcalc_is_part(entry) || strcmp(name, "base.pcb") == 0 || strcmp(name, "log.pcl") == 0 || strcmp(name, "lock") == 0
+           || (strncmp(name, "gen-", 4) == 0 && strlen(name) == 11 && strspn(name + 4, "0123456789") == 7);
+}
+
+/* Returns 0 if the folder has no file of a run and none of a served store, ENOTEMPTY if it has one, or another error number. */
+static inline int pcalc_is_occupied(const char *dir)
+{
+    DIR *folder = opendir(dir);
+    int found = folder ? 0 : errno;
+    struct dirent *entry;
+    errno = 0;
+    while (folder && !found && (entry = readdir(folder)) != NULL) {
+        found = pcalc_is_of_store(entry) ? ENOTEMPTY : 0;
+    }
+    found = found ? found : errno;
+    if (folder) {
+        closedir(folder);
+    }
+    return found;
 }
 
 static inline int pcalc_by_bytes(const struct dirent **first, const struct dirent **second)

@@ -189,6 +189,13 @@ def wrong_arguments():
     if handle.open() != it.REFUSED or it.REFUSALS[handle.answer.refusal] != "Short" or handle.recover() != handle.answer.refusal:
         yield "a bad base is opened"
     handle.close()
+    for words in ({"base": b""}, {"log": b""}):
+        try:
+            it.Store(**words).close()
+            yield f"a store is opened over {words}"
+        except it.Refused as why:
+            if why.word != "Short":
+                yield f"{words}: {why.word}"
 
 
 def cases():

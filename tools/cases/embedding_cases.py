@@ -1,5 +1,6 @@
-"""The library of crates/pc_c in programs of C, C++ and Python, for `try_programs.py`: the examples of `embedding/` and its tests are built and run, what
-`embedding_border.py` calls through the border is compared, and folders go to and fro between the library and the program.
+"""The library of crates/pc_c in programs of C, C++ and Python, for `try_programs.py`: the examples of `embedding/` and its tests are built and run,
+`embedding_border.py` makes calls through the border, `embedding_module.py` uses the module of Python, and folders go to and fro between the library and
+the program.
 
 The archive is the proved one if `rt lib` has built it from the present sources, and otherwise one without proofs, which `tools/build` makes. Which of both is
 printed. If there is no compiler, that is printed, and nothing is counted.
@@ -19,7 +20,16 @@ EMBEDDING = os.path.join(ROOT, "embedding")
 PROVED = os.path.join(ROOT, "crates", "pc_c", "out", "libpc_c.a")
 PROGRAMS = {"first.c": "first_c", "example.c": "example_c", "example.cpp": "example_cpp", "threads.c": "threads"}
 PYTHON = "first.py", "example.py"
-TESTS = {"growths": "growths refused one by one", "turns": "two threads in turn on one handle"}
+TESTS = {"growths": "growths refused one by one", "turns": "two threads in turn on one handle", "edges": "null pointers and other edges",
+         "wrapped": "what the wrapper for C++ throws"}
+FAILING = "failing"
+# how the log's file fails in `failing.c`; the last one needs a file system of its own
+WAYS = "write", "short", "flush", "limit", "full"
+# on a disk of 64 KB that a filler makes full when half of it is the log's
+SMALL = 'mount -t tmpfs -o size=128k pcalc "$2" && mkdir "$2/D" && head -c 64k /dev/zero > "$2/filler" || exit 99; "$1" full "$2/D" "$2/filler"; status=$?; cp -r "$2/D" "$3"; exit $status'
+NOT_MOUNTED = 99
+# what a folder may have that pcalc_share refuses
+OCCUPIED = "base.pcb", "log.pcl", "part-00007.pcp", "lock", "gen-0000012"
 NEEDED = "cc", "c++", "make", "ar", "rt"
 SECONDS, BUILD_SECONDS = 120, 900
 
@@ -64,12 +74,14 @@ def embedded(program, room):
         yield "embedding: tools/build --library", unmarked(ended, archive)
         if ended[0] != 0:
             return
-    built = made(room, archive, "examples", *(f"{room}/out/{it}" for it in TESTS))
+    built = made(room, archive, "examples", *(f"{room}/out/{it}" for it in (*TESTS, FAILING)))
     yield "embedding: make", differing(built, b"")
     if built[0] == 0:
         yield from uses(room)
         yield from installs(room, archive)
         yield from folders(program, room)
+        yield from shares(room)
+        yield from failures(program, room)
 
 
 def unmarked(ended, archive):
@@ -89,10 +101,12 @@ def uses(room):
         yield f"embedding: {source}", differing(ended, content_of(EMBEDDING, "examples", source + ".out"))
     for name, what in TESTS.items():
         yield f"embedding: {what}", differing(run(os.path.join(room, "out", name)), b"ok\n")
-    ended = run(sys.executable, os.path.join(ROOT, "tools", "cases", "embedding_border.py"), env=python)
-    for name, lines in map(json.loads, ended[1].splitlines()):
-        yield f"embedding: {name}", lines
-    yield "embedding: all calls through the border", differing(ended, ended[1])
+    for script, what in (("embedding_border.py", "all calls through the border"), ("embedding_module.py", "all uses of the module")):
+        ended = run(sys.executable, os.path.join(ROOT, "tools", "cases", script), env=python)
+        for name, lines in map(json.loads, ended[1].splitlines()):
+            yield f"embedding: {name}", lines
+        yield f"embedding: {what}", differing(ended, ended[1])
+        sys.stdout.write(ended[2].decode(errors="replace"))
 
 
 def installs(room, archive):
@@ -106,6 +120,10 @@ def installs(room, archive):
         lines = lines or differing(run(f"{room}/by_prefix"), content_of(EMBEDDING, "examples", "example.c.out"))
     lines += [f"pcalc.pc doesn't name {room}/installed"] if not lines and f"prefix={room}/installed".encode() not in content_of(room, "installed/lib/pkgconfig/pcalc.pc") else []
     yield "embedding: make install", lines
+    bare = {name: value for name, value in os.environ.items() if name != "PCALC_SO"} | {"PYTHONPATH": f"{room}/installed/lib/python"}
+    for source in PYTHON:
+        ended = run(sys.executable, os.path.join(EMBEDDING, "examples", source), cwd=room, env=bare)
+        yield f"embedding: {source} by the installed module", differing(ended, content_of(EMBEDDING, "examples", source + ".out"))
 
 
 def folders(program, room):
@@ -135,3 +153,68 @@ def recovered(program, folder, total):
     status, out, err = run(program, "recover", "--strict", folder)
     wanted = b"all " + plain_store.word(total.to_bytes(8, "big"))
     return [] if status == 0 and wanted in out.splitlines() else [f"recover: status {status}", *out.decode().splitlines()[:6], *err.decode().splitlines()[:6]]
+
+
+def shared(room, how, folder):
+    """What `failing.c` prints of a store that is shared over the folder, and what is there then."""
+    return run(os.path.join(room, "out", FAILING), how, folder)[1].decode().strip(), sorted(os.listdir(folder))
+
+
+def shares(room):
+    """Folders that are shared, or refused and left as they were."""
+    seen = []
+    for number, (how, there, wanted, left) in enumerate((
+        *(("share", [name], "ENOTEMPTY", [name]) for name in OCCUPIED),
+        ("share", [], "okwbord", ["base.pcb", "log.pcl"]), ("share", ["gen-1", "notes"], "okwbord", ["base.pcb", "gen-1", "log.pcl", "notes"]),
+        ("share", ["base.pcb.new"], "File exists", ["base.pcb.new"]), ("rename", [], "Input/output error", []), ("unopened", [], "EINVAL", []),
+    )):
+        folder = os.path.join(room, f"shared{number}")
+        os.mkdir(folder)
+        for name in there:
+            with open(os.path.join(folder, name), "wb") as it:
+                it.write(b"x")
+        got = shared(room, how, folder)
+        seen += [] if got == (wanted, left) else [f"{how} {there}: {got} instead of {(wanted, left)}"]
+    yield "embedding: folders that are shared, or refused and left as they were", seen
+
+
+def failed_in(room, way):
+    """How `failing.c` has ended, and its folder."""
+    folder = os.path.join(room, f"log that fails by {way}")
+    if way != "full":
+        os.mkdir(folder)
+        return run(os.path.join(room, "out", FAILING), way, folder), folder
+    disk = os.path.join(room, "disk")
+    os.mkdir(disk)
+    try:
+        return run("unshare", "--map-root-user", "--mount", "sh", "-c", SMALL, "sh", os.path.join(room, "out", FAILING), disk, folder), folder
+    except OSError:
+        return (NOT_MOUNTED, b"", b""), folder
+
+
+def failures(program, room):
+    """Logs that fail while threads commit: what was answered is recovered."""
+    for way in WAYS:
+        (status, out, err), folder = failed_in(room, way)
+        if status == NOT_MOUNTED:
+            print("embedding: no small disk can be made here, so no log fails on a full one")
+            continue
+        keys = run(program, "recover", folder)[1] if status == 0 else b""
+        lines, saw = kept_wrongly(out.decode().splitlines(), {it.split(b" ")[0].decode() for it in keys.splitlines()})
+        print(f"embedding: a log that fails by {way}: {saw}")
+        yield f"embedding: a log that fails by {way}", differing((status, b"", err), b"") or lines
+
+
+def kept_wrongly(lines, words):
+    """What is wrong with the keys among these words, which are recovered, by what `failing.c` printed; and what was seen."""
+    wrong, total = [], [0, 0, 0]
+    *sessions, error = lines or [""]
+    for session, committed, unknown in (map(int, it.split()) for it in sessions):
+        kept = {int(word.split("-")[1]) for word in words if word.startswith(f"{session}-")}
+        wanted = set(range(committed))
+        if not wanted <= kept or not kept - wanted <= set(range(committed, committed + unknown)):
+            wrong.append(f"session {session}: {committed} committed, {unknown} unknown, but {len(kept)} recovered")
+        total = [number + more for number, more in zip(total, (committed, unknown, len(kept)), strict=True)]
+    if not total[0] or not total[1]:
+        wrong.append("too few commits are answered")
+    return wrong, "{} commits are answered COMMITTED, {} UNKNOWN, {} are recovered; {}".format(*total, error)

@@ -5,6 +5,10 @@ import contextlib
 import io
 import os
 import re
+import subprocess
+import sys
+import threading
+import types
 import unittest
 from unittest import mock
 
@@ -13,6 +17,10 @@ from support import ROOT, InFolder
 from tools import text_of
 from tools.cases import embedding_border, embedding_cases
 from tools.oracle import plain_store
+
+sys.path.insert(0, os.path.join(ROOT, "embedding", "python"))
+
+import pcalc_embedded  # noqa: E402
 
 
 def bare(text):
@@ -46,6 +54,15 @@ class Numbers(unittest.TestCase):
 
     def test_kinds_of_the_header(self):
         self.assertEqual(enum_of(self.header, "pcalc_kind"), self.kinds)
+
+    def test_the_kind_of_threads_is_none_of_the_archive(self):
+        self.assertEqual(list(enum_of(self.header, "pcalc_kind_of_threads")), ["UNKNOWN"])
+        self.assertGreater(enum_of(self.header, "pcalc_kind_of_threads")["UNKNOWN"], max(self.kinds.values()))
+
+    def test_names_of_refusals(self):
+        table = re.search(r"names\[\] = {(.*?)}", self.header, re.DOTALL)[1]
+        names = {number: name for number, name in enumerate(re.findall(r'"(.*?)"', table)) if name != "?"}
+        self.assertEqual(names, {number: name.title().replace("_", "") for name, number in enum_of(self.header, "pcalc_refusal").items()})
 
     def test_texts_of_the_header(self):
         self.assertEqual(enum_of(self.header, "pcalc_text"), self.texts)
@@ -82,10 +99,9 @@ class Pages(unittest.TestCase):
             self.assertEqual(len(shown), 1, name)
             self.assertGreaterEqual(len(shown[0].splitlines()), 10)
 
-    def test_the_page_shows_the_examples(self):
-        for language, name in (("c", "first.c"), ("python", "first.py")):
-            first = text_of(ROOT, "embedding", "examples", name)
-            self.assertEqual([first.endswith(it) for it in blocks_of("docs/EMBEDDING.md", language)], [True], name)
+    def test_the_page_shows_the_first_example(self):
+        first = text_of(ROOT, "embedding", "examples", "first.c")
+        self.assertEqual([first.endswith(it) for it in blocks_of("docs/EMBEDDING.md", "c")], [True])
 
 
 class Wrong(plain_store.Store):
@@ -117,6 +133,41 @@ class Scripts(unittest.TestCase):
         self.assertGreater(sum(1 for _ in embedding_border.rows()), 300)
 
 
+class Some(pcalc_embedded.Store):
+    """A store whose log has these entries, of which a call shows two at most. It has no library."""
+
+    def __init__(self, entries):
+        self._lock, self._owner, self.shown = threading.Lock(), os.getpid(), entries
+        self._handle = types.SimpleNamespace(show=self.show, copied=lambda: (b"", self.text), answer=types.SimpleNamespace(entries=0))
+
+    def show(self, what, number):
+        shown = [b"header "] if what == pcalc_embedded.LOG else self.shown[number:number + 2]
+        self.text, self._handle.answer.entries = b"".join(shown), len(shown)
+        return pcalc_embedded.TEXT
+
+
+class Module(InFolder):
+    def test_all_entries_are_shown(self):
+        store = Some([b"a", b"b", b"c", b"d", b"e"])
+        self.assertEqual([store.entries(it) for it in (0, 1, 4, 5, 9)], [b"abcde", b"bcde", b"e", b"", b""])
+        self.assertEqual((store.log(), Some([]).log()), (b"header abcde", b"header "))
+
+    def test_where_the_library_is(self):
+        module = self.write("lib/python/pcalc_embedded.py", text_of(ROOT, "embedding", "python", "pcalc_embedded.py"))
+        settings = {name: value for name, value in os.environ.items() if name != "PCALC_SO"} | {"PYTHONPATH": os.path.dirname(module)}
+        program = "import ctypes, pcalc_embedded; ctypes.CDLL = print; pcalc_embedded._library()"
+
+        def found(**more):
+            return subprocess.run([sys.executable, "-c", program], cwd=self.folder, env={**settings, **more}, capture_output=True, text=True, check=False).stdout
+
+        self.assertEqual(found(), "libpcalc.so\n")
+        for place in ("lib/out/libpcalc.so", "libpcalc.so", "lib/libpcalc.so", "lib/python/libpcalc.so"):
+            path = self.write(place, "")
+            self.assertEqual(found(), os.path.realpath(path) + "\n")
+        for given, wanted in (("a/x.so", os.path.join(os.path.realpath(self.folder), "a", "x.so")), ("x.so", "x.so"), ("/a/x.so", "/a/x.so")):
+            self.assertEqual(found(PCALC_SO=given), wanted + "\n")
+
+
 class Archives(InFolder):
     def test_an_archive_is_current_after_its_sources(self):
         source, archive = self.write("a.rt", "a"), os.path.join(self.folder, "a.a")
@@ -133,6 +184,15 @@ class Archives(InFolder):
         self.write("b.a", "..pc_c..")
         self.assertEqual(len(embedding_cases.unmarked((0, b"", b""), os.path.join(self.folder, "b.a"))), 1)
         self.assertEqual(embedding_cases.unmarked((1, b"why", b""), "none"), ["status 1", "why"])
+
+    def test_commits_that_are_kept_wrongly_are_found(self):
+        told = ["1 2 1", "2 1 0", "unshare: full"]
+        self.assertEqual(embedding_cases.kept_wrongly(told, {"1-0", "1-1", "2-0"}),
+                         ([], "3 commits are answered COMMITTED, 1 UNKNOWN, 3 are recovered; unshare: full"))
+        self.assertEqual(embedding_cases.kept_wrongly(told, {"1-0", "1-1", "1-2", "2-0", "other"})[0], [])
+        for words, session in (({"1-0", "1-1"}, 2), ({"1-0", "1-1", "2-0", "2-1"}, 2), ({"1-0", "2-0"}, 1), ({"1-0", "1-1", "1-3", "2-0"}, 1)):
+            self.assertEqual([line.split(":")[0] for line in embedding_cases.kept_wrongly(told, words)[0]], [f"session {session}"])
+        self.assertEqual(embedding_cases.kept_wrongly([], set())[0], ["too few commits are answered"])
 
     def test_without_a_compiler_nothing_is_counted(self):
         out = io.StringIO()

@@ -115,3 +115,12 @@ class Installs(InFolder):
         self.assertEqual(self.installed(), ['install -m 755 "out/pcalc" "/p/bin/pcalc"'])
         self.write("crates/pcalc/out/pcalc", "")
         self.assertEqual(self.installed(), ['install -m 755 "crates/pcalc/out/pcalc" "/p/bin/pcalc"'])
+
+    def test_the_module_of_python_is_installed_below_the_library(self):
+        makefile = os.path.join(os.path.dirname(TOOLS), "embedding", "Makefile")
+        archive = self.write("libpc_c.a", "")
+        words = ["make", "-n", "-f", makefile, "install", "PREFIX=/p", f"ARCHIVE={archive}", f"HEAP={archive}", f"OUT={self.folder}/out"]
+        out = subprocess.run(words, cwd=self.folder, capture_output=True, text=True, check=True).stdout
+        copies = {line.split()[-1]: line.split()[1:-1] for line in out.splitlines() if line.startswith("cp ")}
+        self.assertIn(f"{self.folder}/out/libpcalc.so", copies["/p/lib/"])
+        self.assertEqual([os.path.relpath(it, os.path.dirname(TOOLS)) for it in copies["/p/lib/python/"]], ["embedding/python/pcalc_embedded.py"])

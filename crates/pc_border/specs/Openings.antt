@@ -7,9 +7,9 @@ use Rattle.pc_model.specs.Database.{database_of}
 use Rattle.pc_model.specs.Files.{BaseFile}
 use Rattle.pc_model.specs.Maps.{len}
 use Rattle.pc_model.specs.Replies.{Setting}
-use Rattle.pc_recover.specs.Recovery.{Recovery, recovery}
+use Rattle.pc_recover.specs.Recovery.{Recovery}
 use Rattle.pc_engine.specs.Runs.{starting}
-use Rattle.pc_border.specs.Sources.{is_given, IsRecoveredFrom}
+use Rattle.pc_border.specs.Sources.{is_given, recovery_from, IsRecoveredFrom}
 use Rattle.pc_border.specs.declared.opening.Options.{Options}
 use Rattle.pc_border.specs.declared.sources.Sources.{Sources}
 
@@ -33,7 +33,7 @@ IsStart sources options setting = (base : BaseFile) × IsBaseOf (is_given source
 -- failed
 abbrev pub IsBaseless : Sources → Refusal → Type 0
 IsBaseless sources why =
-    (recovery sources.base sources.parts sources.log ≡ Err why)
+    (recovery_from sources ≡ Err why)
     ⊎ ((why ≡ Full) × ((last : ℕ) × (found : Recovery) × IsRecoveredFrom sources last found × ((2 ^ 64 ≤ last + 1) ⊎ (MOST_FILE_ENTRIES < len found.pairs))))
     ⊎ (why ≡ OutOfMemory)
 

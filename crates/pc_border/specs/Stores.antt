@@ -19,6 +19,7 @@ use Rattle.pc_wire.specs.declared.answers.Answer.{Answer}
 use Rattle.pc_wire.specs.declared.calls.Call.{Call}
 use Rattle.pc_wire.specs.declared.codes.TheConstants.{BASE, PART, LOG, ENTRIES}
 use Rattle.pc_border.specs.declared.open_store.OpenStore.{OpenStore}
+use Rattle.pc_border.specs.declared.open_store.TheConstants.{MOST_SHOWN}
 use Rattle.pc_wire.specs.declared.shown.Shown.TheVariants as shown
 
 -- The world answered the event with this reply: for each history that it represented, the reply is legal, and it represents the
@@ -45,10 +46,16 @@ IsShownText text entries old answer new =
     ((answer ≡ text_told (length text) entries) × (new ≡ record { world = old.world; shown = shown.Text text }))
     ⊎ ((answer ≡ refusal_told OutOfMemory) × (new ≡ old))
 
--- the texts of some entries are shown, from the one at this place on: of one at least if there is one
+-- that many of this many entries after the first ones may be shown at a time: at most 65,536, and at least one, unless none is left
+pub record IsPieceOf (behind total count : ℕ) : Type 0 where
+  pub most : count ≤ MOST_SHOWN
+  pub some : behind < total → (1 ≤ count) × (behind + count ≤ total)
+  pub none : total ≤ behind → count ≡ 0
+
+-- the texts of entries are shown, from the one at this place on, and of no others
 abbrev pub AreEntriesShown : ℕ → OpenStore → Answer → OpenStore → Type 0
 AreEntriesShown behind old answer new = (count : ℕ) × IsShownText (flat_map entry_text (slice_range old.world.log behind (behind + count))) count old answer new
-    × (behind < length old.world.log → (1 ≤ count) × (behind + count ≤ length old.world.log))
+    × IsPieceOf behind (length old.world.log) count
 
 -- the text of a file of the shelf is shown, or there is no such file
 abbrev pub IsFileShown : Option File → OpenStore → Answer → OpenStore → Type 0

@@ -1,16 +1,18 @@
 //! A store that is open: its world, and what was shown of it last.
-ghost use Rattle.std.specs.Prelude.{◌≡◌, ℕ, List, IfSome};
+ghost use Rattle.std.specs.Prelude.{◌≡◌, ◌+◌, ℕ, List, length, IfSome, slice_range};
+ghost use Rattle.std.specs.List.{flat_map};
 ghost use Rattle.pc_model.specs.Files.{file_at};
-ghost use Rattle.pc_log.specs.Texts.{header_text};
+ghost use Rattle.pc_kept_log.specs.Logs.{entries_of};
+ghost use Rattle.pc_log.specs.Texts.{entry_text, header_text};
 ghost use Rattle.pc_part.specs.Texts.{part_text};
 ghost use Rattle.pc_bases.specs.Texts.{base_text};
 ghost use Rattle.pc_wire.specs.Calls.{event_asked};
-ghost use Rattle.pc_border.specs.Stores.{IsReplyShown, IsReplied, IsShownText, IsFileShown, IsText, AreEntriesShown};
+ghost use Rattle.pc_border.specs.Stores.{IsReplyShown, IsReplied, IsShownText, IsFileShown, IsText, IsPieceOf, AreEntriesShown};
 
 use crate::sources::copied;
 use pc_engine::World;
 use pc_io::Tally;
-use pc_kept_log::LentTexts;
+use pc_kept_log::{LentTexts, Log};
 use pc_log::encode_header;
 use pc_part::Part;
 use pc_types::{FileNo, Items, Refusal, Reply};
@@ -53,9 +55,9 @@ impl OpenStore {
 
     /// Shows a text: that of the base that the store started from (`BASE`); that of the file of the shelf with this number (`PART`); what
     /// comes before the entries in the log's file (`LOG`); or the texts of entries of the log, in order (`ENTRIES`): of those after the
-    /// first `number`, at most 65,536, and at least one if there is one; the answer has their number. Returns `BadKind` if and only if it
-    /// is called none of these, `NoFile` if and only if there is no such file; otherwise the only error is `OutOfMemory`; then nothing is
-    /// changed.
+    /// first `number`, at most 65,536, and at least one, unless none is left; the answer has their number. Returns `BadKind` if and only
+    /// if it is called none of these, `NoFile` if and only if there is no such file; otherwise the only error is `OutOfMemory`; then
+    /// nothing is changed.
     pub fn show_text(&mut self, alloc: Global, what: u32, number: u32) -> Answer
         ensures { IsText what number self.old result self.new }
     {
@@ -101,7 +103,7 @@ impl OpenStore {
     fn show_entries(&mut self, alloc: Global, behind: usize) -> Answer
         ensures { AreEntriesShown behind self.old result self.new }
     {
-        let LentTexts { bytes, count } = self.world.log().texts(behind, MOST_SHOWN);
+        let LentTexts { bytes, count } = piece_behind(self.world.log(), behind);
         let text = copied(alloc, bytes);
         self.show(text, count as u64)
     }
@@ -129,6 +131,20 @@ fn reply_to(world: &mut World, alloc: Global, call: &Call, key: &[u8], value: &[
         Ok(event) => world.step(&event),
         Err(why) => Reply::Refused(why),
     }
+}
+
+// The texts of some entries after the first ones, whose number is given: of one at least, unless none is left.
+fn piece_behind(log: &Log, behind: usize) -> LentTexts<'_>
+    ensures texts { result.bytes.now ≡ flat_map entry_text (slice_range (entries_of log.now) behind (behind + result.count)) }
+    ensures piece { IsPieceOf behind (length (entries_of log.now)) result.count }
+{
+    if log.len() <= behind {
+        return LentTexts {
+            bytes: &[],
+            count: 0,
+        };
+    }
+    log.texts(behind, MOST_SHOWN)
 }
 
 // The text of the base; `None` if an allocation failed.

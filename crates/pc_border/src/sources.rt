@@ -1,10 +1,10 @@
 //! The sources of a recovery, given piece by piece.
-ghost use Rattle.std.specs.Prelude.{◌≡◌, ◌⊎◌, [], true, false, length, map, IfOk, IfErr, IfSome, OnOk, OnErr};
+ghost use Rattle.std.specs.Prelude.{◌≡◌, ◌⊎◌, [], None, true, false, length, map, IfOk, IfErr, IfSome, OnOk, OnErr};
 ghost use Rattle.pc_types.specs.declared.refusal.Refusal.TheVariants.{OutOfMemory, BadKind};
 ghost use Rattle.pc_io.specs.Fields.{Gives};
 ghost use Rattle.pc_model.specs.Database.{KeysRise};
-ghost use Rattle.pc_recover.specs.Recovery.{IsOfRun, recovery, recovery_of};
-ghost use Rattle.pc_border.specs.Sources.{is_given, is_source, with_source, summary_of_recovery, fault_number};
+ghost use Rattle.pc_recover.specs.Recovery.{IsOfRun, recovery_of};
+ghost use Rattle.pc_border.specs.Sources.{is_given, is_some, is_source, with_source, text_of, recovery_from, summary_of_recovery, fault_number};
 
 use pc_recover::{Recovered, recover};
 use pc_types::{Items, Refusal};
@@ -33,30 +33,28 @@ pub struct RecoverySummary {
 /// The texts that a store is recovered from, as far as they were given: of a base, of parts and of a log.
 #[derive(Drop)]
 pub struct Sources {
-    pub base: Items<u8>,
+    pub base: Option<Items<u8>>,
     pub parts: Items<Items<u8>>,
-    pub log: Items<u8>,
+    pub log: Option<Items<u8>>,
 }
 
 impl Sources {
     /// Nothing was given. It allocates no memory.
     pub fn new(alloc: Global) -> Sources
-        ensures { result ≡ record { base = []; parts = []; log = [] } }
+        ensures { result ≡ record { base = None; parts = []; log = None } }
     {
         Sources {
-            base: Items::new(alloc),
+            base: None,
             parts: Items::new(alloc),
-            log: Items::new(alloc),
+            log: None,
         }
     }
 
-    /// Whether anything was given.
+    /// Whether anything was given, even if it has no bytes.
     pub fn is_given(&self) -> bool
         ensures { result ≡ is_given self.now }
     {
-        !(self.base.as_slice().is_empty()
-            && self.parts.as_slice().is_empty()
-            && self.log.as_slice().is_empty())
+        is_some(&self.base) || !self.parts.as_slice().is_empty() || is_some(&self.log)
     }
 
     /// Keeps a copy of a text: the base's or the log's in place of what was given before, or a part's after those before. Returns
@@ -81,21 +79,41 @@ impl Sources {
         ensures refusals { IfErr result (λ why. why ≡ OutOfMemory) }
     {
         match what {
-            BASE => self.base = text,
+            BASE => self.base = Some(text),
             PART => self.parts.push(text)?,
-            _ => self.log = text,
+            _ => self.log = Some(text),
         }
         Ok(())
     }
 
     /// The state recovered from what was given, by the rules of `pc_recover` `recover`, whose refusals it has.
     pub fn recover(&self, alloc: Global) -> Result<Recovered, Refusal>
-        ensures rules { Gives recovery_of result (recovery self.now.base self.now.parts self.now.log) }
+        ensures rules { Gives recovery_of result (recovery_from self.now) }
         ensures rise { IfOk result (λ recovered. KeysRise recovered.pairs.items) }
-        ensures run { IfOk result (λ recovered. IsOfRun self.now.base recovered.run) }
+        ensures run { IfOk result (λ recovered. IsOfRun (text_of self.now.base) recovered.run) }
     {
         let parts = slices_of(alloc, self.parts.as_slice())?;
-        recover(alloc, self.base.as_slice(), &parts, self.log.as_slice())
+        recover(alloc, bytes_of(&self.base), &parts, bytes_of(&self.log))
+    }
+}
+
+// Whether the text was given.
+fn is_some(text: &Option<Items<u8>>) -> bool
+    ensures { result ≡ is_some text.now }
+{
+    match text {
+        Some(_) => true,
+        None => false,
+    }
+}
+
+// The bytes of the text; none if it wasn't given.
+fn bytes_of(text: &Option<Items<u8>>) -> &[u8]
+    ensures { result.now ≡ text_of text.now }
+{
+    match text {
+        Some(bytes) => bytes.as_slice(),
+        None => &[],
     }
 }
 

@@ -1,5 +1,5 @@
 //! A store at the border: open, or what it will be recovered from.
-ghost use Rattle.std.specs.Prelude.{◌≡◌, []};
+ghost use Rattle.std.specs.Prelude.{◌≡◌, [], None};
 ghost use Rattle.pc_border.specs.Handled.{IsCallAnswered, IsTextShown, IsCopied, IsGivenTo, IsOpenedBy, IsRecoverySummary};
 ghost use Rattle.pc_border.specs.declared.store.Store.TheVariants.{Gathering};
 
@@ -23,7 +23,7 @@ pub enum Store {
 impl Store {
     /// A store that isn't open, and for which nothing was given. It allocates no memory.
     pub fn new(alloc: Global) -> Store
-        ensures { result ≡ Gathering (record { base = []; parts = []; log = [] }) }
+        ensures { result ≡ Gathering (record { base = None; parts = []; log = None }) }
     {
         Store::Gathering(Sources::new(alloc))
     }

@@ -10,7 +10,7 @@ use Rattle.pc_border.specs.declared.store.Store.TheVariants.{Gathering}
 
 -- a handle that has nothing represents a store that isn't open, and for which nothing was given
 abbrev pub store_of : Option Store → Store
-store_of None = Gathering (record { base = []; parts = []; log = [] })
+store_of None = Gathering (record { base = None; parts = []; log = None })
 store_of (Some store) = store
 
 -- the recovered state is reported, by 0; or why it wasn't recovered, by the number of the refusal, and no state is
