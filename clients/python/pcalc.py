@@ -18,25 +18,31 @@
                 with pipeline.transaction() as t:
                     t[b"k%d" % number] = b"v"
 
-A key is bytes, or a pair of a space (0 to 65,535) and bytes; the bytes alone are a key of space 0. A value is bytes. A commit that was
-answered is in the store's log: the next process that opens the store has it, even if this one is killed.
+A key is bytes, or a pair of a space (0 to 65,535) and bytes; the bytes alone are a key of space 0. A value is bytes. Where bytes are given,
+a bytearray or a memoryview will do; other types raise TypeError. A commit that was answered is in the store's log: the next process that opens
+the store has it, even if this one is killed.
 
 A transaction locks what it reads and writes until it ends. A request that conflicts with another transaction waits if its own transaction is
 the older one; otherwise its transaction dies, which raises `Died`: nothing of it is kept, and it may be begun again.
 
-This module needs only Python 3.8 and its standard library. It isn't proved.
+An exception out of a signal handler, as KeyboardInterrupt, ends a block as any other does, and the store goes on; whether a commit that it
+interrupts is kept isn't known. The store's process has a session of the system's own, so ^C at a terminal doesn't reach it. A child that is
+forked can't use its parent's store, and doesn't keep it open.
+
+This module needs only Python 3.8 and its standard library; before Python 3.10 such an exception may leave the store locked. It isn't proved.
 """
 
 import collections
+import contextlib
 import itertools
+import operator
 import os
 import queue
-import random
 import re
 import subprocess
 import tempfile
 import threading
-import time
+import weakref
 
 __all__ = ["Store", "Transaction", "Pipeline", "Batch", "Error", "Refused", "Died", "Ended", "number_of", "value_of"]
 
@@ -49,8 +55,10 @@ MOST_SPACE = 65_535
 DEPTH = 1000
 # bytes that a read asks for
 READ_BYTES = 65_536
-# the longest pause before a transaction that died is begun again, in seconds
-LONGEST_PAUSE = 0.05
+# how long a transaction that died waits for the end of another one before it is begun again, in seconds: at first, and at most
+FIRST_PAUSE, LONGEST_PAUSE = 0.001, 0.064
+# how many ends in a row may be of transactions that died
+MOST_DEAD = 7
 
 _PLAIN = re.compile(rb"[!-\[\]-~]+")
 _ESCAPED = re.compile(rb"\\x([0-9a-f]{2})")
@@ -104,12 +112,17 @@ def bytes_of(text):
     return _ESCAPED.sub(lambda it: bytes((int(it[1], 16),)), text) if b"\\" in text else text
 
 
+def _bytes(value, what):
+    if not isinstance(value, (bytes, bytearray, memoryview)):
+        raise TypeError("%s, not %s" % (what, type(value).__name__))
+    return bytes(value)
+
+
 def key_word(key):
     """The word that spells this key: bytes, or a pair of a space and bytes. Raises `Refused` if the length isn't one of a key."""
-    space, own = key if isinstance(key, tuple) else (0, key)
-    if isinstance(own, str):
-        raise TypeError("a key is bytes, or a pair of a space and bytes")
-    if not 0 <= space <= MOST_SPACE:
+    space, own = key if isinstance(key, tuple) and len(key) == 2 else (0, key)
+    own = _bytes(own, "a key is bytes, or a pair of a space and bytes")
+    if not 0 <= operator.index(space) <= MOST_SPACE:
         raise ValueError("a space is a number from 0 to 65,535")
     if not 1 <= len(own) <= MOST_KEY_BYTES:
         raise Refused("KeyLength")
@@ -118,8 +131,7 @@ def key_word(key):
 
 def value_word(value):
     """The word that spells this value. Raises `Refused` if it is too long."""
-    if isinstance(value, (int, str)):
-        raise TypeError("a value is bytes")
+    value = _bytes(value, "a value is bytes")
     if len(value) > MOST_VALUE_BYTES:
         raise Refused("ValueLength")
     return word(value)
@@ -127,7 +139,7 @@ def value_word(value):
 
 def delta_word(delta):
     """The word that spells a number to add."""
-    if not -(2**63) <= delta < 2**63:
+    if not -(2**63) <= operator.index(delta) < 2**63:
         raise ValueError("a number to add has 64 signed bits")
     return b"%d" % delta
 
@@ -164,56 +176,79 @@ def fault_of(answer):
     return Error("the store answered `%s`" % answer.decode(errors="replace"))
 
 
-def command(folder, program="pcalc", create=False, sync=False, damaged=False, **numbers):
-    """The words of a command that serves the store of the folder. `program` is a path, or a list of words; the numbers are `sessions`,
-    `capacity`, `every`, `roll`, `keep`, `lag` and `run`, as in docs/MANUAL.md."""
+def command(folder, program="pcalc", create=False, sync=False, damaged=False, import_from=None, **numbers):
+    """The words of a command that serves the store of the folder. `program` is a path, or a list of words; `import_from` is the folder of
+    `--import`; the numbers are `sessions`, `capacity`, `every`, `roll`, `keep`, `lag` and `run`, as in docs/MANUAL.md."""
     unknown = sorted(set(numbers) - {"sessions", "capacity", "every", "roll", "keep", "lag", "run"})
     if unknown:
         raise TypeError("there is no option %s" % unknown[0])
     words = [program] if isinstance(program, (str, os.PathLike)) else list(program)
     words += ["serve", os.fspath(folder)]
     words += [flag for flag, is_given in (("--create", create), ("--sync", sync), ("--damaged", damaged)) if is_given]
+    words += [] if import_from is None else ["--import", os.fspath(import_from)]
     for name, number in numbers.items():
         words += [] if number is None else ["--" + name, str(number)]
     return words
 
 
 class _Asked:
-    """Lines that were written together, and their answers so far. `gate` is released once all are answered, or the process has ended."""
+    """Lines that are written together, and their answers so far. `gate` is released once all are answered, or the process has ended; `then` is
+    called before. `ends` is then how many transactions have ended, of which `counted` by these lines. They may be the
+    abort of one that died."""
 
-    __slots__ = ("count", "answers", "gate")
+    __slots__ = ("text", "count", "answers", "gate", "is_of_dead", "then", "ends", "counted")
 
-    def __init__(self, count):
-        self.count, self.answers, self.gate = count, [], threading.Lock()
+    def __init__(self, lines, is_of_dead=False, then=None):
+        self.text, self.count, self.answers, self.gate = b"\n".join(lines) + b"\n", len(lines), [], threading.Lock()
+        self.is_of_dead, self.then, self.ends, self.counted = is_of_dead, then, 0, 0
         self.gate.acquire()
+
+    def release(self):
+        if self.then is not None:
+            self.then()
+        self.gate.release()
+
+    def is_end(self):
+        """Whether a transaction has ended that hadn't died. In many lines nobody looks, and one is taken to have."""
+        last = self.answers[-1]
+        return self.count > 1 or last[:10] == b"committed " or last == b"aborted" and not self.is_of_dead
 
 
 class _Stream:
-    """The stream to the process and back. Lines of one call stay together in it; one thread reads the answers and distributes them."""
+    """The stream to the process and back. Lines of one call stay together in it. One thread writes them, and one reads the answers and distributes
+    them: as exceptions out of signal handlers are raised in the main thread alone, none comes between noting lines and writing all of them."""
 
     def __init__(self, words):
         # standard error goes to a file, so that nobody has to read it meanwhile
-        self.errors, self.message = tempfile.TemporaryFile(), ""
+        self.errors, self.message, self.owner = tempfile.TemporaryFile(), "", os.getpid()
         try:
-            self.process = subprocess.Popen(words, stdin=subprocess.PIPE, stdout=subprocess.PIPE, stderr=self.errors, bufsize=0)
+            self.process = subprocess.Popen(words, stdin=subprocess.PIPE, stdout=subprocess.PIPE, stderr=self.errors, bufsize=0, start_new_session=True)
         except OSError as fault:
             self.errors.close()
             raise Ended("the program can't be started: %s" % fault) from fault
-        self.asked, self.writing, self.has_ended = collections.deque(), threading.Lock(), False
-        # by session: its request, which was answered `wait`, has been granted
-        self.granted = [threading.Event() for _ in range(MOST_SESSIONS + 1)]
-        ready = _Asked(1)
+        _streams.add(self)
+        self.requests, self.sending, self.is_closed = queue.SimpleQueue(), threading.Lock(), False
+        self.asked, self.noting, self.has_ended = collections.deque(), threading.Lock(), False
+        # by session: has something once its request, which was answered `wait`, has been granted
+        self.granted = [queue.SimpleQueue() for _ in range(MOST_SESSIONS + 1)]
+        # how many transactions have ended, the last ones dead; who has `first` waits for the next end, at which `over` is released, or a pause
+        self.ends, self.dead, self.first, self.over, self.pause = 0, 0, threading.Lock(), threading.Lock(), FIRST_PAUSE
+        ready = _Asked([b""])
         self.asked.append(ready)
-        self.reader = threading.Thread(target=self.read, name="pcalc answers", daemon=True)
+        self.writer, self.reader = (threading.Thread(target=it, name="pcalc " + it.__name__, daemon=True) for it in (self.write, self.read))
+        self.writer.start()
         self.reader.start()
-        ready.gate.acquire()
-        self.ready = ready.answers[0] if ready.answers else b""
-        if not re.fullmatch(rb"ready run [0-9]+ pairs [0-9]+", self.ready):
-            if self.ready:
-                self.process.kill()
-            fault = self.fault()
+        try:
+            ready.gate.acquire()
+            self.ready = ready.answers[0] if ready.answers else b""
+            if not re.fullmatch(rb"ready run [0-9]+ pairs [0-9]+", self.ready):
+                if self.ready:
+                    self.process.kill()
+                raise self.fault()
+        except BaseException:
+            self.process.kill()
             self.close()
-            raise fault
+            raise
 
     def read(self):
         """Reads answers until there are no more, and then releases all who still wait for one."""
@@ -231,18 +266,18 @@ class _Stream:
             self.process.kill()  # it answers what wasn't asked
             raise
         finally:
-            with self.writing:
+            with self.noting:
                 self.has_ended = True
             while self.asked:
-                self.asked.popleft().gate.release()
+                self.asked.popleft().release()
             for it in self.granted:
-                it.set()
+                it.put(None)
 
     def without_granted(self, lines):
         """The lines that are answers. Each other one says that the request for which a session waits is granted."""
         for line in lines:
             if line[:8] == b"granted ":
-                self.granted[int(line[8:])].set()
+                self.granted[int(line[8:])].put(None)
         return [line for line in lines if line[:8] != b"granted "]
 
     def deal(self, answers):
@@ -255,42 +290,91 @@ class _Stream:
             place = end
             if len(asked.answers) == asked.count:
                 self.asked.popleft()
-                asked.gate.release()
+                self.finish(asked)
+
+    def finish(self, asked):
+        """Counts what has ended, and lets go on who waits for the answers or for an end. An end of one that died counts too, since another may
+        have died in a conflict with it; but not of many in a row, as these all conflict with one that is still open."""
+        is_end = asked.is_end()
+        self.dead = 0 if is_end else self.dead + asked.is_of_dead
+        asked.counted = int(is_end or asked.is_of_dead and self.dead <= MOST_DEAD)
+        self.ends += asked.counted
+        asked.ends = self.ends
+        asked.release()
+        if asked.counted and self.over.locked():
+            self.over.release()
 
     def ask(self, lines):
-        """Writes the lines together, and returns the answer to each. No other line comes between them."""
-        asked = _Asked(len(lines))
-        self.write(asked, b"\n".join(lines) + b"\n")
+        """The answer to each of the lines, which are written together. No other line comes between them."""
+        return self.question(lines).answers
+
+    def question(self, lines, is_of_dead=False):
+        """Asks the lines, and waits for their answers."""
+        asked = _Asked(lines, is_of_dead)
+        self.must_be_own()
+        with self.sending:
+            if self.is_closed:
+                raise Ended("the store is closed", self.process.returncode)
+            self.requests.put(asked)
         asked.gate.acquire()
         if len(asked.answers) < asked.count:
             raise self.fault()
-        return asked.answers
+        return asked
 
-    def write(self, asked, text):
-        with self.writing:
-            if self.has_ended:
-                raise self.fault()
-            self.asked.append(asked)
-            try:
-                self.write_all(text)
-            except OSError:
-                pass  # the process has ended: so do its answers, and `read` releases all who wait
+    def must_be_own(self):
+        if os.getpid() != self.owner:
+            raise Error("the store belongs to the process that opened it, and this one was forked from that: it needs a store of its own")
 
-    def write_all(self, text):
-        """Writes all of it. If that is interrupted, a part of a line may be written, and nothing more can be asked."""
-        rest, target = memoryview(text), self.process.stdin.fileno()
-        try:
-            while rest:
-                rest = rest[os.write(target, rest):]
-        except BaseException:
-            self.process.kill()
-            raise
+    def write(self):
+        """Writes what is asked until the stream is closed."""
+        for it in iter(self.requests.get, None):
+            texts = [self.noted(it)]
+            while not self.requests.empty():
+                it = self.requests.get()
+                if it is None:
+                    self.requests.put(None)
+                    break
+                texts.append(self.noted(it))
+            with contextlib.suppress(OSError):  # the process has ended: so do its answers, and `read` releases all who wait
+                rest = memoryview(b"".join(texts))
+                while rest:
+                    rest = rest[os.write(self.process.stdin.fileno(), rest):]
+        self.process.stdin.close()
+
+    def noted(self, asked):
+        """The text to write for what is asked, whose answers come next but for those already noted. What is asked may be a lost session."""
+        if isinstance(asked, _Watch):
+            asked = _Asked([b"abort %d" % asked.number], then=asked.renew)
+        with self.noting:
+            if not self.has_ended:
+                self.asked.append(asked)
+                return asked.text
+        asked.release()
+        return b""
 
     def wait_until_granted(self, session):
-        self.granted[session].wait()
+        self.granted[session].get()
         if self.has_ended:
             raise self.fault()
-        self.granted[session].clear()
+
+    def forget_granted(self, session):
+        while not self.granted[session].empty():
+            self.granted[session].get()
+
+    @contextlib.contextmanager
+    def turn(self, ends):
+        """A block in which a transaction that died is begun again: one such block at a time, unless one takes long. It begins once more
+        transactions than these have ended, or after a pause, which gets longer until one ends."""
+        is_first = self.first.acquire(timeout=LONGEST_PAUSE)
+        try:
+            self.over.acquire(blocking=False)
+            if self.ends == ends and not self.has_ended:
+                is_over = self.over.acquire(timeout=self.pause)
+                self.pause = FIRST_PAUSE if is_over else min(2 * self.pause, LONGEST_PAUSE)
+            yield
+        finally:
+            if is_first:
+                self.first.release()
 
     def fault(self):
         """The exception for the end of the process."""
@@ -300,17 +384,88 @@ class _Stream:
         return Ended(self.message or "the store's process has ended with status %d" % status, status)
 
     def close(self):
-        """Ends the input, and waits for the process. False if that was done before."""
+        """Ends the input, and waits for the process. False if that was done before, or is another process' to do."""
         if self.errors.closed:
             return False
-        with self.writing:
-            self.has_ended = True
-            self.process.stdin.close()
+        with self.sending:
+            self.is_closed = True
+            self.requests.put(None)
+        self.writer.join()
         self.fault()
         self.reader.join()
         self.process.stdout.close()
         self.errors.close()
         return True
+
+    def leave_to_parent(self):
+        """In a child that was forked: closes what it has of the stream, so that the store's process ends with the parent."""
+        for it in (self.process.stdin, self.process.stdout, self.errors):
+            it.close()
+
+
+_streams = weakref.WeakSet()
+
+
+def _leave_to_parent():
+    for it in list(_streams):
+        it.leave_to_parent()
+
+
+os.register_at_fork(after_in_child=_leave_to_parent)
+
+
+class _Session:
+    """A session. Whoever has it may use its number; if it is dropped, what is open in it is aborted, and there is a new one of its number.
+    So none is lost by an exception, wherever that is raised."""
+
+    __slots__ = ("number", "thread", "__weakref__")
+
+    def __init__(self, number):
+        self.number, self.thread = number, None
+
+
+class _Watch(weakref.ref):
+    """Is asked once its session was dropped."""
+
+    __slots__ = ("number", "renew")
+
+
+class _Sessions:
+    """The sessions of a store. Each thread has at most one of them."""
+
+    def __init__(self, stream, count):
+        self.stream, self.free, self.watches, self.threads = stream, queue.SimpleQueue(), {}, threading.local()
+        for number in range(1, count + 1):
+            self.add(number)
+
+    def add(self, number):
+        session = _Session(number)
+        watch = self.watches[number] = _Watch(session, self.stream.requests.put)
+        watch.number, watch.renew = number, lambda: self.add(number)
+        self.stream.forget_granted(number)
+        self.free.put(session)
+
+    def take(self):
+        self.stream.must_be_own()
+        thread, taken = threading.get_ident(), getattr(self.threads, "session", lambda: None)()
+        if taken is not None and taken.thread == thread:
+            raise Error("this thread already has a transaction open, for which a second one could wait forever")
+        session = self.free.get()
+        session.thread = thread
+        self.threads.session = weakref.ref(session)
+        return session
+
+    def abort(self, session, has_died=False):
+        """Aborts the session's transaction, if it has one. How many ends were counted."""
+        with contextlib.suppress(Error):  # if the process has ended, or is another one's, nothing of it is kept either
+            return self.stream.question([b"abort %d" % session.number], has_died).counted
+        return 0
+
+    def leave(self, session):
+        """Nothing is open in the session, and others may take it."""
+        self.stream.forget_granted(session.number)
+        session.thread = None
+        self.free.put(session)
 
 
 class Store:
@@ -318,8 +473,9 @@ class Store:
     any number of threads, each with one transaction at a time; while all sessions have a transaction open, a further one waits for one of
     these to end.
 
-    `program` is the path of pcalc, or a list of words; `create` makes the folder and the store if there is none; `sync` answers a commit
-    once it is on the disk; `lag`, `sessions`, `capacity`, `every`, `roll`, `keep`, `damaged` and `run` are as in docs/MANUAL.md. Raises
+    `program` is the path of pcalc, or a list of words; `create` makes the folder and the store if there is none, from the state of the folder
+    `import_from` if that is given, which is the option `--import`; `sync` answers a commit once it is on the disk; `lag`, `sessions`,
+    `capacity`, `every`, `roll`, `keep`, `damaged` and `run` are as in docs/MANUAL.md. Raises
     `Ended`, with the program's message, if it can't be opened: "pcalc: shop: Busy" if another process has it.
 
     `run_number` is the number of the run with which the process began, and `pairs` the number of its pairs; a later generation is a run
@@ -331,11 +487,7 @@ class Store:
         self.process = self._stream.process
         _, _, run, _, pairs = self._stream.ready.split()
         self.run_number, self.pairs = int(run), int(pairs)
-        self._free = queue.SimpleQueue()
-        for session in range(1, sessions + 1):
-            self._free.put(session)
-        # the threads that have a transaction open
-        self._busy = set()
+        self._sessions = _Sessions(self._stream, sessions)
 
     def __enter__(self):
         return self
@@ -348,7 +500,8 @@ class Store:
                 raise
 
     def close(self):
-        """Ends the process; open transactions are aborted. Raises `Ended` if the process failed. May be called twice."""
+        """Ends the process; open transactions are aborted. Raises `Ended` if the process failed, as each use of the store does from then on. May
+        be called twice."""
         if self._stream.close() and self.process.returncode != 0:
             raise self._stream.fault()
 
@@ -359,16 +512,21 @@ class Store:
 
     def run(self, body, attempts=None):
         """Calls `body` with a transaction, commits it, and returns what `body` returned. If the transaction dies, `body` is called again with
-        another one, at most `attempts` times in all, or until it is committed; so `body` must do nothing else that can't be repeated."""
+        another one, at most `attempts` times in all, or until it is committed; so `body` must do nothing else that can't be repeated. It is
+        called again once another transaction has ended; of those that died one is under way at a time, unless it takes long."""
+        turn = contextlib.nullcontext()
         for attempt in itertools.count(1):
+            transaction = self.transaction()
             try:
-                with self.transaction() as t:
-                    result = body(t)
+                with turn, transaction:
+                    result = body(transaction)
                 return result
             except Died:
                 if attempt == attempts:
                     raise
-            _pause(attempt)
+            finally:
+                transaction._end()
+            turn = contextlib.nullcontext() if transaction._died_at is None else self._stream.turn(transaction._died_at)
 
     def pipeline(self, depth=DEPTH):
         """Transactions that are sent `depth` at a time, for a `with` block: see `Pipeline`."""
@@ -387,88 +545,65 @@ class Store:
         answer = self._stream.ask([b"stats"])[0].decode()
         return {name: int(number) for name, number in (it.split("=") for it in answer.split())}
 
-    def _take_session(self):
-        thread = threading.get_ident()
-        if thread in self._busy:
-            raise Error("this thread already has a transaction open, for which a second one could wait forever")
-        self._busy.add(thread)
-        try:
-            return self._free.get(), thread
-        except BaseException:
-            self._busy.discard(thread)
-            raise
-
-    def _abort(self, session):
-        """Aborts the session's transaction, if it has one."""
-        try:
-            self._stream.ask([b"abort %d" % session])
-        except Ended:
-            pass  # then nothing of it is kept either
-
-    def _leave_session(self, session, thread):
-        self._stream.granted[session].clear()
-        self._busy.discard(thread)
-        self._free.put(session)
-
-
-def _pause(attempt):
-    """A pause before a transaction that died is begun again: at most a few hundred microseconds at first, then more."""
-    time.sleep(random.random() * min(LONGEST_PAUSE, 0.0001 * 2 ** min(attempt, 16)))
-
 
 class Transaction:
     """An open transaction. Each operation is answered before it returns; one that has to wait returns once it is granted. `number` is its
     number in the order of begins, and `entry`, once it is committed, the number of its entry in the run's log."""
 
     def __init__(self, store):
-        self._store, self._stream, self._session, self._has_died = store, store._stream, 0, False
+        self._sessions, self._stream, self._session, self._died_at = store._sessions, store._stream, None, None
         self.number = self.entry = None
 
     def __enter__(self):
-        self._session, self._thread = self._store._take_session()
-        self._has_died, self.number, self.entry = False, None, None
+        self._died_at, self.number, self.entry = None, None, None
+        self._session = self._sessions.take()
         try:
-            answer, = self._stream.ask([b"begin %d" % self._session])
+            answer, = self._stream.ask([b"begin %d" % self._session.number])
             if answer[:6] != b"begun ":
                 raise fault_of(answer)
             self.number = int(answer[6:])
         except BaseException:
-            self._leave()
+            self._end()
             raise
         return self
 
     def __exit__(self, kind, value, trace):
         try:
-            if kind is None and self._has_died:
+            if kind is None and self._died_at is not None:
                 raise Died()
             if kind is None:
                 self._commit()
         finally:
-            if self.entry is None:
-                self._store._abort(self._session)
-            self._leave()
+            self._end()
 
     def _commit(self):
-        answer, = self._stream.ask([b"commit %d" % self._session])
+        answer, = self._stream.ask([b"commit %d" % self._session.number])
         if answer[:10] != b"committed ":
             raise fault_of(answer)
         self.entry = int(answer[10:])
 
-    def _leave(self):
-        self._store._leave_session(self._session, self._thread)
-        self._session = 0
+    def _end(self):
+        """Aborts it unless it was committed, and leaves its session, if that wasn't done before."""
+        if self._session is not None:
+            if self.entry is None:
+                counted = self._sessions.abort(self._session, self._died_at is not None)
+                self._died_at = None if self._died_at is None else self._died_at + counted
+            session, self._session = self._session, None
+            self._sessions.leave(session)
 
     def _ask(self, verb, rest):
         """The result of an operation. One that has to wait is asked again once it is granted."""
-        if not self._session:
+        if self._session is None:
             raise Error("the transaction isn't open")
-        line = b"%s %d %s" % (verb, self._session, rest)
-        answer, = self._stream.ask([line])
-        while answer == b"wait":
-            self._stream.wait_until_granted(self._session)
-            answer, = self._stream.ask([line])
-        self._has_died = self._has_died or answer == b"died"
-        return meaning_of(answer)
+        number = self._session.number
+        line = b"%s %d %s" % (verb, number, rest)
+        asked = self._stream.question([line])
+        while asked.answers[0] == b"wait":
+            self._stream.wait_until_granted(number)
+            asked = self._stream.question([line])
+        if asked.answers[0] in (b"died", b"refused MustAbort") and self._died_at is None:
+            self._died_at = asked.ends
+        return meaning_of(asked.answers[0])
 
     def get(self, key, default=None):
         """The key's value, or `default` if it has none."""
@@ -587,7 +722,7 @@ class Pipeline:
     """
 
     def __init__(self, store, depth):
-        self._store, self._stream, self._depth, self._noted = store, store._stream, depth, []
+        self._sessions, self._stream, self._depth, self._noted = store._sessions, store._stream, depth, []
         self.committed = 0
 
     def __enter__(self):
@@ -611,46 +746,43 @@ class Pipeline:
         batches, self._noted = self._noted, []
         if not batches:
             return
-        session, thread = self._store._take_session()
+        session = self._sessions.take()
         try:
-            self._send(session, batches)
+            self._send(session.number, batches)
         except BaseException:
-            self._store._abort(session)
+            self._sessions.abort(session)
+            self._sessions.leave(session)
             raise
-        finally:
-            self._store._leave_session(session, thread)
+        self._sessions.leave(session)
         for batch in batches:
             for answer in batch.answers:
                 if answer[:8] == b"refused ":
                     raise fault_of(answer)
 
     def _send(self, session, batches):
-        done, deaths = 0, 0
+        done = 0
         while done < len(batches):
             pieces = [batch.spelled(session) for batch in batches[done:]]
-            answers, place = self._stream.ask([line for piece in pieces for line in piece]), 0
+            asked, place = self._stream.question([line for piece in pieces for line in piece]), 0
             for piece in pieces:
-                stopped = batches[done].take(answers[place:place + len(piece)])
+                stopped = batches[done].take(asked.answers[place:place + len(piece)])
                 if stopped is not None:
-                    deaths += self._go_on(session, batches[done], stopped)
+                    self._go_on(session, batches[done], stopped, asked.ends)
                     break
                 done, place = done + 1, place + len(piece)
                 self.committed += 1
-            else:
-                return
-            if stopped == b"died":
-                _pause(deaths)
 
-    def _go_on(self, session, batch, stopped):
-        """Prepares to send the rest. Whether the transaction is begun again."""
+    def _go_on(self, session, batch, stopped, ends):
+        """Prepares to send the rest. `ends` transactions had ended."""
         if stopped == b"wait":
             self._stream.wait_until_granted(session)
-            return False
-        self._stream.ask([b"abort %d" % session])
+            return
+        ends += self._stream.question([b"abort %d" % session], stopped == b"died").counted
         if stopped != b"died":
             raise fault_of(stopped)
         batch.answers.clear()
-        return True
+        with self._stream.turn(ends):
+            pass
 
 
 class _Noting:

@@ -1,23 +1,29 @@
 #!/usr/bin/env python3
 """Shares a store over a socket: many clients of one `pcalc serve`, by its own lines or by a part of Redis' protocol.
 
-    relay.py PATH DIR [--program PCALC] [OPTION..]       listens on the Unix socket PATH
-    relay.py :PORT DIR [--program PCALC] [OPTION..]      listens on 127.0.0.1; on a free port if PORT is 0
+    relay.py PATH DIR [--program PCALC] [OPTION..]       listens on the Unix socket PATH: the normal way
+    relay.py :PORT DIR [--program PCALC] [OPTION..]      listens on 127.0.0.1, for all its users; on a free port if PORT is 0
 
-The options are those of `pcalc serve`. `listening on ADDRESS` is printed once clients may connect. SIGTERM and SIGINT end the relay and
-the store's process. Each connection has one of the store's sessions; if none is free, a connection is answered with an error, and closed.
+The options are those of `pcalc serve`. `listening on ADDRESS` is printed once clients may connect. Each connection has one of the store's
+sessions; if none is free, a connection is answered with an error, and closed.
+
+SIGTERM and SIGINT end the relay: it ends the input of the store's process, which writes all that was asked, and waits for it. The status is
+that of this process, 0 if it ended well; 1 also if a signal ended it, or if the relay can't listen; 2 after a fault of usage.
 
 A connection uses Redis' protocol if its first byte is `*`, or if the first word of its first line is one of the commands below, in upper or
-in lower case, and no word of the store's own lines; so `GET` is Redis', and `get` the store's.
+in lower case, and no word of the store's own lines; so `GET` is Redis', and `get` the store's. If that word is neither, or the line ends as
+a request of HTTP, the answer is `bad line`, and the connection ends.
 
 The store's own lines: the connection's session is session 1 in them, whatever its number in the store, and the only one. Each line is
-answered by one line, in order; a line goes to the store once the one before it is answered. A connection sees neither `wait` nor
+answered by one line, in order; a line goes to the store once the one before it is answered, made anew from its words. One of no form of
+docs/FORMATS.md is answered `bad line` by the relay. A connection sees neither `wait` nor
 `granted`: the relay asks again once a request is granted, so an answer may take as long as another client's transaction. `quit` ends the
 connection, not the store. A transaction that is open when its connection closes is aborted; until then it keeps its locks, however long.
 
 Redis' protocol (RESP2, arrays and inline words without quotes): GET SET DEL INCR DECR INCRBY DECRBY MULTI EXEC DISCARD PING COMMAND QUIT. A single
 command is a transaction, and so are the commands between MULTI and EXEC; one that dies is begun again. There is no WATCH, and SET takes only a
-key and a value. Keys are of space 0, of 1 to 255 bytes. An operation of a transaction that the store refuses is answered `-ERR NAME`, and
+key and a value. Keys are of space 0, of 1 to 255 bytes. A command that would write a 257th key of a transaction is refused with
+TooManyWrites, and all of a MULTI with it. Any other operation of a transaction that the store refuses is answered `-ERR NAME`, and
 the others are committed, as with Redis. INCR, DECR and the like add to the store's own numbers, of eight bytes: GET returns the bytes as
 they are, even a number's, since a text of eight bytes can't be distinguished from a number. `INCRBY key 0` returns a number in digits;
 digits written by SET are no number.
@@ -28,6 +34,7 @@ Nothing of this is proved.
 import argparse
 import collections
 import contextlib
+import errno
 import os
 import re
 import select
@@ -36,6 +43,7 @@ import signal
 import socket
 import subprocess
 import sys
+import time
 
 import pcalc
 
@@ -43,21 +51,70 @@ READ_BYTES = 65_536
 # at most, the bytes of one line or command, and of answers that a connection hasn't read
 MOST_BYTES = 4_194_304
 MOST_WORDS = 65_536
-OWN_WORDS = {b"base", b"begin", b"get", b"put", b"del", b"add", b"abort", b"commit", b"point", b"seal", b"capture", b"take", b"done", b"rest", b"join", b"state",
-             b"text", b"check", b"run", b"stats", b"quit"}
-OF_SESSIONS = {b"begin", b"get", b"put", b"del", b"add", b"abort", b"commit"}
-# a number follows; unless it is the connection's own session it is sent as 0, which no session and no file has
-NUMBERED = OF_SESSIONS | {b"state", b"text"}
 # how many words follow each command of Redis', at least and at most
 COMMANDS = {b"GET": (1, 1), b"SET": (2, 2), b"DEL": (1, MOST_WORDS), b"INCR": (1, 1), b"DECR": (1, 1), b"INCRBY": (2, 2), b"DECRBY": (2, 2), b"MULTI": (0, 0),
             b"EXEC": (0, 0), b"DISCARD": (0, 0), b"PING": (0, 1), b"COMMAND": (0, MOST_WORDS), b"QUIT": (0, 0)}
-NO_SESSION = b"refused NoSession\n"
+NO_SESSION, BAD_LINE = b"refused NoSession\n", b"bad line\n"
 NUMBER = re.compile(rb"[0-9]{1,9}")
 DELTA = re.compile(rb"[+-]?[0-9]{1,19}")
+VALUE = re.compile(rb"(?:[!-\[\]-~]|\\x[0-9a-f]{2})+")
+KEY = re.compile(rb"(?:\\s([1-9][0-9]{0,4}):)?(?:[!-\[\]-~]|\\x[0-9a-f]{2})+")
+HTTP = re.compile(rb"HTTP/[0-9.]+\s*\Z")
+# how long a socket's path may be; for how many seconds no connection is accepted once there are too many files
+MOST_PATH_BYTES = 107
+PAUSE = 1.0
+FILES_LACK = {errno.EMFILE, errno.ENFILE, errno.ENOBUFS, errno.ENOMEM}
 
 
 class Malformed(Exception):
     """A client of Redis' protocol sent something of no known form."""
+
+
+# The store's own lines. Each word is read for the connection's session, and None if it has no such form.
+
+def session_in(word, session):
+    return b"%d" % (session if int(word) == 1 else 0) if NUMBER.fullmatch(word) else None
+
+
+def file_in(word, _):
+    return b"0" if NUMBER.fullmatch(word) else None
+
+
+def key_in(word, _):
+    found = KEY.fullmatch(word)
+    return word if found and int(found[1] or 0) <= pcalc.MOST_SPACE else None
+
+
+def value_in(word, _):
+    return word if VALUE.fullmatch(word) else None
+
+
+def delta_in(word, _):
+    is_known = DELTA.fullmatch(word) and not word.startswith(b"+") and -(2**63) <= int(word) < 2**63
+    return b"%d" % int(word) if is_known else None
+
+
+FORMS = {b"base": (key_in, value_in), b"begin": (session_in,), b"get": (session_in, key_in), b"put": (session_in, key_in, value_in),
+         b"del": (session_in, key_in), b"add": (session_in, key_in, delta_in), b"abort": (session_in,), b"commit": (session_in,), b"point": (), b"seal": (),
+         b"capture": (), b"take": (), b"done": (), b"rest": (), b"join": (file_in, file_in), b"state": (file_in,), b"text": (file_in,), b"check": (),
+         b"run": (), b"stats": (), b"quit": ()}
+# those that are the whole line
+BARE = {b"run", b"stats", b"quit"}
+
+
+def is_skipped(line):
+    return line.startswith(b"#") or not line.strip(b" ")
+
+
+def line_of(line, session):
+    """The line that asks the store what a client's line asks, made of words that were checked; None if the line has no known form. The
+    client's own session is its session 1. All other sessions, and all files, are sent as 0, which the store refuses."""
+    verb, *words = [it for it in line.split(b" ") if it]
+    form = FORMS.get(verb)
+    if form is None or len(form) != len(words) or verb in BARE and line != verb:
+        return None
+    checked = [read(it, session) for read, it in zip(form, words)]
+    return None if None in checked else b" ".join([verb, *checked])
 
 
 # Redis' protocol.
@@ -106,10 +163,12 @@ def failure(message):
 
 
 class Operation:
-    """A command of Redis' that is part of a transaction: the store's lines for it, without a session, and the reply to their answers."""
+    """A command of Redis' that is part of a transaction: the store's lines for it, without a session, the reply to their answers, and the keys
+    that it writes."""
 
     def __init__(self, words):
         name, self.reply = words[0].upper(), None
+        self.writes = frozenset() if name in (b"PING", b"COMMAND", b"GET") else frozenset(words[1:] if name == b"DEL" else words[1:2])
         if name == b"PING":
             self.lines, self.reply = [], lambda answers: bulk(words[1]) if len(words) > 1 else b"+PONG\r\n"
         elif name == b"COMMAND":
@@ -166,18 +225,12 @@ class Job:
 # The relay.
 
 class Relay:
-    """The store's process and its connections. The process answers in order: `asked` has who gets the next answers."""
+    """The store's process and its connections. The process answers in order: `asked` has who gets the next answers. It has a session of the
+    system's own, so that a signal to the relay's group, as ^C at a terminal, doesn't end it."""
 
     def __init__(self, words, listener, sessions):
-        self.selector, self.listener = selectors.DefaultSelector(), listener
-        self.process = subprocess.Popen(words, stdin=subprocess.PIPE, stdout=subprocess.PIPE, bufsize=0)
-        ready = b""
-        while not ready.endswith(b"\n"):
-            byte = self.process.stdout.read(1)
-            if not byte:
-                sys.exit(self.process.wait())
-            ready += byte
-        print(ready.decode().rstrip(), flush=True)
+        self.selector, self.listener, self.paused_until = selectors.DefaultSelector(), listener, None
+        self.process = subprocess.Popen(words, stdin=subprocess.PIPE, stdout=subprocess.PIPE, bufsize=0, start_new_session=True)
         self.source, self.target = self.process.stdout.fileno(), self.process.stdin.fileno()
         os.set_blocking(self.source, False), os.set_blocking(self.target, False)
         self.asked, self.out, self.rest = collections.deque(), bytearray(), b""
@@ -195,27 +248,46 @@ class Relay:
     def end(self, _):
         self.is_ending = True
 
-    def end_at_signals(self, *numbers):
-        """Ends `run` at one of these signals, after its current step."""
-        self.waker, self.woken = socket.socketpair()
-        self.waker.setblocking(False)
-        signal.set_wakeup_fd(self.waker.fileno())
-        for number in numbers:
-            signal.signal(number, lambda *_: None)
-        self.selector.register(self.woken, selectors.EVENT_READ, self.end)
+    def end_with(self, woken):
+        """Ends `run` once this socket has something to read, after its current step."""
+        self.woken = woken
+        self.selector.register(woken, selectors.EVENT_READ, self.end)
+
+    def first_line(self):
+        """The first line of the store's process, whole unless it ends or the relay has to end before."""
+        line = b""
+        while not line.endswith(b"\n") and self.woken not in select.select([self.source, self.woken], [], [])[0]:
+            with contextlib.suppress(BlockingIOError):
+                byte = os.read(self.source, 1)
+                if not byte:
+                    break
+                line += byte
+        return line
 
     def run(self):
         while not self.is_ending:
-            for key, events in self.selector.select():
+            rest = None if self.paused_until is None else max(0, self.paused_until - time.monotonic())
+            for key, events in self.selector.select(rest):
                 key.data(events)
+            if rest == 0:
+                self.accept_again()
             self.send()
 
     def accept(self, _):
         try:
             sock, _ = self.listener.accept()
-        except OSError:
+        except OSError as fault:
+            if fault.errno in FILES_LACK:
+                self.selector.unregister(self.listener)
+                self.paused_until = time.monotonic() + PAUSE
             return
         Connection(self, sock)
+
+    def accept_again(self):
+        """Accepts connections again, after a pause for want of files, or since a file was closed."""
+        if self.paused_until is not None:
+            self.paused_until = None
+            self.selector.register(self.listener, selectors.EVENT_READ, self.accept)
 
     def ask(self, owner, lines):
         """Asks lines that stay together, after those not yet sent; `owner.answered` gets each answer."""
@@ -332,25 +404,29 @@ class Connection:
 
     def begin(self):
         """Finds out the client's protocol, and gives it a session."""
-        while self.into[:1] in (b"\n", b"\r"):
-            del self.into[:1]
-        line = b"*" if self.into[:1] == b"*" else self.into.partition(b"\n")[0] if b"\n" in self.into else None
+        while self.into.startswith((b"\n", b"\r\n")):
+            del self.into[:self.into.index(b"\n") + 1]
+        line = b"*" if self.into[:1] == b"*" else bytes(self.into.partition(b"\n")[0]) if b"\n" in self.into else None
         if line is None:
-            if len(self.into) > MOST_BYTES:
-                self.has_ended = True
+            self.has_ended = len(self.into) > MOST_BYTES
             return
-        first = bytes((line.split() or [b""])[0])
-        is_redis = first[:1] == b"*" or first.upper() in COMMANDS and first in (first.upper(), first.lower()) and first not in OWN_WORDS
-        if self in self.relay.hopeful:
-            return
-        if not self.relay.free and len(self.relay.hopeful) < self.relay.leaving:
-            self.relay.hopeful.append(self)
-        elif not self.relay.free:
-            self.out += failure("max number of clients reached") if is_redis else NO_SESSION
+        protocol = protocol_of(line[:-1] if line.endswith(b"\r") else line)
+        if protocol is None:
+            self.out += BAD_LINE
+            self.has_ended = True
+        elif self not in self.relay.hopeful:
+            self.begin_with(protocol)
+
+    def begin_with(self, protocol):
+        relay = self.relay
+        if not relay.free and len(relay.hopeful) < relay.leaving:
+            relay.hopeful.append(self)
+        elif not relay.free:
+            self.out += failure("max number of clients reached") if protocol is Commands else NO_SESSION
             self.has_ended = True
         else:
-            self.session = self.relay.free.pop()
-            self.relay.owners[self.session] = self.protocol = (Commands if is_redis else Lines)(self)
+            self.session = relay.free.pop()
+            relay.owners[self.session] = self.protocol = protocol(self)
 
     def send(self):
         if self.is_gone:
@@ -390,6 +466,7 @@ class Connection:
         self.is_gone = True
         self.watch(0)
         self.sock.close()
+        self.relay.accept_again()
         if self.protocol is not None:
             self.protocol.leave()
 
@@ -460,15 +537,15 @@ class Lines(Protocol):
             self.take_line(line[:-1] if line.endswith(b"\r") else line)
 
     def take_line(self, line):
-        words = [it for it in line.split(b" ") if it]
         if line == b"quit":
             self.connection.has_ended = True
-        elif words and not line.startswith(b"#"):
-            if len(words) > 1 and words[0] in NUMBERED and NUMBER.fullmatch(words[1]):
-                words[1] = b"%d" % (self.session if words[0] in OF_SESSIONS and int(words[1]) == 1 else 0)
-                line = b" ".join(words)
-            self.line = line
-            self.ask([line])
+        elif not is_skipped(line):
+            asked = line_of(line, self.session)
+            if asked is None:
+                self.connection.out += BAD_LINE
+            else:
+                self.line = asked
+                self.ask([asked])
 
     def note(self, line):
         if line == b"wait":
@@ -481,9 +558,9 @@ class Lines(Protocol):
 
 
 class Commands(Protocol):
-    """A part of Redis' protocol. `queued` has the operations after a MULTI."""
+    """A part of Redis' protocol. `queued` has the operations after a MULTI, and `written` the keys that they write."""
 
-    job, queued, is_spoiled, died_at = None, None, False, 0
+    job, queued, written, is_spoiled, died_at = None, None, frozenset(), False, 0
     # the answer that stopped the transaction, b"aborting" once its abort is asked; then `fault` has that answer
     stopped = fault = None
 
@@ -515,30 +592,34 @@ class Commands(Protocol):
             if name in (b"MULTI", b"EXEC", b"DISCARD", b"QUIT"):
                 return getattr(self, name.decode().lower())()
             operation = Operation(words)
+            written = self.written | operation.writes
+            if len(written) > pcalc.MOST_WRITES:
+                raise Malformed("TooManyWrites")
         except Malformed as fault:
             self.is_spoiled = self.queued is not None
             return failure(str(fault))
         if self.queued is not None:
             self.queued.append(operation)
+            self.written = written
             return b"+QUEUED\r\n"
         return self.begin_job(Job([operation], True)) if operation.lines else operation.told([])
 
     def multi(self):
         if self.queued is not None:
             raise Malformed("MULTI calls can not be nested")
-        self.queued = []
+        self.queued, self.written = [], frozenset()
         return b"+OK\r\n"
 
     def discard(self):
         if self.queued is None:
             raise Malformed("DISCARD without MULTI")
-        self.queued, self.is_spoiled = None, False
+        self.queued, self.written, self.is_spoiled = None, frozenset(), False
         return b"+OK\r\n"
 
     def exec(self):
         if self.queued is None:
             return failure("EXEC without MULTI")
-        queued, is_spoiled, self.queued, self.is_spoiled = self.queued, self.is_spoiled, None, False
+        queued, is_spoiled, self.queued, self.written, self.is_spoiled = self.queued, self.is_spoiled, None, frozenset(), False
         if is_spoiled:
             return b"-EXECABORT Transaction discarded because of previous errors.\r\n"
         return self.begin_job(Job(queued, False))
@@ -605,19 +686,40 @@ class Commands(Protocol):
             self.relay.dead.append(self)
 
 
+def protocol_of(line):
+    """The protocol of a connection with this first line; None if it is of neither."""
+    first = (line.split() or [b""])[0]
+    if HTTP.search(line):
+        return None
+    if first[:1] == b"*" or first in (first.upper(), first.lower()) and first.upper() in COMMANDS and first not in FORMS:
+        return Commands
+    return Lines if is_skipped(line) or first in FORMS else None
+
+
 # The program.
+
+def address_in(word):
+    """The port in the word, or the path of a Unix socket."""
+    found = re.fullmatch(r"(?:127\.0\.0\.1|localhost)?:([0-9]{1,5})", word)
+    if found and int(found[1]) <= 65_535:
+        return int(found[1])
+    if "/" not in word and (":" in word or word.isdigit()):
+        raise argparse.ArgumentTypeError("%r is no port of 127.0.0.1, as :6400, and no path, as ./socket" % word)
+    if not 1 <= len(os.fsencode(word)) <= MOST_PATH_BYTES:
+        raise argparse.ArgumentTypeError("the path of a socket has 1 to %d bytes" % MOST_PATH_BYTES)
+    return word
+
 
 def listening(address):
     """A socket that listens, and its address as it is printed."""
-    if not re.fullmatch(r"(127\.0\.0\.1|localhost)?:[0-9]{1,5}", address):
-        listener = socket.socket(socket.AF_UNIX)
+    if isinstance(address, str):
+        listener, name = socket.socket(socket.AF_UNIX), address
         clear(address)
         listener.bind(address)
-        name = address
     else:
         listener = socket.socket(socket.AF_INET)
         listener.setsockopt(socket.SOL_SOCKET, socket.SO_REUSEADDR, 1)
-        listener.bind(("127.0.0.1", int(address.rpartition(":")[2])))
+        listener.bind(("127.0.0.1", address))
         name = "127.0.0.1:%d" % listener.getsockname()[1]
     listener.listen(128)
     return listener, name
@@ -634,35 +736,50 @@ def clear(path):
             os.unlink(path)
 
 
+def woken_by(*numbers):
+    """A socket that has something to read once one of these signals has come; until then nothing else happens at them."""
+    waker, woken = socket.socketpair()
+    waker.setblocking(False)
+    for number in numbers:
+        signal.signal(number, lambda *_: None)
+    signal.set_wakeup_fd(waker.detach())
+    return woken
+
+
 def main():
     words = argparse.ArgumentParser(description="Shares a store over a socket.", epilog="Other options go to `pcalc serve`.", allow_abbrev=False)
-    words.add_argument("address", help="the path of a Unix socket, or :PORT of 127.0.0.1")
+    words.add_argument("address", type=address_in, help="the path of a Unix socket, or :PORT of 127.0.0.1")
     words.add_argument("folder", help="the store's folder")
     words.add_argument("--program", default="pcalc", help="the path of pcalc")
     words.add_argument("--sessions", type=int, default=pcalc.MOST_SESSIONS, help="how many clients may be connected, 1 to 64")
     given, options = words.parse_known_args()
+    woken = woken_by(signal.SIGTERM, signal.SIGINT)
     try:
         listener, name = listening(given.address)
     except OSError as fault:
         sys.exit("relay: %s: %s" % (given.address, fault.strerror))
     try:
-        status = served(listener, name, [*pcalc.command(given.folder, given.program, sessions=given.sessions), *options], given.sessions)
+        status = served(listener, name, [*pcalc.command(given.folder, given.program, sessions=given.sessions), *options], given.sessions, woken)
     finally:
         if listener.family == socket.AF_UNIX:
             os.unlink(name)
+    if status < 0:
+        sys.exit("relay: the store's process was ended by signal %d" % -status)
     sys.exit(status)
 
 
-def served(listener, name, words, sessions):
-    """Serves until the store's process ends, and returns its status."""
+def served(listener, name, words, sessions, woken):
+    """Serves until a signal comes or the store's process ends, and returns its status."""
     try:
         relay = Relay(words, listener, sessions)
     except OSError as fault:
         sys.exit("relay: %s: %s" % (words[0], fault.strerror))
     try:
-        relay.end_at_signals(signal.SIGTERM, signal.SIGINT)
-        print("listening on %s" % name, flush=True)
-        relay.run()
+        relay.end_with(woken)
+        ready = relay.first_line()
+        if ready.endswith(b"\n"):
+            print(ready.decode().rstrip(), "listening on %s" % name, sep="\n", flush=True)
+            relay.run()
     finally:
         status = relay.close()
     return status

@@ -12,6 +12,7 @@ import socket
 import subprocess
 import sys
 import threading
+import time
 
 from tools import ROOT
 from tools.cases.serve_cases import state_of
@@ -27,6 +28,8 @@ THREADS, ADDS = 8, 200
 KILLS = 8
 SESSIONS = 64
 SEED = 71
+FUZZES, FUZZ_TURNS = 3, 300
+HOT_THREADS, HOT_TURNS = 32, 20
 
 
 def differing(got, wanted):
@@ -221,19 +224,117 @@ def killed(program, room):
     print(f"clients of processes that were killed {KILLS} times: {sum(most)} transactions in the end")
 
 
+def hot(program, room):
+    """More threads than the machine has processors that want one key, by adds, or by reads and then writes."""
+    def put(t):
+        t[b"m"] = text_of(pcalc.number_of(t.get(b"m", bytes(8))) + 1)
+
+    with opened(program, room) as store:
+        for key, body in ((b"n", lambda t: t.add(b"n", 1)), (b"m", put)):
+            begun = []
+
+            def work():
+                for _ in range(HOT_TURNS):
+                    store.run(lambda t: begun.append(t) or body(t))
+
+            lines = together(*[work] * HOT_THREADS)
+            total, wanted = pcalc.number_of(all_of(store, [key])[0]), HOT_THREADS * HOT_TURNS
+            print(f"{HOT_THREADS} threads of the client that want the key {key.decode()}: {total} transactions, begun {len(begun)} times")
+            lines += [f"they were begun {len(begun)} times"] if len(begun) > 8 * wanted else []
+            yield f"many threads that want the key {key.decode()}", lines + differing(total, wanted)
+
+
+# Programs of their own, each with a store in its folder: an interrupt of its group, and its end by SIGKILL while a child that it has forked lives.
+
+INTERRUPTED = """
+import os, signal, time, pcalc
+store = pcalc.Store("S", program=os.environ["PCALC"], create=True, lag=1000)
+store.run(lambda t: t.put(b"a", b"1"))
+try:
+    with store.transaction() as t:
+        t[b"b"] = b"1"
+        os.killpg(0, signal.SIGINT)
+        while True:
+            time.sleep(0.01)
+except KeyboardInterrupt:
+    store.run(lambda t: t.put(b"c", b"1"))
+    store.close()
+    print("closed")
+"""
+FORKED = """
+import os, signal, pcalc
+store = pcalc.Store("S", program=os.environ["PCALC"], create=True)
+store.run(lambda t: t.put(b"a", b"1"))
+child = os.fork()
+if child == 0:
+    signal.pause()
+print(child, flush=True)
+os.kill(os.getpid(), signal.SIGKILL)
+"""
+
+
+def own(program, room, text):
+    """A process of the program text, in a group of its own, and the folder in which it runs."""
+    folder = os.path.join(room, f"at{len(os.listdir(room))}")
+    os.makedirs(folder)
+    settings = {**os.environ, "PCALC": program, "PYTHONPATH": CLIENTS}
+    return subprocess.Popen([sys.executable, "-c", text], cwd=folder, env=settings, stdout=subprocess.PIPE, start_new_session=True), folder
+
+
+def programs(program, room):
+    """An interrupt of a program's group doesn't end its store; a child that was forked doesn't keep its dead parent's store."""
+    process, folder = own(program, room, INTERRUPTED)
+    said = process.communicate(timeout=SECONDS)[0]
+    pairs = state_of(os.path.join(folder, "S"))
+    print(f"a program that was interrupted says {said}; its store has {sorted(key for _, key in pairs)}")
+    yield "an interrupt of the group of a client", differing((said, process.returncode, pairs), (b"closed\n", 0, {(0, b"a"): b"1", (0, b"c"): b"1"}))
+    process, folder = own(program, room, FORKED)
+    with process.stdout:
+        child = int(process.stdout.readline())
+        lines = differing(process.wait(SECONDS), -signal.SIGKILL)
+    try:
+        lines += opens_again(program, folder)
+        os.kill(child, 0)
+        print("a client that was killed, whose child lives: its store can be opened again:", not lines)
+    finally:
+        os.kill(child, signal.SIGKILL)
+    yield "a client that is killed while a child of it lives", lines
+
+
+def opens_again(program, folder):
+    """The store of a process that was killed is free once its own process has ended."""
+    end = time.monotonic() + SECONDS
+    while True:
+        try:
+            with pcalc.Store(os.path.join(folder, "S"), program=program) as store:
+                return differing(all_of(store, [b"a"]), [b"1"])
+        except pcalc.Ended as fault:
+            if time.monotonic() > end:
+                return [str(fault)]
+            time.sleep(0.01)
+
+
+def imports(program, room):
+    """A new store with the state of another one's folder."""
+    with opened(program, room) as store:
+        store.run(lambda t: t.put(b"a", b"1"))
+    with pcalc.Store(os.path.join(room, "T"), program=program, create=True, import_from=os.path.join(room, "S")) as store:
+        yield "a client of a store that is imported", differing((store.pairs, all_of(store, [b"a"])), (1, [b"1"]))
+
+
 # The relay.
 
 @contextlib.contextmanager
 def relayed(program, room, address, *words):
-    """A relay of a store, and how it is reached."""
+    """A relay of a store, in a group of processes of its own, and how it is reached."""
     command = [sys.executable, os.path.join(CLIENTS, "relay.py"), address, "S", "--program", program, "--create", *words]
-    with subprocess.Popen(command, cwd=room, stdout=subprocess.PIPE) as process:
+    with subprocess.Popen(command, cwd=room, stdout=subprocess.PIPE, start_new_session=True) as process:
         process.stdout.readline()
         listening = process.stdout.readline().decode().removeprefix("listening on ").rstrip()
         try:
             yield (lambda: Client(room, listening)), process
         finally:
-            process.send_signal(signal.SIGTERM)
+            os.killpg(process.pid, signal.SIGINT)
 
 
 class Client:
@@ -276,8 +377,10 @@ COMMANDS = (
     (command(b"INCR", b"n"), b"-ERR OutOfRange\r\n"),
     (command(b"MULTI") + command(b"DECRBY", b"n", b"7") + command(b"DEL", b"a", b"none") + command(b"EXEC"),
      b"+OK\r\n+QUEUED\r\n+QUEUED\r\n*2\r\n:9223372036854775800\r\n:1\r\n"),
-    (b"MULTI\r\n" + b"".join(b"SET k%d v\r\n" % it for it in range(257)) + b"EXEC\r\n",
-     b"+OK\r\n" + b"+QUEUED\r\n" * 257 + b"*257\r\n" + b"+OK\r\n" * 256 + b"-ERR TooManyWrites\r\n"),
+    (b"MULTI\r\n" + b"".join(b"SET k%d v\r\n" % it for it in range(256)) + b"EXEC\r\n", b"+OK\r\n" + b"+QUEUED\r\n" * 256 + b"*256\r\n" + b"+OK\r\n" * 256),
+    (b"MULTI\r\n" + b"".join(b"SET k%d w\r\n" % it for it in range(257)) + b"EXEC\r\n",
+     b"+OK\r\n" + b"+QUEUED\r\n" * 256 + b"-ERR TooManyWrites\r\n-EXECABORT Transaction discarded because of previous errors.\r\n"),
+    (command(b"DEL", *(b"k%d" % it for it in range(257))), b"-ERR TooManyWrites\r\n"),
     (b"EVAL x\r\n", b"-ERR unknown command 'EVAL'\r\n"),
     (b"PING\r\nQUIT\r\n", b"+PONG\r\n+OK\r\n"),
 )
@@ -292,7 +395,7 @@ def redis(program, room):
             yield f"the relay, {text[:40]!r}", differing(client.answers.read(len(wanted)), wanted)
         yield "the relay closes after QUIT", [] if client.is_ended() else ["more is sent"]
         client.close()
-    yield "the relay ends with status 0", differing(process.returncode, 0)
+    yield "the relay ends with status 0 at an interrupt of its group", differing(process.returncode, 0)
     with opened(program, room) as store:
         yield "the store of the relay", differing(all_of(store, [b"k255", b"k256", b"n", b"a"]), [b"v", None, text_of(2**63 - 8), None])
 
@@ -350,9 +453,68 @@ def gone(connected):
     return differing(got, [b"ok", b"+OK\r\n$1\r\n2\r\n"])
 
 
+# Lines that other clients must not feel, and those that end a connection.
+
+HARMFUL = b"\r", b"quit\r", b"commit 1\r", b"abort 1\r", b"begin 7\r", b"state 1\r", b"check\r", b"put 1 k a\rb"
+REQUEST = b"POST / HTTP/1.1\r\nHost: 127.0.0.1\r\nContent-Length: 33\r\n\r\nbegin 1\nput 1 hacked yes\ncommit 1\n"
+
+
+def harmful(program, room):
+    """Lines that the store would take for others, beside a client with a transaction, in a store that takes points; and a request of a web page."""
+    with relayed(program, room, ":0", "--every", "1") as (connected, _):
+        one, two = connected(), connected()
+        got = [one.ask(b"begin 1\nput 1 secret 1\n", 2), two.ask(b"begin 1\nput 1 a 1\ncommit 1\n", 3)]
+        got += [two.ask(line + b"\r\nget 1 k\n", 2) for line in HARMFUL]
+        got.append(one.ask(b"get 1 secret\nabort 1\n", 2))
+        wanted = [b"begun 1\nok\n", b"begun 2\nok\ncommitted 1\n", *[b"bad line\nrefused NoTransaction\n"] * len(HARMFUL), b"= 1\naborted\n"]
+        print(f"lines with a CR: {len(HARMFUL)}, all answered by the relay: {got == wanted}")
+        yield "lines with a CR", differing(got, wanted)
+        page = connected()
+        got = page.ask(REQUEST), page.is_ended(), two.ask(b"GET hacked\nbegin 1\nget 1 hacked\nabort 1\n", 4)
+        yield "a request of HTTP", differing(got, (b"bad line\n", True, b"bad line\nbegun 3\nabsent\naborted\n"))
+        for it in (one, two, page):
+            it.close()
+        yield from (fuzzed(connected, seed) for seed in range(FUZZES))
+
+
+PIECES = (b"begin get put del add abort commit point seal capture take done rest join state text check run stats base SET GET INCR MULTI EXEC PING DEL granted # 1 2 0 01 "
+          b"000000001 0000000001 +1 -1 k v \\s7:k \\x00 - \\x4A \xc3\xa9").split() + [b"\t", b"\r", b"\0", b"\x0b", b"\x1c", b"\x85", b"", b" "]
+
+
+def drawn_line(chance):
+    kind = chance.random()
+    if kind < 0.75:
+        text = chance.choice((b" ", b" ", b"  ", b"\t", b"")).join(chance.choices(PIECES, k=chance.randrange(5)))
+    elif kind < 0.9:
+        text = bytes(chance.choices(b"begin 12\r\t #kput\0\xff\\", k=chance.randrange(14)))
+    else:
+        text = command(*chance.choices(PIECES, k=chance.randrange(4)))[:-2]
+    return text + chance.choice((b"\n", b"\r\n", b"\r\r\n", b"\n\n"))
+
+
+def fuzzed(connected, seed):
+    """Connections that send drawn lines, beside one that gets the answers to its own. Keys of both differ."""
+    chance, own, sent, lines = random.Random(seed), connected(), 0, []
+    for turn in range(FUZZ_TURNS):
+        other = connected()
+        with contextlib.suppress(OSError):
+            other.sock.sendall(chance.choice((b"stats\n", b"PING\n", b"")))
+            for _ in range(chance.randrange(1, 12)):
+                other.sock.sendall(drawn_line(chance))
+                sent += 1
+            other.sock.settimeout(0.001)
+            other.sock.recv(65_536)
+        with contextlib.suppress(OSError):
+            other.close()
+        lines = lines or differing(own.ask(command(b"SET", b"own", b"%d" % turn) + command(b"GET", b"own"), 3), b"+OK\r\n$%d\r\n%d\r\n" % (len(b"%d" % turn), turn))
+    own.close()
+    print(f"drawn lines beside a client, seed {seed}: {sent} lines, {FUZZ_TURNS} of its own questions answered rightly: {not lines}")
+    return f"drawn lines of seed {seed} beside a client", lines
+
+
 def clients(program, folder):
     """What is wrong with each use of a client or the relay, by its name."""
-    for cases in (operations, refused, threads, deaths, killed, redis, lines, crowd):
+    for cases in (operations, refused, threads, hot, deaths, killed, programs, imports, redis, lines, crowd, harmful):
         room = os.path.join(folder, cases.__name__)
         os.makedirs(room)
         yield from cases(program, room)

@@ -2,12 +2,14 @@
 
 import contextlib
 import os
+import random
 import re
 import signal
 import socket
 import subprocess
 import sys
 import threading
+import time
 import unittest
 import unittest.mock
 
@@ -38,10 +40,16 @@ class Words(unittest.TestCase):
 
     def test_what_is_no_key_or_value_is_refused(self):
         for call, given, fault in ((pcalc.key_word, b"", pcalc.Refused), (pcalc.key_word, b"k" * 256, pcalc.Refused), (pcalc.key_word, (65536, b"k"), ValueError),
-                                   (pcalc.key_word, "k", TypeError), (pcalc.value_word, bytes(65_536), pcalc.Refused), (pcalc.value_word, 7, TypeError),
-                                   (pcalc.delta_word, 2**63, ValueError), (pcalc.number_of, b"7", ValueError)):
-            with self.assertRaises(fault):
+                                   (pcalc.value_word, bytes(65_536), pcalc.Refused), (pcalc.delta_word, 2**63, ValueError), (pcalc.number_of, b"7", ValueError),
+                                   *((pcalc.key_word, it, TypeError) for it in ("k", 7, None, [107], {107: 1}, 1.5, (1.5, b"k"), (b"k",), (1, 2, b"k"), (1, [107]))),
+                                   *((pcalc.value_word, it, TypeError) for it in ("v", 7, None, [1, 2], {1: 2}, (1, 2), 1.5)),
+                                   *((pcalc.delta_word, it, TypeError) for it in ("1", 1.5, None, [1], b"1"))):
+            with self.assertRaises(fault, msg=given):
                 call(given)
+
+    def test_what_holds_bytes_is_taken(self):
+        for value in (bytearray(b"a b"), memoryview(b"a b")):
+            self.assertEqual((pcalc.key_word(value), pcalc.key_word((7, value)), pcalc.value_word(value)), (b"a\\x20b", b"\\s7:a\\x20b", b"a\\x20b"))
 
     def test_numbers_are_values_of_eight_bytes(self):
         for number in (0, 1, -1, 2**63 - 1, -(2**63)):
@@ -56,6 +64,7 @@ class Words(unittest.TestCase):
     def test_a_command_has_its_options(self):
         self.assertEqual(pcalc.command("d", "p", create=True, sync=True, lag=5, run=None), ["p", "serve", "d", "--create", "--sync", "--lag", "5"])
         self.assertEqual(pcalc.command("d", "p", every=7, roll=9, keep=2), ["p", "serve", "d", "--every", "7", "--roll", "9", "--keep", "2"])
+        self.assertEqual(pcalc.command("d", "p", create=True, import_from="old"), ["p", "serve", "d", "--create", "--import", "old"])
         with self.assertRaises(TypeError):
             pcalc.command("d", rolls=5)
 
@@ -206,6 +215,88 @@ class Transactions(OfStore):
         self.assertEqual(self.store.stats(), {"entries": 201})
 
 
+class Alarm(Exception):
+    pass
+
+
+class Interruptions(OfStore):
+    """Exceptions out of signal handlers, and children that are forked."""
+
+    ALARMS = 200
+
+    def alarm(self, *_):
+        raise Alarm
+
+    def is_free(self):
+        """Whether all sessions are free again. What was dropped is aborted on another thread."""
+        end = time.monotonic() + SECONDS
+        while self.store._sessions.free.qsize() < pcalc.MOST_SESSIONS and time.monotonic() < end:
+            time.sleep(0.001)
+        return self.store._sessions.free.qsize() == pcalc.MOST_SESSIONS
+
+    def test_exceptions_out_of_handlers_lose_nothing(self):
+        self.addCleanup(signal.signal, signal.SIGALRM, signal.signal(signal.SIGALRM, self.alarm))
+        chance, added = random.Random(5), 0
+        for _ in range(self.ALARMS):
+            try:
+                signal.setitimer(signal.ITIMER_REAL, 0.0005 + 0.003 * chance.random())
+                for _ in range(1000):
+                    self.store.run(lambda t: t.add(b"n", 1))
+                    added += 1
+            except Alarm:
+                pass
+        signal.setitimer(signal.ITIMER_REAL, 0)
+        self.assertTrue(self.is_free())
+        self.assertEqual((self.store.check(), self.store.run(lambda t: t.add(b"n", 0)) - added in range(self.ALARMS + 1)), (True, True))
+
+    def test_what_is_dropped_is_aborted(self):
+        transaction = self.store.transaction()
+        transaction.__enter__().put(b"fig", b"1")
+        del transaction
+        self.assertEqual((self.value(b"fig"), self.is_free()), (None, True))
+
+    def forked(self, body):
+        """The process of a child that runs the body, and whose status is 0 if that returns true."""
+        child = os.fork()
+        if child == 0:
+            try:
+                os._exit(not body())
+            finally:
+                os._exit(2)
+        return child
+
+    def uses(self):
+        """What a child's uses of the store say; it must not have the store's pipes."""
+        said = []
+        for use in (lambda: self.value(b"fig"), self.store.stats, self.store.pipeline().flush):
+            try:
+                use()
+            except pcalc.Error as fault:
+                said.append("another" not in str(fault) and "forked" in str(fault))
+        self.store.close()
+        return said == [True, True] and self.store.process.stdin.closed and self.store.process.stdout.closed
+
+    def test_a_child_cant_use_the_store(self):
+        with self.store.transaction() as t:
+            t[b"fig"] = b"1"
+            self.assertEqual(os.waitpid(self.forked(self.uses), 0)[1], 0)
+        self.assertEqual(self.value(b"fig"), b"1")
+
+    def test_a_store_ends_while_a_child_lives(self):
+        source, target = os.pipe()
+        child = self.forked(lambda: os.close(target) or os.read(source, 1) == b"")
+        self.store.close()
+        self.assertEqual(os.waitpid(child, os.WNOHANG), (0, 0))
+        os.close(target), os.close(source)
+        self.assertEqual(os.waitpid(child, 0)[1], 0)
+
+    def test_a_store_that_is_closed_says_so(self):
+        self.store.close()
+        for use in (self.store.stats, lambda: self.value(b"fig")):
+            with self.assertRaisesRegex(pcalc.Ended, "^the store is closed$"):
+                use()
+
+
 class Pipelines(OfStore):
     def test_many_are_sent_together(self):
         with self.store.pipeline(depth=10) as pipeline:
@@ -283,6 +374,22 @@ class Pipelines(OfStore):
 
 
 class Ends(unittest.TestCase):
+    def test_an_exception_while_a_store_is_opened_ends_its_process(self):
+        def raising(*_):
+            raise Alarm
+
+        self.addCleanup(signal.signal, signal.SIGALRM, signal.signal(signal.SIGALRM, raising))
+        started, popen = [], subprocess.Popen
+
+        def starting(*words, **more):
+            started.append(popen(*words, **more))
+            signal.setitimer(signal.ITIMER_REAL, 1)
+            return started[0]
+
+        with unittest.mock.patch.object(subprocess, "Popen", starting), self.assertRaises(Alarm):
+            pcalc.Store("shop", program=[sys.executable, "-c", "import time; time.sleep(600)"])
+        self.assertEqual([it.returncode for it in started], [-signal.SIGKILL])
+
     def test_a_store_that_cant_be_opened_says_why(self):
         with self.assertRaises(pcalc.Ended) as ended:
             pcalc.Store("busy", program=FAKE)
@@ -370,8 +477,59 @@ class Commands(unittest.TestCase):
                 relay.Operation(words)
 
 
-class Relays(InFolder):
-    """A relay over a plain store, on a socket of the folder."""
+# one key more than a transaction writes
+KEYS = b"".join(b" k%d" % it for it in range(257))
+
+
+class OwnLines(unittest.TestCase):
+    """What the relay makes of a client's line, whose session is 7."""
+
+    def test_lines_are_made_anew(self):
+        for line, asked in ((b"begin 1", b"begin 7"), (b" put  001 \\s9:a\\x0d - ", b"put 7 \\s9:a\\x0d -"), (b"add 1 n -007", b"add 7 n -7"), (b"get 2 k", b"get 0 k"),
+                            (b"abort 007", b"abort 0"), (b"state 1", b"state 0"), (b"text 5", b"text 0"), (b"join 1 2", b"join 0 0"), (b"check", b"check"), (b"stats", b"stats"),
+                            (b"base a #", b"base a #"), (b"del 1 \\s65535::", b"del 7 \\s65535::")):
+            self.assertEqual(relay.line_of(line, 7), asked)
+
+    def test_what_has_no_form_is_not_asked(self):
+        for line in (b"\r", b"commit 1\r", b"quit\r", b"get 1", b"get 1 a b", b"put 1 k", b"begin", b"begin +1", b"begin 1234567890", b"granted 1", b"BEGIN 1", b"state",
+                     b" run", b"stats ", b"add 1 n +1", b"add 1 n -", b"add 1 n 9223372036854775808", b"get 1 a\tb", b"get 1 \\x4A", b"get 1 \\s0:k", b"get 1 \\s07:k",
+                     b"get 1 \\s65536:k", b"get 1 \\s7:", b"get 1 k\\s7:k", b"put 1 k \\s7:v", b"put 1 k \xc3", b"put 1 k \x7f", b"put 1 k a\rb", b"put 1 k \\", b"take 1"):
+            self.assertIsNone(relay.line_of(line, 7), line)
+
+    def test_a_first_line_tells_the_protocol(self):
+        for line, protocol in ((b"*1", relay.Commands), (b"GET k", relay.Commands), (b"ping", relay.Commands), (b"get 1 k", relay.Lines), (b"# GET", relay.Lines), (b" ", relay.Lines),
+                               (b"GET / HTTP/1.1", None), (b"get / HTTP/1.0", None), (b"begin 1 HTTP/1.1", None), (b"POST / HTTP/1.1", None), (b"\r", None), (b"Ping", None), (b"\x16\x03", None)):
+            self.assertIs(relay.protocol_of(line), protocol, line)
+
+
+class Usage(InFolder):
+    def test_addresses_of_no_known_form(self):
+        for word in ("6400", ":99999", "0.0.0.0:6400", "localhost:", "", "a" * 108):
+            command = [sys.executable, os.path.join(CLIENTS, "relay.py"), word, "shop", "--program", "/none/pcalc"]
+            done = subprocess.run(command, cwd=self.folder, capture_output=True, timeout=SECONDS, check=False)
+            self.assertEqual((done.returncode, done.stdout, os.listdir(self.folder)), (2, b"", []), word)
+            self.assertRegex(done.stderr, b"(?s)^usage: .*error: argument address: ")
+
+    def test_addresses(self):
+        for word, address in ((":0", 0), ("localhost:65535", 65_535), ("127.0.0.1:80", 80), ("socket", "socket"), ("./6400", "./6400"), ("/a:1", "/a:1")):
+            self.assertEqual(relay.address_in(word), address)
+
+
+def children_of(process):
+    with open("/proc/%d/task/%d/children" % (process.pid, process.pid), encoding="ascii") as it:
+        return [int(word) for word in it.read().split()]
+
+
+def seconds_of(process):
+    """The processor time that the process has taken."""
+    with open("/proc/%d/stat" % process.pid, encoding="ascii") as it:
+        return sum(map(int, it.read().rpartition(")")[2].split()[11:13])) / os.sysconf("SC_CLK_TCK")
+
+
+class OfRelay(InFolder):
+    """A test with a relay over a plain store, on a socket of the folder."""
+
+    settings, files = {}, None
 
     def setUp(self):
         super().setUp()
@@ -379,7 +537,9 @@ class Relays(InFolder):
         program = self.write("server", "#!/bin/sh\nexec %s %s \"$@\"\n" % tuple(FAKE))
         os.chmod(program, 0o755)
         words = [sys.executable, os.path.join(CLIENTS, "relay.py"), self.path, "shop", "--program", program, "--sessions", "3"]
-        self.process = subprocess.Popen(words, stdout=subprocess.PIPE, stderr=subprocess.PIPE)
+        if self.files:
+            words = ["sh", "-c", "ulimit -n %d; exec \"$@\"" % self.files, "sh", *words]
+        self.process = subprocess.Popen(words, stdout=subprocess.PIPE, stderr=subprocess.PIPE, **self.settings)
         self.addCleanup(self.stop)
         self.assertEqual([self.process.stdout.readline() for _ in range(2)], [b"ready run 1 pairs 0\n", b"listening on %s\n" % self.path.encode()])
 
@@ -408,6 +568,7 @@ class Relays(InFolder):
             got += chunk
         return got
 
+class Relays(OfRelay):
     def test_lines_of_two_clients(self):
         one, two = self.connected(), self.connected()
         self.ask(one, b"begin 1\n# x\n\n  \nput 1 k 1\nrun\n", b"begun 1\nok\nrun 1\n")
@@ -458,6 +619,10 @@ class Relays(InFolder):
             (b"MULTI\r\nSET a 2\r\nDISCARD\r\nDISCARD\r\nEXEC\r\n", b"+OK\r\n+QUEUED\r\n+OK\r\n-ERR DISCARD without MULTI\r\n-ERR EXEC without MULTI\r\n"),
             (b"MULTI\r\nEXEC\r\nCOMMAND DOCS\r\n", b"+OK\r\n*0\r\n*0\r\n"),
             (b"SET a\r\nSET a 1 EX 5\r\n", b"-ERR wrong number of arguments for 'set' command\r\n" * 2),
+            (b"DEL" + KEYS + b"\r\nGET a\r\n", b"-ERR TooManyWrites\r\n$1\r\n1\r\n"),
+            (b"MULTI\r\nSET a 3\r\nGET k9\r\nDEL" + KEYS.replace(b" k7 ", b" a ") + b"\r\nEXEC\r\n",
+             b"+OK\r\n+QUEUED\r\n+QUEUED\r\n-ERR TooManyWrites\r\n-EXECABORT Transaction discarded because of previous errors.\r\n"),
+            (b"MULTI\r\nSET k7 3\r\nDEL" + KEYS.replace(b" k256", b" k7") + b"\r\nEXEC\r\nGET a\r\n", b"+OK\r\n+QUEUED\r\n+QUEUED\r\n*2\r\n+OK\r\n:1\r\n$1\r\n1\r\n"),
             (b"GET a\r\n*1\r\n:\r\n", b"$1\r\n1\r\n-ERR Protocol error\r\n"),
         ):
             self.ask(sock, text, answer)
@@ -474,6 +639,60 @@ class Relays(InFolder):
             while got.count(b"*2\r\n") < 40 or not got.endswith(b"\r\n") or got.count(b":") < 120:
                 got += sock.recv(65_536)
         self.ask(clients[0], b"MULTI\r\nINCRBY n 0\r\nINCRBY m 0\r\nEXEC\r\n", b"+OK\r\n+QUEUED\r\n+QUEUED\r\n*2\r\n:1160\r\n:80\r\n")
+
+    def test_a_line_with_a_cr_is_a_bad_line(self):
+        one, two = self.connected(), self.connected()
+        self.ask(one, b"begin 1\nput 1 k 1\n", b"begun 1\nok\n")
+        self.ask(two, b"stats\n\r\n# \r\r\n", b"entries=0\n")
+        for line in (b"\r", b"commit 1\r", b"commit 3\r", b"quit\r", b"begin 7\r", b"state 1\r", b"a\rbegin 3"):
+            self.ask(two, line + b"\r\n", b"bad line\n")
+            self.ask(two, b"get 1 k\r\n", b"refused NoTransaction\n")
+        self.ask(one, b"get 1 k\nabort 1\n", b"= 1\naborted\n")
+
+    def test_a_first_line_of_neither_protocol_ends_the_connection(self):
+        for head in (b"POST / HTTP/1.1\r\nHost: a", b"GET / HTTP/1.1", b"get 1 k HTTP/1.0", b"HELLO 3", b"\r\r"):
+            sock = self.connected()
+            self.ask(sock, head + b"\r\n\r\nbegin 1\nput 1 k 1\ncommit 1\nSET k 1\r\n", b"bad line\n")
+            with contextlib.suppress(ConnectionResetError):
+                self.assertEqual(sock.recv(1), b"")
+        self.ask(self.connected(), b"\n\r\n# x\nbegin 1\nget 1 k\n", b"begun 1\nabsent\n")
+
+    def test_it_ends_as_the_store_does(self):
+        sock = self.connected()
+        self.ask(sock, b"PING\r\n", b"+PONG\r\n")
+        os.kill(*children_of(self.process), signal.SIGKILL)
+        self.assertEqual((self.process.wait(SECONDS), self.process.stderr.read()), (1, b"relay: the store's process was ended by signal 9\n"))
+
+    def stop(self):
+        if self.process.returncode is None:
+            super().stop()
+        else:
+            self.process.stdout.close(), self.process.stderr.close()
+
+
+class Interrupts(OfRelay):
+    settings = {"start_new_session": True}
+
+    def test_an_interrupt_of_the_group_ends_it_well(self):
+        self.ask(self.connected(), b"PING\r\nbegin", b"+PONG\r\n")
+        os.killpg(self.process.pid, signal.SIGINT)
+        self.assertEqual(self.process.wait(SECONDS), 0)
+
+
+class Files(OfRelay):
+    """A relay that may have few files open."""
+
+    files = 20
+
+    def test_it_waits_for_files(self):
+        clients = [self.connected() for _ in range(30)]
+        self.ask(clients[0], b"PING\r\n", b"+PONG\r\n")
+        before = seconds_of(self.process)
+        time.sleep(1.5)
+        self.assertLess(seconds_of(self.process) - before, 0.3)
+        for it in clients[:20]:
+            it.close()
+        self.ask(clients[-1], b"PING\r\n", b"+PONG\r\n")
 
 
 if __name__ == "__main__":
