@@ -1,6 +1,7 @@
 //! The files of a folder that recovery reads.
 use crate::causes::{Causes, Doing};
 use crate::late::LateFile;
+use pc_generations::number_in;
 use pc_io::{Tally, read_all};
 use pc_restore::Folder;
 use pc_texts::{NamedFile, report};
@@ -17,6 +18,9 @@ pub const BASE: &str = "base.pcb";
 
 /// The name of the log.
 pub const LOG: &str = "log.pcl";
+
+/// The name of the file that the process that serves a folder holds locked.
+pub const LOCK: &str = "lock";
 
 /// The suffix of the names of parts.
 pub const PART_END: &[u8] = b".pcp";
@@ -95,6 +99,11 @@ pub fn names_in(dir: ReadFolder<'_>) -> Result<Vec<u8>, Refusal> {
 /// Whether recovery reads a file of this name.
 pub fn is_run_file(name: &[u8]) -> bool {
     name == BASE.as_bytes() || name == LOG.as_bytes() || name.ends_with(PART_END)
+}
+
+/// Whether the folder of a served store has this: the file that its process holds locked, or the folder of a generation.
+pub fn is_store_file(name: &[u8]) -> bool {
+    name == LOCK.as_bytes() || number_in(name).is_some()
 }
 
 // The names of the folder's part files, in their byte order.

@@ -2,12 +2,15 @@
 use crate::causes::Doing;
 use crate::folder::{ReadFolder, names_in, path_in};
 use crate::making::{Target, sync_folder};
-use pc_generations::{BASE_NAME, Generations, generation_name, number_in};
+use pc_generations::{BASE_NAME, Generations, LOG_NAME, generation_name, number_in};
 use pc_types::Refusal;
 use std::alloc::{AllocError, Global};
 use std::io::{ErrorKind, Write};
 use std::string::String;
 use std::{fs, io};
+
+/// The number of bytes of a log without entries: its header's.
+const HEADER: u64 = 20;
 
 /// A folder of generations, each a folder with the files of a run. What is written there is on the disk once the call has ended.
 #[derive(Clone, Copy)]
@@ -42,6 +45,11 @@ impl<'a> GenerationFolders<'a> {
             Err(e) if e.kind() != ErrorKind::NotFound => Err(e),
             _ => Ok(()),
         }
+    }
+
+    // Whether the generation has a base, or entries in its log: something of it may have been answered.
+    fn is_used(&self, number: u32) -> Result<bool, Refusal> {
+        Ok(self.has_base(number)? || self.has_entries(number)?)
     }
 
     // The folder of a generation is made anew.
@@ -79,8 +87,27 @@ impl<'a> Generations for GenerationFolders<'a> {
         }
     }
 
+    fn has_entries(&self, number: u32) -> Result<bool, Refusal> {
+        let path = self.path_of(number, LOG_NAME)?;
+        match fs::metadata(self.dir.rt, path.as_str()) {
+            Ok(log) => Ok(log.len() > HEADER),
+            Err(e) if e.kind() == ErrorKind::NotFound || e.kind() == ErrorKind::NotADirectory => Ok(
+                false,
+            ),
+            Err(e) => {
+                let causes = self.dir.causes;
+                Err(causes.note_unread(Doing::Opening, path.as_str(), e))
+            }
+        }
+    }
+
     fn make(&mut self, number: u32) -> Result<(), Refusal> {
         let path = generation_path(self.dir, number)?;
+        if self.is_used(number)? {
+            let causes = self.dir.causes;
+            let used = io::Error::from(ErrorKind::AlreadyExists);
+            return Err(causes.note_unmade(Doing::Making, path.as_str(), used));
+        }
         match self.make_anew(path.as_str()) {
             Ok(()) => Ok(()),
             Err(e) => {

@@ -7,16 +7,14 @@ mod folder;
 mod generations;
 mod late;
 mod making;
-mod recovered;
 mod standard;
 
 pub use causes::{Cause, Causes, Doing, Noted};
 pub use folder::{
-    BASE, FoundFolder, LOG, PART_END, ReadFolder, is_run_file, names_in, open_folder, path_in,
-    tell_unopened,
+    BASE, FoundFolder, LOCK, LOG, PART_END, ReadFolder, is_run_file, is_store_file, names_in,
+    open_folder, path_in, tell_unopened,
 };
 pub use generations::{GenerationFolders, generation_path};
 pub use late::LateFile;
 pub use making::{Target, folder_of, sync_folder};
-pub use recovered::RecoveredFolder;
 pub use standard::{INPUT, OUTPUT, fill_places, output_before};

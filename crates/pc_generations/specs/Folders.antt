@@ -1,6 +1,6 @@
 -- The contents of the folders of generations, which generation counts, and how the next one begins. `stands n name (Some text)` says
 -- that the folder of generation n has this text under the name, and `stands n name None` that it has nothing there.
-use Rattle.std.specs.Prelude.{◌≢◌, ◌+◌, ◌<◌, ◌≤◌, ℕ, List, Option, Some, None}
+use Rattle.std.specs.Prelude.{◌≢◌, ◌⊎◌, ◌+◌, ◌<◌, ◌≤◌, ℕ, List, Option, Some, None, length}
 use Rattle.pc_generations.specs.Names.{base_name, log_name}
 
 -- a generation counts if its base is there
@@ -21,11 +21,27 @@ abbrev pub next_of : Option ℕ → ℕ
 next_of (Some number) = number + 1
 next_of None = 1
 
+-- the log of the generation has entries: bytes after the 20 of its header
+abbrev pub HasLoggedEntries : (ℕ → List ℕ → Option (List ℕ) → Type 0) → ℕ → Type 0
+HasLoggedEntries stands number = (text : List ℕ) × stands number log_name (Some text) × (20 < length text)
+
+-- it has no log, or one without entries
+abbrev pub HasNoLoggedEntries : (ℕ → List ℕ → Option (List ℕ) → Type 0) → ℕ → Type 0
+HasNoLoggedEntries stands number = stands number log_name None ⊎ ((text : List ℕ) × stands number log_name (Some text) × (length text ≤ 20))
+
+-- nothing of the generation was ever answered: it has neither a base nor entries
+abbrev pub IsUnused : (ℕ → List ℕ → Option (List ℕ) → Type 0) → ℕ → Type 0
+IsUnused stands number = stands number base_name None × HasNoLoggedEntries stands number
+
 -- everything in the folder of this generation is still there
 abbrev pub StaysAt : (ℕ → List ℕ → Option (List ℕ) → Type 0) → (ℕ → List ℕ → Option (List ℕ) → Type 0) → ℕ → Type 0
 StaysAt old new number = (name : List ℕ) (content : Option (List ℕ)) → old number name content → new number name content
 
--- the same of all generations but this one
+-- a generation that was used is as it was
+abbrev pub IsSpared : (ℕ → List ℕ → Option (List ℕ) → Type 0) → (ℕ → List ℕ → Option (List ℕ) → Type 0) → ℕ → Type 0
+IsSpared old new number = ¬ IsUnused old number → StaysAt old new number
+
+-- everything in the folders of all generations but this one is still there
 abbrev pub StayBut : (ℕ → List ℕ → Option (List ℕ) → Type 0) → (ℕ → List ℕ → Option (List ℕ) → Type 0) → ℕ → Type 0
 StayBut old new number = (other : ℕ) → other ≢ number → StaysAt old new other
 

@@ -2,7 +2,7 @@
 ghost use Rattle.std.specs.Prelude.{◌≡◌, ◌⊎◌, ◌≤◌, ◌<◌, ◌+◌, ℕ, List, None, Err, IsOk, IfOk, IfSome, OnOk, OnErr};
 ghost use Rattle.pc_types.specs.declared.refusal.Refusal.{Refusal};
 ghost use Rattle.pc_generations.specs.Names.{base_name};
-ghost use Rattle.pc_generations.specs.Folders.{AreGone, IsCurrentGeneration, HasBase, IsLatest, IsLogged, IsUnbegun, IsWhole, KeepsLast, NothingComes, StayBut, next_of};
+ghost use Rattle.pc_generations.specs.Folders.{AreGone, IsCurrentGeneration, HasBase, IsLatest, IsLogged, IsSpared, IsUnbegun, IsUnused, IsWhole, KeepsLast, NothingComes, StayBut, next_of};
 ghost use Rattle.pc_generations.specs.Searches.{IsFound, IsLaterOf};
 
 use crate::folders::Generations;
@@ -45,7 +45,8 @@ fn later_of<G: Generations>(
 }
 
 /// The generation after the one that counts, if one does, begins with this base and this log, which are the texts of whole files; its
-/// number. From then on it counts. All other generations are as they were, whether it begins or not.
+/// number. From then on it counts. All other generations are as they were, whether it begins or not; and so is one of this number that
+/// has a base or a log with entries, which is refused.
 ///
 /// If it refuses, or the process is killed at any moment in it, either the new generation counts, and has both texts whole; or the one
 /// that counted still does, and of it and of all before it nothing is gone. Returns `Full` after generation 9,999,999, and then nothing
@@ -61,6 +62,8 @@ pub fn begin_generation<G: Generations>(
     ensures has_base { OnOk result (HasBase (G.stands folders.new) (next_of latest)) }
     ensures cut_off { IsLatest (G.stands folders.old) latest → OnErr result (IsCurrentGeneration (G.stands folders.new) (next_of latest) base.now log.now ⊎ IsUnbegun (G.stands folders.old) (G.stands folders.new) latest) }
     ensures others { StayBut (G.stands folders.old) (G.stands folders.new) (next_of latest) }
+    ensures unused { OnOk result (IsUnused (G.stands folders.old) (next_of latest)) }
+    ensures spared { IsSpared (G.stands folders.old) (G.stands folders.new) (next_of latest) }
     ensures full { MOST_GENERATIONS < next_of latest → (result ≡ Err Refusal.Full) × (folders.new ≡ folders.old) }
 {
     let number = match next_number(latest) {
@@ -94,6 +97,8 @@ fn fill<G: Generations>(
 ) -> Result<(), Refusal>
     ensures others { StayBut (G.stands folders.old) (G.stands folders.new) number }
     ensures whole { OnOk result (IsWhole (G.stands folders.new) number base.now log.now) }
+    ensures unused { OnOk result (IsUnused (G.stands folders.old) number) }
+    ensures spared { IsSpared (G.stands folders.old) (G.stands folders.new) number }
     ensures cut_off { G.stands folders.old number base_name None → OnErr result (IsWhole (G.stands folders.new) number base.now log.now ⊎ G.stands folders.new number base_name None) }
 {
     match begin_log(folders, number, log) {
@@ -106,6 +111,8 @@ fn fill<G: Generations>(
 fn begin_log<G: Generations>(folders: &mut G, number: u32, log: &[u8]) -> Result<(), Refusal>
     ensures others { StayBut (G.stands folders.old) (G.stands folders.new) number }
     ensures logged { OnOk result (IsLogged (G.stands folders.new) number log.now) }
+    ensures unused { OnOk result (IsUnused (G.stands folders.old) number) }
+    ensures spared { IsSpared (G.stands folders.old) (G.stands folders.new) number }
     ensures unbased { G.stands folders.old number base_name None → G.stands folders.new number base_name None }
 {
     match folders.make(number) {

@@ -4,7 +4,9 @@
 mod beginning;
 mod folders;
 mod names;
+mod searching;
 
 pub use beginning::{begin_generation, latest_generation, remove_older};
 pub use folders::Generations;
 pub use names::{BASE_NAME, LOG_NAME, MOST_GENERATIONS, generation_name, number_in};
+pub use searching::{greatest_generation, lost_generation};

@@ -1,8 +1,8 @@
 //! The folders after a beginning that is interrupted at each of its calls.
 use crate::folders::{Failure, MemoryFolders, StoredFile};
 use pc_generations::{
-    BASE_NAME, LOG_NAME, MOST_GENERATIONS, begin_generation, generation_name, latest_generation,
-    number_in, remove_older,
+    BASE_NAME, Generations, LOG_NAME, MOST_GENERATIONS, begin_generation, generation_name,
+    greatest_generation, latest_generation, lost_generation, number_in, remove_older,
 };
 use pc_types::Refusal;
 use std::alloc::Global;
@@ -110,6 +110,27 @@ fn first_generation_begins(rt: HostRuntime) -> Result<(), Fail> {
     let begun = begin_generation(&mut folders, last, b"pairs", b"header");
     assert_eq!(rt; begun, Err(Refusal::Full));
     assert_eq!(rt; latest_generation(alloc, &folders)?, Some(1));
+    Ok(())
+}
+
+// A log of a header of 20 bytes, and one byte of an entry.
+const LOG_WITH_ENTRY: &[u8] = b"header of 20 bytes..e";
+
+#[test]
+fn log_with_entries_is_never_cleared(rt: HostRuntime) -> Result<(), Fail> {
+    let alloc = rt.alloc();
+    let mut folders = given(&rt, 10, Failure::Undone)?;
+    assert_eq!(rt; lost_generation(alloc, &folders, Some(4))?, None);
+    assert_eq!(rt; greatest_generation(alloc, &folders)?, Some(5));
+    folders.write(5, LOG_NAME, LOG_WITH_ENTRY)?;
+    assert_eq!(rt; lost_generation(alloc, &folders, Some(4))?, Some(5));
+    assert_eq!(rt; lost_generation(alloc, &folders, Some(5))?, None);
+    let refused = begin_generation(&mut folders, Some(4), b"pairs", b"header");
+    assert_eq!(rt; refused, Err(Refusal::Device));
+    assert!(rt; has_text(&folders, 5, LOG_NAME, LOG_WITH_ENTRY));
+    let begun = begin_generation(&mut folders, Some(5), b"pairs", b"header");
+    assert_eq!(rt; begun, Ok(6));
+    assert!(rt; has_text(&folders, 5, LOG_NAME, LOG_WITH_ENTRY));
     Ok(())
 }
 

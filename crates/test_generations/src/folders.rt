@@ -1,7 +1,10 @@
 //! Folders of generations in memory.
-use pc_generations::{BASE_NAME, Generations};
+use pc_generations::{BASE_NAME, Generations, LOG_NAME};
 use pc_types::Refusal;
 use std::alloc::Global;
+
+/// The number of bytes of a log without entries.
+const HEADER: usize = 20;
 
 /// A file of a generation.
 #[derive(Drop)]
@@ -133,7 +136,17 @@ impl Generations for MemoryFolders {
         Ok(self.text(number, BASE_NAME).is_some())
     }
 
+    fn has_entries(&self, number: u32) -> Result<bool, Refusal> {
+        Ok(
+            self.text(number, LOG_NAME)
+                .is_some_and(|text| text.len() > HEADER),
+        )
+    }
+
     fn make(&mut self, number: u32) -> Result<(), Refusal> {
+        if self.has_base(number)? || self.has_entries(number)? {
+            return Err(Refusal::Device);
+        }
         self.clear(number)
     }
 
