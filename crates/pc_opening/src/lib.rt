@@ -2,6 +2,8 @@
 //! with that.
 #![tactic(auto)]
 
+mod merging;
 mod opening;
 
-pub use opening::{OpenedStore, StoreSize, Succession, next_base, open_store};
+pub use merging::merged_base;
+pub use opening::{Begun, OpenedStore, StoreSize, Succession, begin_store, next_base, open_store};

@@ -10,7 +10,7 @@ ghost use Rattle.pc_bases.specs.Texts.{base_text};
 ghost use Rattle.pc_engine.specs.Stands.{Stands};
 ghost use Rattle.pc_engine.specs.Runs.{starting};
 ghost use Rattle.pc_engine.specs.Store.{setting_of};
-ghost use Rattle.pc_generations.specs.Folders.{AreGone, HasBase, IsLatest, StayBut, next_of};
+ghost use Rattle.pc_generations.specs.Folders.{AreGone, HasBase, IsLatest, IsSpared, IsUnused, StayBut, next_of};
 ghost use Rattle.pc_opening.specs.Openings.{CountsWith, IsOpeningCutOff, KeepsBefore};
 
 use pc_bases::Base;
@@ -56,7 +56,8 @@ pub struct OpenedStore {
 /// and never before, older ones are removed as far as that succeeds, but for as many before it as are to be kept.
 ///
 /// If it refuses, or the process is killed at any moment in it, either the new generation counts, with both texts, or the one that
-/// counted still does, and of it and of all before it nothing is gone. Refuses with `Full` if the base has more pairs than there is
+/// counted still does, and of it and of all before it nothing is gone; nor of a generation of the new one's number that has a base or a
+/// log with entries, which is refused. Refuses with `Full` if the base has more pairs than there is
 /// room for, and then changes nothing; with `OutOfMemory`; and as `begin_generation` refuses.
 pub fn open_store<G: Generations>(
     alloc: Global,
@@ -72,6 +73,8 @@ pub fn open_store<G: Generations>(
     ensures begun { IsLatest (G.stands folders.old) succession.latest → OnOk result (CountsWith (G.stands folders.new) succession.latest base) }
     ensures cut_off { IsLatest (G.stands folders.old) succession.latest → OnErr result (IsOpeningCutOff (G.stands folders.old) (G.stands folders.new) succession.latest base) }
     ensures kept { KeepsBefore succession.keep (G.stands folders.old) (G.stands folders.new) (next_of succession.latest) }
+    ensures unused { OnOk result (IsUnused (G.stands folders.old) (next_of succession.latest)) }
+    ensures spared { IsSpared (G.stands folders.old) (G.stands folders.new) (next_of succession.latest) }
     ensures gone { IfOk result (λ opened. OnOk opened.removal (AreGone succession.keep (G.stands folders.new) (next_of succession.latest))) }
     ensures full { size.capacity < len base.pairs → (result ≡ Err Refusal.Full) × (folders.new ≡ folders.old) }
 {
@@ -81,7 +84,7 @@ pub fn open_store<G: Generations>(
     let Begun {
         generation,
         removal,
-    } = match begin_with(alloc, folders, succession, &base) {
+    } = match begin_store(alloc, folders, succession, &base) {
         Ok(begun) => begun,
         Err(why) => return Err(why),
     };
@@ -113,15 +116,18 @@ pub fn next_base(world: &World) -> Result<Base, Refusal>
     }
 }
 
-// The number of a generation that has begun, and whether those are removed that aren't kept, or why one isn't.
+/// A generation that has begun.
 #[derive(Clone, Copy)]
-struct Begun {
-    generation: u32,
-    removal: Result<(), Refusal>,
+pub struct Begun {
+    /// Its number.
+    pub generation: u32,
+    /// Whether all older generations are removed that aren't kept, or why one isn't.
+    pub removal: Result<(), Refusal>,
 }
 
-// Begins the generation after the one that counts, and then removes those that aren't kept.
-fn begin_with<G: Generations>(
+/// Begins the generation after the one that counts, if one does, with the text of this base and a log of its run without entries, and
+/// then removes older ones, as `open_store` does.
+pub fn begin_store<G: Generations>(
     alloc: Global,
     folders: &mut G,
     succession: Succession,
@@ -131,6 +137,8 @@ fn begin_with<G: Generations>(
     ensures begun { IsLatest (G.stands folders.old) succession.latest → OnOk result (CountsWith (G.stands folders.new) succession.latest base.now) }
     ensures cut_off { IsLatest (G.stands folders.old) succession.latest → OnErr result (IsOpeningCutOff (G.stands folders.old) (G.stands folders.new) succession.latest base.now) }
     ensures kept { KeepsBefore succession.keep (G.stands folders.old) (G.stands folders.new) (next_of succession.latest) }
+    ensures unused { OnOk result (IsUnused (G.stands folders.old) (next_of succession.latest)) }
+    ensures spared { IsSpared (G.stands folders.old) (G.stands folders.new) (next_of succession.latest) }
     ensures gone { IfOk result (λ begun. OnOk begun.removal (AreGone succession.keep (G.stands folders.new) (next_of succession.latest))) }
 {
     match begin_texts(alloc, folders, succession.latest, base) {
@@ -154,6 +162,8 @@ fn begin_texts<G: Generations>(
     ensures begun { IsLatest (G.stands folders.old) latest → OnOk result (CountsWith (G.stands folders.new) latest base.now) }
     ensures cut_off { IsLatest (G.stands folders.old) latest → OnErr result (IsOpeningCutOff (G.stands folders.old) (G.stands folders.new) latest base.now) }
     ensures others { StayBut (G.stands folders.old) (G.stands folders.new) (next_of latest) }
+    ensures unused { OnOk result (IsUnused (G.stands folders.old) (next_of latest)) }
+    ensures spared { IsSpared (G.stands folders.old) (G.stands folders.new) (next_of latest) }
 {
     let texts = match texts_of(alloc, base) {
         Ok(texts) => texts,
