@@ -174,6 +174,26 @@ module _ (law : EveryCutOfAWorldIsRecovered) {T U : Type 0} (written keeps : T �
       subst (λ (s : Setting). Cut s → HasOnlyFiles first holds (shelf s.run history) → ((point : ℕ) (text : List ℕ) → first point text → IsForeign s.run text) → CameBackServed s holds (written device) (keeps device) base parts log → MatchResult (recovery base parts log) (KeepsAnswered s lag gone sent (log_of history)) (λ refusal. refusal ≡ Full)) same
       (λ cut_w only_w none_w back_w. world_loses_none world base parts log stands known cut_w only_w none_w back_w) cut only none back
 
+-- if it is killed, all that was written is kept, and so nothing lags behind
+killed_cut : {T U : Type 0} (written keeps : T → Option (List ℕ)) (contents : U → Option (List ℕ)) (log out : Option (List ℕ)) (st : Setting) (lag : ℕ) (gone turn : List Act) (at history : History) (device : T) (answers : U) → IsCutOff written keeps contents log out st lag gone at turn history device answers
+    → IsCutOff written written contents log out st 0 gone at turn history device answers
+killed_cut written keeps contents log out st lag gone turn at history device answers cut =
+    let all : entries_text (log_of at) ≡ first_text (length (log_of at)) (log_of at) = ap (flat_map entry_text) (sym (take_all (length (log_of at)) (log_of at) (omega arith))) in
+    record {
+      stands = cut.stands;
+      gone_by = cut.gone_by;
+      turn_by = cut.turn_by;
+      sent = cut.sent;
+      logged = cut.logged;
+      all_written = cut.all_written;
+      kept = (length (log_of at), omega arith, subst (GrowsFrom log (written device)) all cut.all_written);
+    }
+
+killed_ends : {T U : Type 0} (written keeps : T → Option (List ℕ)) (contents : U → Option (List ℕ)) (log out input : Option (List ℕ)) (st : Setting) (lag : ℕ) (files : List File) (device : T) (answers : U) → EndsServed written keeps contents log out input st lag files device answers
+    → EndsServed written written contents log out input st 0 files device answers
+killed_ends written keeps contents log out input st lag files device answers (lines, firsts, (gone, turn, at, history, rest, cut, these, there)) =
+    (lines, firsts, (gone, turn, at, history, rest, killed_cut written keeps contents log out st lag gone turn at history device answers cut, these, there))
+
 module _ (law : EveryCutOfAWorldIsRecovered) {T U : Type 0} (written keeps : T → Option (List ℕ)) (contents : U → Option (List ℕ)) (before sent : List ℕ) (input left : Option (List ℕ)) (stopped : Stopped) (st : Setting) (lag : ℕ) (first holds : ℕ → List ℕ → Type 0)
     (none : (point : ℕ) (text : List ℕ) → first point text → IsForeign st.run text) where
   -- at every end
@@ -191,12 +211,26 @@ module _ (law : EveryCutOfAWorldIsRecovered) {T U : Type 0} (written keeps : T �
     λ base parts log back. loses_none law written keeps contents before sent lag gone turn at history device answers first holds st base parts log known cut (subst (HasOnlyFiles first holds) (sym there) only) none back,
   )
 
+module _ (law : EveryCutOfAWorldIsRecovered) {T U : Type 0} (written keeps : T → Option (List ℕ)) (contents : U → Option (List ℕ)) (before sent : List ℕ) (input left : Option (List ℕ)) (stopped : Stopped) (st : Setting) (lag : ℕ) (first holds : ℕ → List ℕ → Type 0)
+    (none : (point : ℕ) (text : List ℕ) → first point text → IsForeign st.run text) where
   -- and if all was sent
+  ended : (service : Service T U) (files : List File)
+      → HasStopped written keeps contents (Some (header_text st.run)) (Some before) input st lag left files service stopped ⊎ EndsServed written keeps contents (Some (header_text st.run)) (Some before) input st lag files service.log (inner_of service.out)
+      → EndsServed written keeps contents (Some (header_text st.run)) (Some before) input st lag files service.log (inner_of service.out)
+  ended service files (inr ends) = ends
+  ended service files (inl stops) =
+      let (lines, firsts, (gone, at, holds_all, these, same, there)) = stopped_sent written keeps contents (Some (header_text st.run)) (Some before) input left st lag files service stopped stops in
+      (lines, firsts, serving_ends written keeps contents (Some (header_text st.run)) (Some before) st lag files lines service (gone, [], at, at, holds_all, these, same, there))
+
   pub all_lose_none : (service : Service T U) (files : List File) → contents (inner_of service.out) ≡ Some (before ++ sent)
       → HasStopped written keeps contents (Some (header_text st.run)) (Some before) input st lag left files service stopped ⊎ EndsServed written keeps contents (Some (header_text st.run)) (Some before) input st lag files service.log (inner_of service.out)
       → HasOnlyFiles first holds files → LosesNoAnswer holds (written service.log) (keeps service.log) sent input st lag
-  all_lose_none service files known (inr ends) only = ends_lose_none service.log (inner_of service.out) files known ends only
-  all_lose_none service files known (inl stops) only =
-      let (lines, firsts, (gone, at, holds_all, these, same, there)) = stopped_sent written keeps contents (Some (header_text st.run)) (Some before) input left st lag files service stopped stops in
-      ends_lose_none service.log (inner_of service.out) files known
-      (lines, firsts, serving_ends written keeps contents (Some (header_text st.run)) (Some before) st lag files lines service (gone, [], at, at, holds_all, these, same, there)) only
+  all_lose_none service files known ends only = ends_lose_none law written keeps contents before sent input left stopped st lag first holds none service.log (inner_of service.out) files known (ended service files ends) only
+
+  -- a kill loses nothing that was written, so what it leaves is what a device leaves that keeps all that is written, without a lag
+  pub kills_lose_none : (service : Service T U) (files : List File) → contents (inner_of service.out) ≡ Some (before ++ sent)
+      → HasStopped written keeps contents (Some (header_text st.run)) (Some before) input st lag left files service stopped ⊎ EndsServed written keeps contents (Some (header_text st.run)) (Some before) input st lag files service.log (inner_of service.out)
+      → HasOnlyFiles first holds files → LosesNoAnswer holds (written service.log) (written service.log) sent input st 0
+  kills_lose_none service files known ends only =
+      ends_lose_none law written written contents before sent input left stopped st 0 first holds none service.log (inner_of service.out) files known
+      (killed_ends written keeps contents (Some (header_text st.run)) (Some before) input st lag files service.log (inner_of service.out) (ended service files ends)) only

@@ -25,7 +25,8 @@ use Rattle.pc_texts.specs.Texts.{reply_text}
 use Rattle.pc_lines.specs.declared.lines.Line.{Line}
 use Rattle.pc_lines.specs.declared.lines.Line.TheVariants as line
 use Rattle.pc_types.specs.declared.Entry.{Entry}
-use Rattle.pc_turn.specs.Turns.{IsKept, IsLogOut, TurnEnds, exceeds_lag, rest_text}
+use Rattle.pc_turn.specs.Turns.{AreMarks, IsLogOut, TurnEnds, exceeds_lag}
+use Rattle.pc_turn.specs.declared.turn.Marks.{Marks}
 use Rattle.pc_turn.specs.declared.turn.TurnEnd.{TurnEnd}
 use Rattle.pc_turn.specs.declared.turn.TurnEnd.TheVariants as end
 use Rattle.pc_serving.specs.OpenSessions.{open_after, open_now}
@@ -73,12 +74,16 @@ Extends before after = (more : List Entry) × (log_of after ≡ log_of before ++
 pub no_shorter : (before after : History) → Extends before after → length (log_of before) ≤ length (log_of after)
 no_shorter before after (more, e) = subst (λ l. length (log_of before) ≤ length l) (sym e) (omega (arith, length-append (log_of before) more))
 
+-- what is written and kept of a log stays within it
+marks_stay : (before after : History) (marks : Marks) → Extends before after → AreMarks (log_of before) marks → AreMarks (log_of after) marks
+marks_stay before after marks extends within = (within.0, omega (arith, within.1, no_shorter before after extends))
+
 -- a step adds to the log, or leaves it
 pub step_extends : (step : Step) (h : History) → Extends h (step ∷ h)
 step_extends step h = (entries_by (effect step) h, refl)
 
 abbrev pub went_on : Server → Store → Pace → Counts → Server
-went_on old world pace counts = record { served = record { world = world; waiting = old.served.waiting }; pace = pace; answers = old.answers; counts = counts; written = old.written; lag = old.lag }
+went_on old world pace counts = record { served = record { world = world; waiting = old.served.waiting }; pace = pace; answers = old.answers; counts = counts; marks = old.marks; lag = old.lag }
 
 -- an entry that came was counted
 noted_on : (run : ℕ) (commits : Bool) (before after : History) (world : Store) (was is : Counts) → Stands world after → Follows commits (log_of before) (log_of after) → AreCounts run (log_of before) was → IsNoted commits world.log (length (log_of before)) was is → AreCounts run (log_of after) is
@@ -97,6 +102,7 @@ went st gone turn at history next old world pace counts result stays kept stands
         gone_by = stays.gone_by;
         turn_by = stays.turn_by;
         waiting = stays.waiting;
+        written = stays.written;
         kept = stays.kept;
         within = stays.within;
         counts = noted_on st.run false history history world old.counts counts (subst (Stands world) none.1 stands) (inl refl) stays.counts (subst (λ l. IsNoted false world.log (length l) old.counts counts) stays.serves.stands.parts.log noted);
@@ -113,8 +119,9 @@ went st gone turn at history next old world pace counts result stays kept stands
         gone_by = stays.gone_by;
         turn_by = (history, stays.turn_by, is, subst (λ t. IsLegal t history event reply) stays.serves.setting legal, refl);
         waiting = stays.waiting;
+        written = stays.written;
         kept = stays.kept;
-        within = omega (arith, stays.within, no_shorter history (step ∷ history) (step_extends step history));
+        within = marks_stay history (step ∷ history) old.marks (step_extends step history) stays.within;
         counts = noted_on st.run false history (step ∷ history) world old.counts counts (subst (Stands world) after stands) (step_follows step history is) stays.counts (subst (λ l. IsNoted false world.log (length l) old.counts counts) stays.serves.stands.parts.log noted);
       },
       shelved,
@@ -153,7 +160,7 @@ answer_extends st before after request.Stats text (t, e) = same_extends before a
 answer_extends st before after request.Quit text (t, e) = same_extends before after e
 
 abbrev pub after_answer : Server → Served → Tally (Vec ℕ) → Pace → Counts → Server
-after_answer old served answers pace counts = record { served = served; pace = pace; answers = answers; counts = counts; written = old.written; lag = old.lag }
+after_answer old served answers pace counts = record { served = served; pace = pace; answers = answers; counts = counts; marks = old.marks; lag = old.lag }
 
 -- a line was answered
 pub answered : (st : Setting) (gone turn : List Act) (at history next : History) (old : Server) (served : Served) (answers : Tally (Vec ℕ)) (pace : Pace) (counts : Counts) (line text : List ℕ) (asked : Request) → Stays st gone at turn history old
@@ -164,8 +171,9 @@ answered st gone turn at history next old served answers pace counts line text a
   gone_by = stays.gone_by;
   turn_by = (history, stays.turn_by, subst (λ r. AnswersRequest st history r text next) (sym asks) told);
   waiting = grown ∙ ap (λ t. t ++ text) stays.waiting;
+  written = stays.written;
   kept = stays.kept;
-  within = omega (arith, stays.within, no_shorter history next (answer_extends st history next asked text told));
+  within = marks_stay history next old.marks (answer_extends st history next asked text told) stays.within;
   counts = are;
 }
 
@@ -257,37 +265,39 @@ lead_on st start at history gone (Answered line text ∷ turn) before (between, 
 lead_on st start at history gone (WentOn step ∷ turn) before (between, led, is, legal, e) = (between, lead_on st start at between gone turn before led, is, legal, e)
 
 -- The same end of a turn, of what is the same.
-pub same_ends : {T U : Type 0} (written kept : T → Option (List ℕ)) (contents : U → Option (List ℕ)) (entries log : List Entry) (lag : ℕ) (sent answers : List ℕ) (before after : ℕ) (log_old log_new : T) (out_old out_new : Tally U) (result : TurnEnd) → entries ≡ log → sent ≡ answers
+pub same_ends : {T U : Type 0} (written kept : T → Option (List ℕ)) (contents : U → Option (List ℕ)) (entries log : List Entry) (lag : ℕ) (sent answers : List ℕ) (before after : Marks) (log_old log_new : T) (out_old out_new : Tally U) (result : TurnEnd) → entries ≡ log → sent ≡ answers
     → TurnEnds written kept contents entries lag sent before after log_old log_new out_old out_new result → TurnEnds written kept contents log lag answers before after log_old log_new out_old out_new result
 same_ends written kept contents entries log lag sent answers before after log_old log_new out_old out_new result same told ends =
     subst (λ l. TurnEnds written kept contents l lag answers before after log_old log_new out_old out_new result) same
     (subst (λ t. TurnEnds written kept contents entries lag t before after log_old log_new out_old out_new result) told ends)
 
 -- if the log went out, at most as many entries as the lag are not kept
-pub kept_enough : {T : Type 0} (written kept : T → Option (List ℕ)) (log : List Entry) (lag before after : ℕ) (old new : T) → IsLogOut written kept log lag before after old new true → length log ≤ after + lag
-kept_enough written kept log lag before after old new out = by (exceeds_lag lag before log) refl out
+pub kept_enough : {T : Type 0} (written kept : T → Option (List ℕ)) (log : List Entry) (lag : ℕ) (before after : Marks) (old new : T) → IsLogOut written kept log lag before after old new true → length log ≤ after.kept + lag
+kept_enough written kept log lag before after old new out = by (exceeds_lag lag before.kept (length log)) refl out.2
   where
-    by : (b : Bool) → exceeds_lag lag before log ≡ b → MatchBool b (IsKept written kept (rest_text before log) old new true × (after ≡ length log)) ((new ≡ old) × (after ≡ before)) → length log ≤ after + lag
-    by true e (kept, all) = omega (arith, all)
-    by false e (same, none) = grind (arith, nat_tests, e, none)
+    by : (b : Bool) → exceeds_lag lag before.kept (length log) ≡ b → MatchBool b ((kept new ≡ written new) × (after.kept ≡ length log)) (after.kept ≡ before.kept) → length log ≤ after.kept + lag
+    by true e is = omega (arith, is.1)
+    by false e is = grind (arith, nat_tests, e, is)
 
 -- after a whole turn at most as many entries as the lag are not kept
-pub turn_keeps : {T U : Type 0} (written kept : T → Option (List ℕ)) (contents : U → Option (List ℕ)) (log : List Entry) (answers : List ℕ) (before after : ℕ) (log_old log_new : T) (out_old out_new : Tally U) (result : TurnEnd) (lag : ℕ)
-    → TurnEnds written kept contents log lag answers before after log_old log_new out_old out_new result → result ≡ end.Whole → length log ≤ after + lag
+pub turn_keeps : {T U : Type 0} (written kept : T → Option (List ℕ)) (contents : U → Option (List ℕ)) (log : List Entry) (answers : List ℕ) (before after : Marks) (log_old log_new : T) (out_old out_new : Tally U) (result : TurnEnd) (lag : ℕ)
+    → TurnEnds written kept contents log lag answers before after log_old log_new out_old out_new result → result ≡ end.Whole → length log ≤ after.kept + lag
 turn_keeps written kept contents log answers before after log_old log_new out_old out_new result lag ends whole =
     kept_enough written kept log lag before after log_old log_new (subst (TurnEnds written kept contents log lag answers before after log_old log_new out_old out_new) whole ends).0
 
 -- a whole turn ended
-pub turn_ended : {T U : Type 0} (written kept : T → Option (List ℕ)) (contents : U → Option (List ℕ)) (st : Setting) (gone turn : List Act) (at history : History) (old : Server) (answers : Tally (Vec ℕ)) (after : ℕ) (log_old log_new : T) (out_old out_new : Tally U) (result : TurnEnd) (lag : ℕ) → lag ≤ old.lag → Stays st gone at turn history old
-    → TurnEnds written kept contents (log_of history) lag (answers_of turn) old.written after log_old log_new out_old out_new result → (inner_of answers).items ≡ [] → after ≤ length (log_of history)
-    → result ≡ end.Whole → Stays st (turn ++ gone) history [] history (record { served = old.served; pace = old.pace; answers = answers; counts = old.counts; written = after; lag = old.lag })
+pub turn_ended : {T U : Type 0} (written kept : T → Option (List ℕ)) (contents : U → Option (List ℕ)) (st : Setting) (gone turn : List Act) (at history : History) (old : Server) (answers : Tally (Vec ℕ)) (after : Marks) (log_old log_new : T) (out_old out_new : Tally U) (result : TurnEnd) (lag : ℕ) → lag ≤ old.lag → Stays st gone at turn history old
+    → TurnEnds written kept contents (log_of history) lag (answers_of turn) old.marks after log_old log_new out_old out_new result → (inner_of answers).items ≡ [] → AreMarks (log_of history) after
+    → result ≡ end.Whole → Stays st (turn ++ gone) history [] history (record { served = old.served; pace = old.pace; answers = answers; counts = old.counts; marks = after; lag = old.lag })
 turn_ended written kept contents st gone turn at history old answers after log_old log_new out_old out_new result lag less stays ends none within whole =
-    let enough : length (log_of history) ≤ after + lag = turn_keeps written kept contents (log_of history) (answers_of turn) old.written after log_old log_new out_old out_new result lag ends whole in
+    let out = (subst (TurnEnds written kept contents (log_of history) lag (answers_of turn) old.marks after log_old log_new out_old out_new) whole ends).0 in
+    let enough : length (log_of history) ≤ after.kept + lag = turn_keeps written kept contents (log_of history) (answers_of turn) old.marks after log_old log_new out_old out_new result lag ends whole in
     record {
       serves = stays.serves;
       gone_by = lead_on st [] at history gone turn stays.gone_by stays.turn_by;
       turn_by = refl;
       waiting = none;
+      written = omega (arith, out.1);
       kept = omega (arith, enough, less);
       within = within;
       counts = stays.counts;

@@ -52,8 +52,8 @@ abbrev pub HasSent : {T U : Type 0} → (T → Option (List ℕ)) → (T → Opt
 HasSent written keeps contents log out st lag lines files service =
     (gone : List Act) × (at : History) × Holds written keeps contents log out st gone at [] at service × (lines_of gone ≡ lines) × (service.server.lag ≡ lag) × (shelf st.run at ≡ files)
 
--- Some first ones of these lines were answered, and of their answers a prefix was sent, and nothing else; of the log as it was then at
--- most as many entries as the lag are not kept.
+-- Some first ones of these lines were answered, and of their answers a prefix was sent, and nothing else; of the log as it was then all
+-- is written, and at most as many entries as the lag are not kept.
 abbrev pub EndsWithin : {T U : Type 0} → (T → Option (List ℕ)) → (T → Option (List ℕ)) → (U → Option (List ℕ)) → Option (List ℕ) → Option (List ℕ) → Setting → ℕ → List (List ℕ) → List File → T → U → Type 0
 EndsWithin written keeps contents log out st lag lines files log_device out_device =
     (gone turn : List Act) × (at history : History) × (rest : List (List ℕ)) × IsCutOff written keeps contents log out st lag gone at turn history log_device out_device × (lines ≡ lines_of (turn ++ gone) ++ rest) × (shelf st.run history ≡ files)

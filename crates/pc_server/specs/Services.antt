@@ -28,18 +28,18 @@ abbrev pub GrowsFrom : Option (List ℕ) → Option (List ℕ) → List ℕ → 
 GrowsFrom old new text = (between : Option (List ℕ)) × Appends old between text × Grows between new
 
 -- Since the log's device had the one and the output the other text: the answers of the acts `gone` were sent, and no others; the first
--- entries of the log are written and kept, and of those that it had when the last answers were sent at most as many as the lag are not
--- kept.
+-- entries of the log are written, among them all that it had when the last answers were sent; and the first of them are kept, of those
+-- all but at most as many as the lag.
 pub record Holds {T U : Type 0} (written keeps : T → Option (List ℕ)) (contents : U → Option (List ℕ)) (log out : Option (List ℕ)) (st : Setting) (gone : List Act) (at : History) (turn : List Act) (history : History)
     (service : Service T U) : Type 0 where
   pub stays : Stays st gone at turn history service.server
   pub sent : Appends out (contents (inner_of service.out)) (answers_of gone)
-  pub logged : Appends log (written service.log) (first_text service.server.written (log_of history))
-  pub kept : GrowsFrom log (keeps service.log) (first_text service.server.written (log_of history))
+  pub logged : Appends log (written service.log) (first_text service.server.marks.written (log_of history))
+  pub kept : GrowsFrom log (keeps service.log) (first_text service.server.marks.kept (log_of history))
 
 -- The state wherever it ends, maybe in the middle of a text. It did the acts `gone`, of whose answers a prefix was sent, and nothing
 -- else, and then those of the turn, and a store represents all of them. Of the log a prefix is written; and of the log as it was after
--- `gone` at most as many entries as the lag are not kept.
+-- `gone` all is written, and at most as many entries as the lag are not kept.
 pub record IsCutOff {T U : Type 0} (written keeps : T → Option (List ℕ)) (contents : U → Option (List ℕ)) (log out : Option (List ℕ)) (st : Setting) (lag : ℕ) (gone : List Act) (at : History) (turn : List Act) (history : History)
     (log_device : T) (out_device : U) : Type 0 where
   pub stands : (world : Store) × Stands world history × (setting_of world ≡ st)
@@ -47,4 +47,5 @@ pub record IsCutOff {T U : Type 0} (written keeps : T → Option (List ℕ)) (co
   pub turn_by : Lead st at turn history
   pub sent : AppendsBeginning out (contents out_device) (answers_of gone)
   pub logged : AppendsBeginning log (written log_device) (entries_text (log_of history))
+  pub all_written : GrowsFrom log (written log_device) (entries_text (log_of at))
   pub kept : (count : ℕ) × (length (log_of at) ≤ count + lag) × GrowsFrom log (keeps log_device) (first_text count (log_of at))

@@ -5,6 +5,7 @@ use Rattle.pc_types.specs.declared.Entry.{Entry}
 use Rattle.pc_model.specs.History.{History, log_of}
 use Rattle.pc_model.specs.Replies.{Setting}
 use Rattle.pc_log.specs.Texts.{entry_text}
+use Rattle.pc_turn.specs.Turns.{AreMarks}
 use Rattle.pc_serving.specs.Serving.{Serves}
 use Rattle.pc_serving.specs.declared.pace.Pace.{Pace}
 use Rattle.pc_server.specs.Acts.{Act, Lead, answers_of, commits_in, log_size}
@@ -25,12 +26,13 @@ pub record IsNoted (commits : Bool) (log : List Entry) (before : ℕ) (old new :
   pub some : (entry : Entry) → slice_get log before ≡ Some entry → new ≡ record { commits = if commits then min (old.commits + 1) (2 ^ 64 - 1) else old.commits; bytes = min (old.bytes + length (entry_text entry)) (2 ^ 64 - 1) }
 
 -- It did the acts `gone`, whose answers were sent, and then those of the turn, whose answers wait. Of the log as it was when the last
--- answers were sent at most as many entries as the lag are not kept.
+-- answers were sent all is written, and at most as many entries as the lag are not kept.
 pub record Stays (st : Setting) (gone : List Act) (at : History) (turn : List Act) (history : History) (server : Server) : Type 0 where
   pub serves : Serves st server.served.world server.served.waiting history
   pub gone_by : Lead st [] gone at
   pub turn_by : Lead st at turn history
   pub waiting : (inner_of server.answers).items ≡ answers_of turn
-  pub kept : length (log_of at) ≤ server.written + server.lag
-  pub within : server.written ≤ length (log_of history)
+  pub written : length (log_of at) ≤ server.marks.written
+  pub kept : length (log_of at) ≤ server.marks.kept + server.lag
+  pub within : AreMarks (log_of history) server.marks
   pub counts : AreCounts st.run (log_of history) server.counts

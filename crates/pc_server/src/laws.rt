@@ -1,4 +1,4 @@
-//! The law of a store that is served. The function does nothing, and its contract is the law.
+//! The laws of a store that is served. The functions do nothing, and their contracts are the laws.
 ghost use Rattle.std.specs.Prelude.{◌≡◌, ◌⊎◌, ◌++◌, ℕ, List, Option, Some};
 ghost use Rattle.pc_io.specs.Tallies.{inner_of};
 ghost use Rattle.pc_model.specs.Files.{File};
@@ -29,6 +29,20 @@ pub fn serving_loses_no_answer<L: LogDevice + Drop, W: Write + Drop, P: PointFil
         → HasStopped L.written L.kept W.contents (Some (header_text st.run)) (Some before) input st lag left files service.now stopped ⊎ EndsServed L.written L.kept W.contents (Some (header_text st.run)) (Some before) input st lag files service.now.log (inner_of service.now.out)
         → HasOnlyFiles (P.holds first) (P.holds points.now) files → ((point : ℕ) (text : List ℕ) → P.holds first point text → IsForeign st.run text)
         → LosesNoAnswer (P.holds points.now) (L.written service.now.log) (L.kept service.now.log) sent input st lag }
+{
+    every_cut_of_a_world_is_recovered();
+}
+
+/// The same of a process that is killed, of whose log all that was written came back: then no commit of which a line `committed N` was
+/// sent whole is lost, whatever the lag.
+pub fn kills_lose_no_answer<L: LogDevice + Drop, W: Write + Drop, P: PointFiles>(
+    service: &Service<L, W>,
+    points: &P,
+)
+    ensures { (input left : Option (List ℕ)) (stopped : Stopped) (st : Setting) (lag : ℕ) (before sent : List ℕ) (files : List File) (first : P) → W.contents (inner_of service.now.out) ≡ Some (before ++ sent)
+        → HasStopped L.written L.kept W.contents (Some (header_text st.run)) (Some before) input st lag left files service.now stopped ⊎ EndsServed L.written L.kept W.contents (Some (header_text st.run)) (Some before) input st lag files service.now.log (inner_of service.now.out)
+        → HasOnlyFiles (P.holds first) (P.holds points.now) files → ((point : ℕ) (text : List ℕ) → P.holds first point text → IsForeign st.run text)
+        → LosesNoAnswer (P.holds points.now) (L.written service.now.log) (L.written service.now.log) sent input st 0 }
 {
     every_cut_of_a_world_is_recovered();
 }

@@ -90,7 +90,7 @@ fn send_all<L: LogDevice + Drop, W: Write + Drop>(
     requires { (log out : Option (List ℕ)) × (st : Setting) × (lag : ℕ) × (lines : List (List ℕ)) × (files : List File) × Serving L.written L.kept W.contents log out st lag lines files service.old }
     ensures sent { (log out : Option (List ℕ)) (st : Setting) (lag : ℕ) (lines : List (List ℕ)) (files : List File) → Serving L.written L.kept W.contents log out st lag lines files service.old
         → MatchResult result (λ _. HasSent L.written L.kept W.contents log out st lag lines files service.new) (λ _. EndsWithin L.written L.kept W.contents log out st lag lines files service.new.log (inner_of service.new.out)) }
-    ensures all { OnOk result (length service.new.server.served.world.log ≤ service.new.server.written) }
+    ensures all { OnOk result (length service.new.server.served.world.log ≤ service.new.server.marks.kept) }
     ensures same { service.new.server.served ≡ service.old.server.served }
 {
     match service.close(alloc) {
@@ -288,7 +288,7 @@ fn serve_lines<R: Read + Drop, L: LogDevice + Drop, W: Write + Drop, P: PointFil
 /// nothing fails all lines were answered, or all up to that one, or all that were read before the generation was full, whose rest the input
 /// still has; all answers are sent, and all of the log is kept, whatever the lag. At every other end, and so whatever device fails at
 /// whatever call: some first lines of the input were answered, of their answers a prefix was sent, and nothing else, and of the log as it
-/// was then at most as many entries as the lag are not kept. Each file of a point was given to `points`, which has its text, and nothing
+/// was then all is written, and at most as many entries as the lag are not kept. Each file of a point was given to `points`, which has its text, and nothing
 /// else of that run; if the service ends because one can't be kept, `points` may lack that one.
 pub fn serve_input<R: Read + Drop, L: LogDevice + Drop, W: Write + Drop, P: PointFiles>(
     alloc: Global,
@@ -303,7 +303,7 @@ pub fn serve_input<R: Read + Drop, L: LogDevice + Drop, W: Write + Drop, P: Poin
         (λ stopped. WithFiles (P.holds first) (P.holds points.new) (λ files. HasStopped L.written L.kept W.contents log out text st lag (reader_remaining R.remaining input.new) files service.new stopped))
         (λ _. WithSomeFiles (P.holds first) (P.holds points.new) (λ files. EndsServed L.written L.kept W.contents log out text st lag files service.new.log (inner_of service.new.out))) }
     ensures filled { IfOk result (λ stopped. stopped ≡ Stopped.Filled → is_filled roll service.new.server.served.world ≡ true) }
-    ensures all { OnOk result (length service.new.server.served.world.log ≤ service.new.server.written) }
+    ensures all { OnOk result (length service.new.server.served.world.log ≤ service.new.server.marks.kept) }
 {
     match serve_lines(alloc, service, input, points, roll) {
         Ok(stopped) => match send_all(alloc, service) {

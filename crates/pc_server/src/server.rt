@@ -7,7 +7,7 @@ ghost use Rattle.pc_model.specs.Replies.{Setting};
 ghost use Rattle.pc_engine.specs.Stands.{Stands};
 ghost use Rattle.pc_engine.specs.Store.{setting_of};
 ghost use Rattle.pc_model.specs.Files.{file_at};
-ghost use Rattle.pc_turn.specs.Turns.{TurnEnds};
+ghost use Rattle.pc_turn.specs.Turns.{AreMarks, TurnEnds};
 ghost use Rattle.pc_serving.specs.Points.{IsShelvedAs};
 ghost use Rattle.pc_serving.specs.Requests.{request_of};
 ghost use Rattle.pc_serving.specs.declared.pace.Turned.TheVariants as turned;
@@ -25,7 +25,7 @@ use pc_io::Tally;
 use pc_lines::Line;
 use pc_part::Part;
 use pc_serving::{Pace, Request, Served, Turned, read_request};
-use pc_turn::{LogDevice, TurnEnd, end_turn};
+use pc_turn::{LogDevice, Marks, TurnEnd, end_turn};
 use pc_types::{FileNo, Refusal};
 use std::alloc::Global;
 use std::io::Write;
@@ -34,15 +34,15 @@ use std::mem;
 /// Once this many points were taken a generation is full, whatever its log has: no more than 65,535 can be.
 const MOST_POINTS: usize = 60_000;
 
-/// A store that is served in turns: the answers of a turn wait until the new log entries are kept.
+/// A store that is served in turns: the answers of a turn wait until the new log entries are written, and kept if they must be.
 #[derive(Drop)]
 pub struct Server {
     served: Served,
     pace: Pace,
     answers: Tally<Vec<u8>>,
     counts: Counts,
-    // The number of entries of the log kept.
-    written: usize,
+    // How many entries of the log are written, and how many of them kept.
+    marks: Marks,
     lag: usize,
 }
 
@@ -53,7 +53,7 @@ impl Server {
     pub fn new(alloc: Global, world: World, every: u64, lag: usize) -> Server
         ensures stays { Stands world [] → Stays (setting_of world) [] [] [] [] result }
         ensures lag { result.lag ≡ lag }
-        ensures written { result.written ≡ 0 }
+        ensures marks { result.marks ≡ record { written = 0; kept = 0 } }
     {
         let served = Served::new(world);
         let answers = Tally::new(Vec::new(alloc));
@@ -63,7 +63,10 @@ impl Server {
             pace: Pace::new(every),
             answers,
             counts,
-            written: 0,
+            marks: Marks {
+                written: 0,
+                kept: 0,
+            },
             lag,
         }
     }
@@ -77,7 +80,7 @@ impl Server {
         ensures goes_on { IfOk result (λ goes_on. goes_on ≡ not (is_quit (request_of line.now))) }
         ensures refusals { IfErr result (λ e. e ≡ Refusal.OutOfMemory) }
         ensures paced { OnOk result (self.new.pace ≡ paced self.old.pace (length self.old.served.world.log) (length self.new.served.world.log)) }
-        ensures same { (self.new.lag ≡ self.old.lag) × (self.new.written ≡ self.old.written) }
+        ensures same { (self.new.lag ≡ self.old.lag) × (self.new.marks ≡ self.old.marks) }
     {
         let request = read_request(alloc, line)?;
         let goes_on = !matches!(&request, Request::Quit);
@@ -92,7 +95,7 @@ impl Server {
         ensures told { (st : Setting) (gone turn : List Act) (at history : History) → Stays st gone at turn history self.old
             → OnOk result ((text : List ℕ) × (next : History) × AnswersRequest st history request text next
             × ((line : List ℕ) → request_of line ≡ request → Stays st gone at (Answered line text ∷ turn) next self.new)) }
-        ensures same { (self.new.lag ≡ self.old.lag) × (self.new.written ≡ self.old.written) }
+        ensures same { (self.new.lag ≡ self.old.lag) × (self.new.marks ≡ self.old.marks) }
         ensures paced { OnOk result (self.new.pace ≡ paced self.old.pace (length self.old.served.world.log) (length self.new.served.world.log)) }
     {
         match request {
@@ -108,7 +111,7 @@ impl Server {
         ensures told { (st : Setting) (gone turn : List Act) (at history : History) → Stays st gone at turn history self.old
             → OnOk result ((text : List ℕ) × (next : History) × AnswersRequest st history (request.Line line) text next
             × ((bytes : List ℕ) → request_of bytes ≡ request.Line line → Stays st gone at (Answered bytes text ∷ turn) next self.new)) }
-        ensures same { (self.new.lag ≡ self.old.lag) × (self.new.written ≡ self.old.written) }
+        ensures same { (self.new.lag ≡ self.old.lag) × (self.new.marks ≡ self.old.marks) }
         ensures paced { OnOk result (self.new.pace ≡ paced self.old.pace (length self.old.served.world.log) (length self.new.served.world.log)) }
     {
         let before = self.served.world.log().len();
@@ -179,7 +182,7 @@ impl Server {
     pub fn go_on(&mut self) -> Result<Turned, Refusal>
         ensures went { (st : Setting) (gone turn : List Act) (at history : History) → Stays st gone at turn history self.old
             → (Stays st gone at turn history self.new × (result ≡ Ok turned.Nothing)) ⊎ ((step : Step) × Stays st gone at (WentOn step ∷ turn) (step ∷ history) self.new × IsShelvedAs step.reply result) }
-        ensures same { (self.new.lag ≡ self.old.lag) × (self.new.written ≡ self.old.written) }
+        ensures same { (self.new.lag ≡ self.old.lag) × (self.new.marks ≡ self.old.marks) }
     {
         let before = self.served.world.log().len();
         let turned = self.pace.go_on(&mut self.served.world);
@@ -225,7 +228,7 @@ impl Server {
         world
     }
 
-    /// Ends the turn, as `pc_turn` `end_turn`: the log entries that aren't kept yet are written and kept if they are more than this lag,
+    /// Ends the turn, as `pc_turn` `end_turn`: the log entries that aren't written yet are; all are kept if more than this lag aren't,
     /// which is at most the server's own; and then the answers of the turn are sent.
     pub fn end_turn<L: LogDevice, W: Write>(
         &mut self,
@@ -234,17 +237,17 @@ impl Server {
         log: &mut L,
         out: &mut Tally<W>,
     ) -> TurnEnd
-        requires within { self.old.written ≤ length self.old.served.world.log }
+        requires within { AreMarks self.old.served.world.log self.old.marks }
         requires lag { lag ≤ self.old.lag }
         ensures ends { (st : Setting) (gone turn : List Act) (at history : History) → Stays st gone at turn history self.old
-            → TurnEnds L.written L.kept W.contents (log_of history) lag (answers_of turn) self.old.written self.new.written log.old log.new out.old out.new result
+            → TurnEnds L.written L.kept W.contents (log_of history) lag (answers_of turn) self.old.marks self.new.marks log.old log.new out.old out.new result
             × (result ≡ TurnEnd.Whole → Stays st (turn ++ gone) history [] history self.new) }
-        ensures all { result ≡ TurnEnd.Whole → length self.new.served.world.log ≤ self.new.written + lag }
+        ensures all { result ≡ TurnEnd.Whole → length self.new.served.world.log ≤ self.new.marks.kept + lag }
         ensures same { (self.new.lag ≡ self.old.lag) × (self.new.served ≡ self.old.served) }
     {
         let answers = take_all(alloc, &mut self.answers);
         let kept = self.served.world.log();
-        end_turn(kept, &mut self.written, lag, log, &answers, out)
+        end_turn(kept, &mut self.marks, lag, log, &answers, out)
     }
 }
 

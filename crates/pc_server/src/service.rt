@@ -11,6 +11,7 @@ ghost use Rattle.pc_serving.specs.Points.{IsShelvedAs};
 ghost use Rattle.pc_serving.specs.Requests.{request_of};
 ghost use Rattle.pc_serving.specs.declared.pace.Turned.TheVariants as turned;
 ghost use Rattle.pc_turn.specs.Devices.{Grows};
+ghost use Rattle.pc_turn.specs.Turns.{AreMarks};
 ghost use Rattle.pc_server.specs.Acts.{Act, AnswersRequest, is_quit};
 ghost use Rattle.pc_server.specs.Acts.Act.{Answered, WentOn};
 ghost use Rattle.pc_server.specs.Generations.{is_filled};
@@ -32,7 +33,7 @@ use std::io::Write;
 pub enum CutOff {
     /// The log's: no answer of the turn was sent.
     Log,
-    /// The answers', once the log was kept.
+    /// The answers', once the log was written.
     Answers,
 }
 
@@ -122,11 +123,11 @@ impl<L: LogDevice + Drop, W: Write + Drop> Service<L, W> {
         self.server.is_filled(entries)
     }
 
-    /// Ends the turn: the log entries that aren't kept yet are kept if they are more than the lag, and then the answers of the turn
-    /// are sent. If a device fails, only the answers sent before were sent, or a prefix of them with those of this turn, and of the
-    /// log as it was then at most as many entries as the lag are not kept.
+    /// Ends the turn: the new log entries are written, all are kept if more than the lag aren't, and then the answers of the turn are
+    /// sent. If a device fails, only the answers sent before were sent, or a prefix of them with those of this turn, and of the log as
+    /// it was then all is written, and at most as many entries as the lag are not kept.
     pub fn end_turn(&mut self, alloc: Global) -> Result<(), CutOff>
-        requires within { self.old.server.written ≤ length self.old.server.served.world.log }
+        requires within { AreMarks self.old.server.served.world.log self.old.server.marks }
         ensures ended { (st : Setting) (log out : Option (List ℕ)) (gone turn : List Act) (at history : History) → Holds L.written L.kept W.contents log out st gone at turn history self.old
             → MatchResult result
             (λ _. Holds L.written L.kept W.contents log out st (turn ++ gone) history [] history self.new)
@@ -140,13 +141,13 @@ impl<L: LogDevice + Drop, W: Write + Drop> Service<L, W> {
 
     /// The last turn ends, as `end_turn` does, but all of the log is kept, whatever the lag. The store is as it was.
     pub fn close(&mut self, alloc: Global) -> Result<(), CutOff>
-        requires within { self.old.server.written ≤ length self.old.server.served.world.log }
+        requires within { AreMarks self.old.server.served.world.log self.old.server.marks }
         ensures ended { (st : Setting) (log out : Option (List ℕ)) (gone turn : List Act) (at history : History) → Holds L.written L.kept W.contents log out st gone at turn history self.old
             → MatchResult result
             (λ _. Holds L.written L.kept W.contents log out st (turn ++ gone) history [] history self.new)
             (λ _. IsCutOff L.written L.kept W.contents log out st self.old.server.lag gone at turn history self.new.log (inner_of self.new.out)
             ⊎ IsCutOff L.written L.kept W.contents log out st self.old.server.lag (turn ++ gone) history [] history self.new.log (inner_of self.new.out)) }
-        ensures all { OnOk result (length self.new.server.served.world.log ≤ self.new.server.written) }
+        ensures all { OnOk result (length self.new.server.served.world.log ≤ self.new.server.marks.kept) }
         ensures same { (self.new.server.lag ≡ self.old.server.lag) × (self.new.server.served ≡ self.old.server.served) }
     {
         self.end_with(alloc, 0)
@@ -154,14 +155,14 @@ impl<L: LogDevice + Drop, W: Write + Drop> Service<L, W> {
 
     // The turn ends with this lag, which is at most the server's own.
     fn end_with(&mut self, alloc: Global, lag: usize) -> Result<(), CutOff>
-        requires within { self.old.server.written ≤ length self.old.server.served.world.log }
+        requires within { AreMarks self.old.server.served.world.log self.old.server.marks }
         requires lag { lag ≤ self.old.server.lag }
         ensures ended { (st : Setting) (log out : Option (List ℕ)) (gone turn : List Act) (at history : History) → Holds L.written L.kept W.contents log out st gone at turn history self.old
             → MatchResult result
             (λ _. Holds L.written L.kept W.contents log out st (turn ++ gone) history [] history self.new)
             (λ _. IsCutOff L.written L.kept W.contents log out st self.old.server.lag gone at turn history self.new.log (inner_of self.new.out)
             ⊎ IsCutOff L.written L.kept W.contents log out st self.old.server.lag (turn ++ gone) history [] history self.new.log (inner_of self.new.out)) }
-        ensures all { OnOk result (length self.new.server.served.world.log ≤ self.new.server.written + lag) }
+        ensures all { OnOk result (length self.new.server.served.world.log ≤ self.new.server.marks.kept + lag) }
         ensures same { (self.new.server.lag ≡ self.old.server.lag) × (self.new.server.served ≡ self.old.server.served) }
     {
         match self

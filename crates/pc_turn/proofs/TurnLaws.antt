@@ -1,8 +1,9 @@
 -- What is appended of a log, piece after piece.
 use Rattle.std.proofs.Common.{◌≡◌, ◌≤◌, ◌+◌, ◌-◌, ℕ, Bool, true, false, List, [], ◌++◌, length, length-append, take, take_all, drop, append-nil, Option, Some, None, refl, sym, ap, subst, ◌∙◌, arith}
-use Rattle.std.specs.Prelude.{Result, Ok, Err, OnOk, is_ok, slice_range}
+use Rattle.std.specs.Prelude.{Result, Ok, Err, OnOk, MatchBool, IsTrue, is_ok, slice_range}
 use Rattle.std.specs.Io.KnownBytes.{Appends}
 use Rattle.std.specs.List.{flat_map}
+use Rattle.std.proofs.lemmas.Bool.Decides.{nat_tests}
 use Rattle.std.proofs.lemmas.List.{take-append-le, drop_all}
 use Rattle.std.proofs.lemmas.List.Concat.{flat_map-append}
 use Rattle.pc_io.specs.Counted.{AppendsBeginning}
@@ -11,7 +12,8 @@ use Rattle.pc_io.proofs.KnownBytesLaws.{appends_nothing, appends_then, begins_af
 use Rattle.pc_types.proofs.SliceLaws.{ranges, to_end}
 use Rattle.pc_log.specs.Texts.{entry_text}
 use Rattle.pc_turn.specs.Devices.{Grows}
-use Rattle.pc_turn.specs.Turns.{IsAppended, IsKept, rest_text}
+use Rattle.pc_turn.specs.Turns.{IsAppended, IsUpToDate, IsLogOut, exceeds_lag, rest_text}
+use Rattle.pc_turn.specs.declared.turn.Marks.{Marks}
 
 -- a prefix of a text is one of a longer text
 begins_longer : (a b : Option (List ℕ)) (x y : List ℕ) → AppendsBeginning a b x → AppendsBeginning a b (x ++ y)
@@ -80,7 +82,32 @@ module _ {T : Type 0} (written kept : T → Option (List ℕ)) where
       let none : from - from ≡ 0 = omega arith in
       subst (λ (n : ℕ). IsAppended written kept (flat_map entry_text (take n (drop from log))) a a true) (sym none) (appends_nothing (written a), grows_by_nothing (kept a))
 
-  -- all of a text was appended, and then it is kept, or the device fails
-  pub kept_behind : (a b c : T) (whole : Bool) (x : List ℕ) → IsAppended written kept x a b true → written c ≡ written b → (whole ≡ true → kept c ≡ written c) → Grows (kept b) (kept c) → IsKept written kept x a c whole
-  kept_behind a b c true x p same all grown = (subst (λ (o : Option (List ℕ)). Appends (written a) o x) (sym same) p.0, all refl, grows_on (kept a) (kept b) (kept c) p.1 grown)
-  kept_behind a b c false x p same all grown = (all_begins (written a) (written c) x (subst (λ (o : Option (List ℕ)). Appends (written a) o x) (sym same) p.0), grows_on (kept a) (kept b) (kept c) p.1 grown)
+  -- all was appended, and what must be kept is
+  pub put_and_kept : (a b c : T) (log : List Entry) (lag all : ℕ) (before : Marks) (after : ℕ) → all ≡ length log → IsAppended written kept (rest_text before.written log) a b true → (length log ≤ before.written → b ≡ a) → written c ≡ written b → Grows (kept b) (kept c)
+      → MatchBool (exceeds_lag lag before.kept all) ((kept c ≡ written c) × (after ≡ all)) ((c ≡ b) × (after ≡ before.kept)) → IsLogOut written kept log lag before (record { written = all; kept = after }) a c true
+  put_and_kept a b c log lag all before after whole p idle same grown is = (
+    out,
+    whole,
+    by (exceeds_lag lag before.kept (length log)) (subst (λ (n : ℕ). MatchBool (exceeds_lag lag before.kept n) ((kept c ≡ written c) × (after ≡ n)) ((c ≡ b) × (after ≡ before.kept))) whole is),
+    still (exceeds_lag lag before.kept (length log)) refl (subst (λ (n : ℕ). MatchBool (exceeds_lag lag before.kept n) ((kept c ≡ written c) × (after ≡ n)) ((c ≡ b) × (after ≡ before.kept))) whole is),
+  )
+    where
+      out : IsAppended written kept (rest_text before.written log) a c true
+      out = (subst (λ (o : Option (List ℕ)). Appends (written a) o (rest_text before.written log)) (sym same) p.0, grows_on (kept a) (kept b) (kept c) p.1 grown)
+
+      by : (due : Bool) → MatchBool due ((kept c ≡ written c) × (after ≡ length log)) ((c ≡ b) × (after ≡ before.kept)) → MatchBool due ((kept c ≡ written c) × (after ≡ length log)) (after ≡ before.kept)
+      by true is = is
+      by false is = is.1
+
+      still : (due : Bool) → exceeds_lag lag before.kept (length log) ≡ due → MatchBool due ((kept c ≡ written c) × (after ≡ length log)) ((c ≡ b) × (after ≡ before.kept)) → IsUpToDate lag log before → c ≡ a
+      still true e is none = absurd (grind (arith, nat_tests, e, none.1))
+      still false e is none = is.0 ∙ idle none.0
+
+  -- or the device fails
+  pub put_and_cut : (a b c : T) (log : List Entry) (lag all : ℕ) (before : Marks) → all ≡ length log → IsAppended written kept (rest_text before.written log) a b true → written c ≡ written b → Grows (kept b) (kept c) → IsTrue (exceeds_lag lag before.kept all)
+      → IsLogOut written kept log lag before before a c false
+  put_and_cut a b c log lag all before whole p same grown due = (
+    (all_begins (written a) (written c) (rest_text before.written log) (subst (λ (o : Option (List ℕ)). Appends (written a) o (rest_text before.written log)) (sym same) p.0), grows_on (kept a) (kept b) (kept c) p.1 grown),
+    refl,
+    λ none. absurd (grind (arith, nat_tests, due, whole, none.1)),
+  )

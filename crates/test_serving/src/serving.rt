@@ -197,11 +197,11 @@ fn answers_are_cut_off_behind_their_log(rt: HostRuntime) -> Result<(), Fail> {
     Ok(())
 }
 
-// Three entries are as many as may not be kept, or one more. At the end all must be kept, so that a log which takes none is reported
-// then.
+// Three entries are as many as may not be kept, or one more: then the last answer waits for a flush, which fails. At the end all must be
+// kept, so that a log which isn't is reported then.
 #[test]
 fn as_many_entries_as_the_lag_are_not_kept(rt: HostRuntime) -> Result<(), Fail> {
-    let (step, calls) = (1, 0);
+    let (step, calls) = (1, 3);
     let all = served(
         &rt,
         Case {
@@ -213,6 +213,7 @@ fn as_many_entries_as_the_lag_are_not_kept(rt: HostRuntime) -> Result<(), Fail> 
     )?;
     assert_eq!(rt; all.ended, Err(ServeFault::CutOff(CutOff::Log)));
     assert_eq!(rt; all.sent.as_slice(), ANSWERS);
+    assert_eq!(rt; all.log.kept.len(), 0);
     let some = served(
         &rt,
         Case {
@@ -224,6 +225,42 @@ fn as_many_entries_as_the_lag_are_not_kept(rt: HostRuntime) -> Result<(), Fail> 
     )?;
     assert_eq!(rt; some.ended, Err(ServeFault::CutOff(CutOff::Log)));
     assert_eq!(rt; commits_in(&some.sent), 2);
+    Ok(())
+}
+
+// How many bytes the first entries of the log have, of one that was kept after each.
+fn first_bytes(whole: &Left, entries: usize) -> usize {
+    match entries.checked_sub(1) {
+        Some(last) => whole.log.kept.get(last).copied().unwrap_or(usize::MAX),
+        None => 0,
+    }
+}
+
+// The log's device fails at each of its calls in turn, with each lag: each commit that was answered is written, and all of them but as
+// many as the lag are kept.
+#[test]
+fn lag_delays_no_write(rt: HostRuntime) -> Result<(), Fail> {
+    let whole = served(&rt, Case { step: 1, ..SOUND })?;
+    assert_eq!(rt; whole.log.kept.len(), 3);
+    for lag in 0..5 {
+        for calls in 0..8 {
+            let (step, lag, calls) = (1, lag, calls);
+            let left = served(
+                &rt,
+                Case {
+                    step,
+                    calls,
+                    lag,
+                    ..SOUND
+                },
+            )?;
+            let answered = commits_in(&left.sent);
+            assert!(rt; whole.log.bytes.starts_with(&left.log.bytes));
+            assert!(rt; first_bytes(&whole, answered) <= left.log.bytes.len());
+            let kept = left.log.kept.last().copied().unwrap_or(0);
+            assert!(rt; first_bytes(&whole, answered.saturating_sub(lag)) <= kept);
+        }
+    }
     Ok(())
 }
 
