@@ -400,7 +400,9 @@ def recover(base_text, files, log_text):
     for entry in commits_after(log.entries, point):
         for key, change in entry[2]:
             apply(pairs, key, change)
-    return Recovered(point, len(log.entries), log.fault, [(files[place][0], reasons[place]) for place in sorted(reasons)], pairs)
+    # a rest of zeros is what a file system leaves of bytes that never reached its disk
+    fault = log.fault if not log.fault or any(log_text[log.ends[-1]:]) else "Short"
+    return Recovered(point, len(log.entries), fault, [(files[place][0], reasons[place]) for place in sorted(reasons)], pairs)
 
 
 def apply(pairs, key, change):
@@ -585,14 +587,15 @@ def folder_of(lines):
     return files
 
 
-def lacks_text(log, found):
-    """The line of what a recovery lacked, with these bytes of the log, and whether its folder is whole."""
+def lacks_text(files, log, found):
+    """The line of what a recovery lacked, with these files and bytes of the log, and whether its folder is whole."""
     header = "missing" if log is None else "whole" if len(log) >= 20 else "cut"
     tokens = read_log(log).entries if header == "whole" else []
     is_used = found.point == 0 or ("token", "resolve", found.point) in tokens
     skipped = len(found.skipped)
     is_whole = header == "whole" and is_used and not (found.fault or skipped)
-    is_damaged = header != "whole" or found.fault not in (None, "Short") or skipped > 0
+    is_made_up_for = is_used and not any(files[name] for name, _ in found.skipped)
+    is_damaged = header != "whole" or found.fault not in (None, "Short") or (skipped > 0 and not is_made_up_for)
     state = "whole" if is_whole else "damaged" if is_damaged else "cut off"
     unused = "none" if is_used else str(found.entries)
     return f"lacks header {header} fault {found.fault or 'none'} unused {unused} skipped {skipped}: {state}\n".encode(), is_whole
@@ -612,7 +615,7 @@ def recovered_text(files, is_strict=False, cut=None):
         log = None if log is None or isinstance(log, Refused) else log[:cut]
         parts = [(it, files[it]) for it in files if it.endswith(b".pcp")]
         found = recover(files[b"base.pcb"], parts, log or b"")
-        lacks, is_whole = lacks_text(log, found)
+        lacks, is_whole = lacks_text(files, log, found)
         if is_strict:
             return found.text() + lacks + (b"status 0\n" if is_whole else b"status 4\n")
         return found.text() + b"status 0\n"

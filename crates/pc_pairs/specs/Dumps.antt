@@ -75,7 +75,7 @@ PutsUntil contents old new (Err why) text =
 abbrev pub Dumps : {R T E : Type 0} → (R → Option (List ℕ)) → (T → Option (List ℕ)) → (E → Option (List ℕ)) → Folder R → Choice → Bool → Tally T → Tally T → Tally E → Tally E → Type 0
 Dumps remaining contents reported folder choice accepts_damage old new told_old told_new = (base : List ℕ) (names parts : List (List ℕ)) (log : List ℕ) → HoldsAll remaining folder base names parts log →
     (found : Recovery) × (recovery base parts log ≡ Ok found) × Appends (contents (inner_of old)) (contents (inner_of new)) (dump_text choice found.pairs)
-    × (refuses accepts_damage (lacks_of (is_ok folder.log) log found) ≡ false) × TellsDamage reported told_old told_new names found
+    × (refuses accepts_damage (lacks_of (is_ok folder.log) parts log found) ≡ false) × TellsDamage reported told_old told_new names found
 
 -- the same of a beginning of the lines
 abbrev pub DumpsInPart : {R T : Type 0} → (R → Option (List ℕ)) → (T → Option (List ℕ)) → Folder R → Choice → Tally T → Tally T → Type 0

@@ -17,7 +17,7 @@ use Rattle.pc_log.specs.Laws.{IsLog, LogTextsAreRead}
 use Rattle.pc_log.specs.Reading.{LogRead, log_at}
 use Rattle.pc_log.specs.Texts.{header_text_in, entry_text_in, log_text_in, IsLogText}
 use Rattle.pc_log.proofs.EntriesAgain.{header_length}
-use Rattle.pc_recover.specs.Recovery.{Recovery, recovery, recovery_on, recovered_point, last_reached, is_covered, entries_after, log_of_run}
+use Rattle.pc_recover.specs.Recovery.{Recovery, recovery, recovery_on, recovered_point, last_reached, is_covered, entries_after, log_of_run, read_after_crash}
 use Rattle.pc_points.specs.Laws.{LogsGiveStates}
 use Rattle.pc_points.specs.Points.{state_before}
 use Rattle.pc_points.proofs.PointSteps.{state_to_come}
@@ -55,8 +55,8 @@ whole_log : LogTextsAreRead → (run : ℕ) (log : List Entry) (text : List ℕ)
 whole_log read run log text fits is_log (format, has, is) =
     let size : 20 ≤ length (log_text_in format run log) = omega (arith, length-append (header_text_in format run) (flat_map (entry_text_in format) log), header_length format run) in
     let long : ltb (length text) 20 ≡ false = subst (λ (t : List ℕ). ltb (length t) 20 ≡ false) (sym is) (grind (arith, nat_tests, size)) in
-    ap (λ t. cond t (Ok (record { run = run; entries = []; rest = length text; fault = None })) (log_at text >>= λ (found : LogRead). where_true (eqb found.run run) OtherRun found)) long
-    ∙ ap (λ (r : Result LogRead Refusal). r >>= λ (found : LogRead). where_true (eqb found.run run) OtherRun found) (read text run log fits is_log.lawful is_log.in_order (format, has, is))
+    ap (λ t. cond t (Ok (record { run = run; entries = []; rest = length text; fault = None })) (log_at text >>= λ (found : LogRead). where_true (eqb found.run run) OtherRun (read_after_crash text found))) long
+    ∙ ap (λ (r : Result LogRead Refusal). r >>= λ (found : LogRead). where_true (eqb found.run run) OtherRun (read_after_crash text found)) (read text run log fits is_log.lawful is_log.in_order (format, has, is))
     ∙ ap (λ t. cond t (Ok (record { run = run; entries = log; rest = 0; fault = None })) (Err OtherRun)) (same_run run)
 
 -- ---- both

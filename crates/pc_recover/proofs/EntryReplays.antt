@@ -1,6 +1,6 @@
 -- Applying entries as they are read, in order.
 use Rattle.std.proofs.Common.{◌≡◌, ◌≢◌, ℕ, ◌+◌, Bool, true, false, ◌||◌, List, [], ◌∷◌, length, Option, Some, None, Result, Ok, Err, refl, sym, ap, ◌∙◌, arith}
-use Rattle.std.specs.Prelude.{◌==◌}
+use Rattle.std.specs.Prelude.{◌==◌, IfOk}
 use Rattle.pc_types.specs.declared.refusal.Refusal.{Refusal}
 use Rattle.pc_types.specs.declared.refusal.Refusal.TheVariants.{OutOfMemory}
 use Rattle.pc_types.specs.declared.Entry.{Entry}
@@ -86,3 +86,23 @@ stopped_gives (Ok replayed) fault total stopped given memory read =
     let other : fault ≢ OutOfMemory = λ e. let f = memory e in absurd cc in
     ap Ok (read other) ∙ given
 stopped_gives (Err e) fault total stopped given memory read = λ other. let f = given other in absurd cc
+
+-- ---- what is left
+
+pub rest_goes_on : (format : Format) (last : LastToken) (bytes : List ℕ) (entry : Entry) (behind_it : List ℕ) → entry_at format last bytes ≡ Ok (entry, behind_it) → (all_at format (token_after last entry) behind_it).rest ≡ (all_at format last bytes).rest
+rest_goes_on format last bytes entry behind_it e = sym (ap (λ (found : LogReading). found.rest) (all_go_on format last bytes entry behind_it e))
+
+pub rest_stops : (format : Format) (last : LastToken) (bytes : List ℕ) (fault : Refusal) → entry_at format last bytes ≡ Err fault → (all_at format last bytes).rest ≡ length bytes
+rest_stops format last bytes fault e = ap (λ (found : LogReading). found.rest) (all_stop format last bytes fault e)
+
+pub rest_done : (format : Format) (last : LastToken) (bytes : List ℕ) → bytes ≡ [] → (all_at format last bytes).rest ≡ 0
+unfolding entries_at
+rest_done format last bytes none = ap (λ (bs : List ℕ). (all_at format last bs).rest) none
+
+-- a stopped loop leaves what it says, unless an allocation failed
+pub stopped_rest : (result : Result Replayed Refusal) (fault : Refusal) (left rest : ℕ) → IfOk result (λ replayed. replayed.rest ≡ left) → (fault ≡ OutOfMemory → result ≡ Err OutOfMemory)
+    → (fault ≢ OutOfMemory → left ≡ rest) → IfOk result (λ replayed. replayed.rest ≡ rest)
+stopped_rest (Ok replayed) fault left rest is memory read =
+    let other : fault ≢ OutOfMemory = λ e. let f = memory e in absurd cc in
+    is ∙ read other
+stopped_rest (Err e) fault left rest is memory read = tt

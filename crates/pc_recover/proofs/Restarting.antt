@@ -1,5 +1,5 @@
 -- Every cut of a run's log is recovered from.
-use Rattle.std.proofs.Common.{◌≡◌, ℕ, ◌≤◌, ◌<◌, ◌^◌, max, nat_lt, eqb, ltb, Bool, true, false, cond, List, [], ◌∷◌, length, take, Some, None, Result, Ok, Err, ◌⊎◌, inl, inr, refl, sym, ap, subst, ◌∙◌, arith}
+use Rattle.std.proofs.Common.{◌≡◌, ℕ, ◌-◌, ◌≤◌, ◌<◌, ◌^◌, max, nat_lt, eqb, ltb, Bool, true, false, cond, List, [], ◌∷◌, length, take, Some, None, Result, Ok, Err, ◌⊎◌, inl, inr, refl, sym, ap, subst, ◌∙◌, arith}
 use Rattle.std.specs.Prelude.{drop, IsTrue}
 use Rattle.std.specs.List.{list_all, AllByRecursion, flat_map}
 use Rattle.std.proofs.lemmas.Bool.{cases_lt, lt-ltb, le-ltb}
@@ -23,7 +23,7 @@ use Rattle.pc_log.specs.Reading.{LogRead, log_at}
 use Rattle.pc_log.specs.Laws.{IsLog, CutLogsAreRead, cut_read, left_behind}
 use Rattle.pc_log.proofs.EntriesAgain.{header_length}
 use Rattle.pc_recover.specs.declared.recovered.Skipped.{Skipped}
-use Rattle.pc_recover.specs.Recovery.{Recovery, recovery, recovery_on, recovered_point, read_files, decoded_files, files_to, with_files, log_of_run, entries_after, unused_from, first_missing, is_covered, reaches}
+use Rattle.pc_recover.specs.Recovery.{Recovery, recovery, recovery_on, recovered_point, read_files, decoded_files, files_to, with_files, log_of_run, read_after_crash, fault_after_crash, are_zeros, entries_after, unused_from, first_missing, is_covered, reaches}
 use Rattle.pc_recover.specs.Restarts.{AreWhole, IsRestored, EveryCutIsRecovered, base_of_point, token_number}
 use Rattle.pc_recover.proofs.RecoveredPoints.{last_is_reached, last_from_base, holds_at}
 use Rattle.pc_recover.proofs.RecoveredFiles.{UnlessFull, IsUsed, are_used, covered_token, files_give}
@@ -71,7 +71,7 @@ module _ (format : Format) (run : ℕ) (log : List Entry) (c : ℕ) where
           let read : LogRead = record { run = run; entries = []; rest = length cut; fault = None } in (
             0,
             read,
-            ap (λ t. cond t (Ok read) (log_at cut >>= λ found. where_true (eqb found.run run) OtherRun found)) short,
+            ap (λ t. cond t (Ok read) (log_at cut >>= λ found. where_true (eqb found.run run) OtherRun (read_after_crash cut found))) short,
             record { whole = record { some = omega arith; there = inl refl; next = λ _. omega (arith, less, has_header format run (take 1 log)) }; entries = sym (take_none log); fault = inl refl },
           )
 
@@ -81,14 +81,18 @@ module _ (format : Format) (run : ℕ) (log : List Entry) (c : ℕ) where
           let read = (cuts format run log c fits is_log.lawful has is_log.in_order).1 more in
           let same : eqb run run ≡ true = grind (arith, nat_tests) in (
             read.0,
-            cut_read format run log c read.0,
+            read_after_crash cut (cut_read format run log c read.0),
             rw (long, read.2, same) refl,
-            record { whole = record { some = read.1.some; there = inr read.1.there; next = read.1.next }; entries = refl; fault = by (eqb (left_behind format run log c read.0) 0) },
+            record { whole = record { some = read.1.some; there = inr read.1.there; next = read.1.next }; entries = refl; fault = by (drop (length cut - left_behind format run log c read.0) cut) (eqb (left_behind format run log c read.0) 0) },
           )
         where
-          by : (t : Bool) → (cond t None (Some Short) ≡ None) ⊎ (cond t None (Some Short) ≡ Some Short)
-          by true = inl refl
-          by false = inr refl
+          short : (t : Bool) → cond t (Some Short) (Some Short) ≡ Some Short
+          short true = refl
+          short false = refl
+
+          by : (rest : List ℕ) (t : Bool) → (fault_after_crash rest (cond t None (Some Short)) ≡ None) ⊎ (fault_after_crash rest (cond t None (Some Short)) ≡ Some Short)
+          by rest true = inl refl
+          by rest false = inr (short (are_zeros rest))
 
 -- two points, of which the first isn't above the second
 less_than : (b n : ℕ) → nat_lt b n ≡ true → b < n

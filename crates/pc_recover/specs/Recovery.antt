@@ -1,8 +1,8 @@
 -- Recovery: the state that a base, part files and a log give after a crash, by its rules, for any bytes.
-use Rattle.std.specs.Prelude.{◌≡◌, ℕ, zero, suc, ◌+◌, ◌==◌, not, nat_lt, nat_le, Bool, List, [], ◌∷◌, length, map, filter, find, drop, Option, Some, None, Result, Ok, Err, if◌then◌else◌}
+use Rattle.std.specs.Prelude.{◌≡◌, ℕ, zero, suc, ◌+◌, ◌-◌, ◌==◌, not, nat_lt, nat_le, Bool, List, [], ◌∷◌, length, map, filter, find, drop, Option, Some, None, Result, Ok, Err, if◌then◌else◌}
 use Rattle.std.specs.List.{list_any, list_all}
 use Rattle.pc_types.specs.declared.refusal.Refusal.{Refusal}
-use Rattle.pc_types.specs.declared.refusal.Refusal.TheVariants.{OtherRun, Gap}
+use Rattle.pc_types.specs.declared.refusal.Refusal.TheVariants.{OtherRun, Gap, Short}
 use Rattle.pc_types.specs.declared.Entry.{Entry}
 use Rattle.pc_io.specs.Fields.{◌>>=◌, where_true}
 use Rattle.pc_types.specs.declared.limits.TheConstants.{MOST_POINTS}
@@ -102,9 +102,22 @@ with_files base (file ∷ files) = do
 
 -- ---- the log
 
+-- all of the bytes are 0
+abbrev pub are_zeros : List ℕ → Bool
+are_zeros bytes = list_all (λ byte. byte == 0) bytes
+
+-- the fault of a log's rest after a crash: zeros, which a file system leaves where bytes have not reached its disk, count as truncated
+abbrev pub fault_after_crash : List ℕ → Option Refusal → Option Refusal
+fault_after_crash rest None = None
+fault_after_crash rest (Some fault) = if are_zeros rest then Some Short else Some fault
+
+-- the same reading of these bytes, after a crash
+abbrev pub read_after_crash : List ℕ → LogRead → LogRead
+read_after_crash bytes log = record log { fault = fault_after_crash (drop (length bytes - log.rest) bytes) log.fault }
+
 -- the reading of the run's log; fewer bytes than its header has count as no entries
 abbrev pub log_of_run : ℕ → List ℕ → Result LogRead Refusal
-log_of_run run bytes = if nat_lt (length bytes) 20 then Ok (record { run = run; entries = []; rest = length bytes; fault = None }) else (log_at bytes >>= λ log. where_true (log.run == run) OtherRun log)
+log_of_run run bytes = if nat_lt (length bytes) 20 then Ok (record { run = run; entries = []; rest = length bytes; fault = None }) else (log_at bytes >>= λ log. where_true (log.run == run) OtherRun (read_after_crash bytes log))
 
 -- the entries that the state of n lacks: all if n is 0, otherwise those after its token, none if it has none there
 abbrev pub entries_after : ℕ → List Entry → List Entry

@@ -24,7 +24,7 @@ pub struct Recovered {
     pub entries: usize,
     /// The parts that were not used, in the order of their places.
     pub skipped: Vec<Skipped>,
-    /// The fault of the bytes after the log's whole entries, if there are any: `Short` if the log was truncated. A log that was
-    /// truncated inside its header has none.
+    /// The fault of the bytes after the log's whole entries, if there are any: `Short` if the log was truncated, or all of them are 0.
+    /// A log that was truncated inside its header has none.
     pub fault: Option<Refusal>,
 }

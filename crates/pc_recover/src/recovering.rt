@@ -22,7 +22,7 @@ use std::alloc::Global;
 /// from the first to the last, and applied to the base. All other parts are skipped, with the reason. Then the log's commits after
 /// the recovered point's token are applied, in order: those of all its whole entries if the point is 0, none if the log has no such
 /// token. Fewer than the 20 bytes of a log's header count as a log without entries. Bytes after the last whole entry are left out,
-/// and their fault is returned.
+/// and their fault is returned: `Short` if all of them are 0, as a file system leaves bytes that have not reached its disk.
 ///
 /// If no point is in two of the parts that are used, it takes one pass over all of their entries; otherwise one for each of these
 /// parts over the entries of those before it. Memory is allocated for the pairs and a number of every 32 of them, the parts that
@@ -54,6 +54,7 @@ pub fn recover(
         database,
         entries,
         fault,
+        ..
     } = replay_log(alloc, run, reach.point, database, log)?;
     Ok(Recovered {
         run,

@@ -1,9 +1,10 @@
 //! The log's entries after the state of the recovered point, read and applied entry by entry.
-ghost use Rattle.std.specs.Prelude.{◌≡◌, ◌∷◌, [], ◌||◌, length, IfOk, OnOk, Ok, Err, Some};
+ghost use Rattle.std.specs.Prelude.{◌≡◌, ◌∷◌, [], ◌||◌, ◌-◌, drop, length, IfOk, OnOk, Ok, Err, Some};
 ghost use Rattle.pc_io.specs.Fields.{Gives};
 ghost use Rattle.pc_model.specs.Log.{after};
 ghost use Rattle.pc_log.specs.Orders.{no_token};
 ghost use Rattle.pc_log.specs.Reading.{entries_at};
+ghost use Rattle.pc_recover.specs.Recovery.{are_zeros, fault_after_crash};
 ghost use Rattle.pc_recover.specs.Replaying.{counting, found_replay, is_point_token, log_replay, replay_by};
 
 use pc_io::Format;
@@ -20,11 +21,14 @@ const HEADER: usize = 20;
 pub(crate) struct Replayed {
     pub(crate) database: Overlay,
     pub(crate) entries: usize,
+    /// How many bytes are left after the whole entries.
+    pub(crate) rest: usize,
     pub(crate) fault: Option<Refusal>,
 }
 
 /// Applies the commits of the run's log after the point's token to the database, all of them if the point is 0. Fewer bytes than a
-/// log's header has count as a log without entries: a crash came before the first entry. Returns the fault of the header,
+/// log's header has count as a log without entries: a crash came before the first entry; and so does a rest of zeros as a truncated
+/// entry. Returns the fault of the header,
 /// `OtherRun`, or `OutOfMemory` if an allocation failed; then the database is dropped. Of the log one entry at a time is kept.
 #[tactic(auto, unfolding(pc_log::specs::Reading::log_at))]
 pub(crate) fn replay_log(
@@ -40,6 +44,7 @@ pub(crate) fn replay_log(
         return Ok(Replayed {
             database,
             entries: 0,
+            rest: bytes.len(),
             fault: None,
         });
     }
@@ -47,7 +52,36 @@ pub(crate) fn replay_log(
     if of_run != run {
         return Err(Refusal::OtherRun);
     }
-    replay_entries(alloc, format, point, database, entries)
+    match replay_entries(alloc, format, point, database, entries) {
+        Ok(replayed) => Ok(after_crash(bytes, replayed)),
+        Err(why) => Err(why),
+    }
+}
+
+// The replay of these bytes of a log, with the fault that its rest has after a crash.
+fn after_crash(bytes: &[u8], replayed: Replayed) -> Replayed
+    ensures { replay_by result ≡ record (replay_by replayed) { fault = fault_after_crash (drop (length bytes.now - replayed.rest) bytes.now) replayed.fault } }
+{
+    let whole = bytes.len().saturating_sub(replayed.rest);
+    let fault = fault_after_crash(&bytes[whole..], replayed.fault);
+    Replayed { fault, ..replayed }
+}
+
+// The fault of a rest after a crash: zeros, which a file system leaves where bytes have not reached its disk, count as truncated.
+fn fault_after_crash(rest: &[u8], fault: Option<Refusal>) -> Option<Refusal>
+    ensures { result ≡ fault_after_crash rest.now fault }
+{
+    match fault {
+        Some(_) if are_zeros(rest) => Some(Refusal::Short),
+        other => other,
+    }
+}
+
+// Whether all of the bytes are 0.
+fn are_zeros(bytes: &[u8]) -> bool
+    ensures { result ≡ are_zeros bytes.now }
+{
+    bytes.iter().all(|byte| *byte == 0)
 }
 
 // Reads the entries in order in the log's format, as many as can be read, and applies those that count.
@@ -58,7 +92,8 @@ fn replay_entries(
     database: Overlay,
     bytes: &[u8],
 ) -> Result<Replayed, Refusal>
-    ensures { Gives replay_by result (Ok (found_replay point database (entries_at format (length bytes.now) no_token bytes.now))) }
+    ensures read { Gives replay_by result (Ok (found_replay point database (entries_at format (length bytes.now) no_token bytes.now))) }
+    ensures rest { IfOk result (λ replayed. replayed.rest ≡ (entries_at format (length bytes.now) no_token bytes.now).rest) }
 {
     let mut database = database;
     let mut last = LastToken::none();
@@ -77,18 +112,25 @@ fn replay_entries(
                 database = next;
                 is_behind = is_next_behind;
             }
-            Err(fault) => return stopped(database, entries, fault),
+            Err(fault) => return stopped(database, entries, rest.len(), fault),
         }
     }
     Ok(Replayed {
         database,
         entries,
+        rest: 0,
         fault: None,
     })
 }
 
-// The replay so far if the rest has this fault; an error if an allocation failed.
-fn stopped(database: Overlay, entries: usize, fault: Refusal) -> Result<Replayed, Refusal>
+// The replay so far if the rest of this length has this fault; an error if an allocation failed.
+fn stopped(
+    database: Overlay,
+    entries: usize,
+    rest: usize,
+    fault: Refusal,
+) -> Result<Replayed, Refusal>
+    ensures rest { IfOk result (λ replayed. replayed.rest ≡ rest) }
     ensures read { Gives replay_by result (Ok (record { pairs = database; entries = entries; fault = Some fault })) }
     ensures memory { fault ≡ Refusal.OutOfMemory → result ≡ Err Refusal.OutOfMemory }
 {
@@ -98,6 +140,7 @@ fn stopped(database: Overlay, entries: usize, fault: Refusal) -> Result<Replayed
     Ok(Replayed {
         database,
         entries,
+        rest,
         fault: Some(fault),
     })
 }

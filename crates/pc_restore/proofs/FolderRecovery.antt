@@ -21,9 +21,10 @@ pub same_recovery : (base other_base : List ℕ) (parts other_parts : List (List
     → recovery base parts log ≡ r → recovery other_base other_parts other_log ≡ r
 same_recovery base other_base parts other_parts log other_log r a b c is = rw (← a, ← b, ← c) is
 
--- the same log lacks the same
-pub same_lacks : (is_there other_is_there : Bool) (log other_log : List ℕ) (found : Recovery) (lacks : Lacks) → is_there ≡ other_is_there → log ≡ other_log → lacks ≡ lacks_of is_there log found → lacks ≡ lacks_of other_is_there other_log found
-same_lacks is_there other_is_there log other_log found lacks a b is = rw (← a, ← b) is
+-- the same parts and the same log lack the same
+pub same_lacks : (is_there other_is_there : Bool) (parts other_parts : List (List ℕ)) (log other_log : List ℕ) (found : Recovery) (lacks : Lacks) → is_there ≡ other_is_there → parts ≡ other_parts → log ≡ other_log
+    → lacks ≡ lacks_of is_there parts log found → lacks ≡ lacks_of other_is_there other_parts other_log found
+same_lacks is_there other_is_there parts other_parts log other_log found lacks a b d is = rw (← a, ← b, ← d) is
 
 -- if it isn't the output that failed, nothing went out
 pub nothing_out : {R T : Type 0} (remaining : R → Option (List ℕ)) (contents : T → Option (List ℕ)) (printed : List (List ℕ) → Recovery → List ℕ) (folder : Folder R) (out : Tally T) (cause : Lost R) → cause ≢ lost.Output → GoesOutUnrecovered remaining contents printed folder out out cause

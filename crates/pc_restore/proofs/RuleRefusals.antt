@@ -21,7 +21,7 @@ use Rattle.pc_bases.specs.Texts.{base_magic}
 use Rattle.pc_log.specs.Reading as log_text
 use Rattle.pc_log.specs.Texts.{log_magic}
 use Rattle.pc_restore.specs.Recoveries.{IsRulesRefusal}
-use Rattle.pc_recover.specs.Recovery.{decoded_files, files_to, try_folded, log_of_run, read_files, recovered_point, recovery, ok_unless, with_files}
+use Rattle.pc_recover.specs.Recovery.{decoded_files, files_to, try_folded, log_of_run, read_after_crash, read_files, recovered_point, recovery, ok_unless, with_files}
 
 -- a refusal here is one of the rules
 abbrev pub IsOfRules : {X : Type 0} → Result X Refusal → Type 0
@@ -121,9 +121,9 @@ rules_log bytes = rules_then _ _ (rules_then _ _ (rules_magic (log_magic First) 
 pub rules_log_of : (run : ℕ) (bytes : List ℕ) → IsOfRules (log_of_run run bytes)
 rules_log_of run bytes = by (ltb (length bytes) 20)
   where
-    by : (t : Bool) → IsOfRules {X = log_text.LogRead} (cond t (Ok (record { run = run; entries = []; rest = length bytes; fault = None })) (log_text.log_at bytes >>= λ log. where_true (eqb log.run run) why.OtherRun log))
+    by : (t : Bool) → IsOfRules {X = log_text.LogRead} (cond t (Ok (record { run = run; entries = []; rest = length bytes; fault = None })) (log_text.log_at bytes >>= λ log. where_true (eqb log.run run) why.OtherRun (read_after_crash bytes log)))
     by true = tt
-    by false = rules_then _ _ (rules_log bytes) (λ log. rules_where (eqb log.run run) why.OtherRun log tt)
+    by false = rules_then _ _ (rules_log bytes) (λ log. rules_where (eqb log.run run) why.OtherRun (read_after_crash bytes log) tt)
 
 pub rules_recovery : (base : List ℕ) (parts : List (List ℕ)) (log : List ℕ) → IsOfRules (recovery base parts log)
 unfolding recovery

@@ -34,7 +34,7 @@ pub record IsBaseMade {R T : Type 0} (remaining : R → Option (List ℕ)) (cont
   pub opened : AreAllOpened folder
   pub start : made.point ≡ 0
   pub worth : (base : List ℕ) (names parts : List (List ℕ)) (log : List ℕ) → HoldsAll remaining folder base names parts log →
-      (run : ℕ) × (found : Recovery) × AreBytesWorth base parts log run found × (made ≡ next_base run found) × (refuses accepts_damage (lacks_of (is_ok folder.log) log found) ≡ false) × TellsDamage contents old new names found
+      (run : ℕ) × (found : Recovery) × AreBytesWorth base parts log run found × (made ≡ next_base run found) × (refuses accepts_damage (lacks_of (is_ok folder.log) parts log found) ≡ false) × TellsDamage contents old new names found
 
 -- the next run's number, or the count of the pairs, is more than a base may have
 abbrev pub HasNoNext : ℕ → Recovery → Type 0
@@ -51,7 +51,7 @@ pub record IsRefusedAsDamaged {R T : Type 0} (remaining : R → Option (List ℕ
   pub opened : AreAllOpened folder
   pub unaccepted : accepts_damage ≡ false
   pub worth : (base : List ℕ) (names parts : List (List ℕ)) (log : List ℕ) → HoldsAll remaining folder base names parts log →
-      (run : ℕ) × (found : Recovery) × AreBytesWorth base parts log run found × ¬ HasNoNext run found × (is_damaged (lacks_of (is_ok folder.log) log found) ≡ true) × TellsDamage contents old new names found
+      (run : ℕ) × (found : Recovery) × AreBytesWorth base parts log run found × ¬ HasNoNext run found × (is_damaged (lacks_of (is_ok folder.log) parts log found) ≡ true) × TellsDamage contents old new names found
 
 -- Why no base is made of a folder: nothing is recovered, or there is no base of it, and nothing was reported; or it is damaged.
 abbrev pub IsBaseUnmade : {R T : Type 0} → (R → Option (List ℕ)) → (T → Option (List ℕ)) → Folder R → Bool → Tally T → Tally T → Lost R → Type 0

@@ -130,7 +130,7 @@ PrintsAll remaining contents printed folder old new = (base : List ℕ) (names p
 -- these are the gaps of a recovery of the folder; said if the files' bytes are known
 abbrev pub IsLacking : {R : Type 0} → (R → Option (List ℕ)) → Folder R → Lacks → Type 0
 IsLacking remaining folder lacks = (base : List ℕ) (names parts : List (List ℕ)) (log : List ℕ) → HoldsAll remaining folder base names parts log →
-    (found : Recovery) × (recovery base parts log ≡ Ok found) × (lacks ≡ lacks_of (is_ok folder.log) log found)
+    (found : Recovery) × (recovery base parts log ≡ Ok found) × (lacks ≡ lacks_of (is_ok folder.log) parts log found)
 
 -- a beginning of that text went out, and nothing else; said if the files' bytes are known
 abbrev pub PrintsInPart : {R T : Type 0} → (R → Option (List ℕ)) → (T → Option (List ℕ)) → (List (List ℕ) → Recovery → List ℕ) → Folder R → Tally T → Tally T → Type 0

@@ -1,16 +1,18 @@
 //! The gaps of a recovery, and whether its folder is whole or damaged.
-ghost use Rattle.std.specs.Prelude.{◌≡◌, false, length, IfOk, IsErr};
+ghost use Rattle.std.specs.Prelude.{◌≡◌, false, length, slice_get, IfOk, IsErr};
 ghost use Rattle.pc_model.specs.Log.{has_token};
 ghost use Rattle.pc_log.specs.Orders.{no_token};
 ghost use Rattle.pc_log.specs.Reading.{all_at, log_at};
 ghost use Rattle.pc_recover.specs.Recovery.{recovery_of};
 ghost use Rattle.pc_recover.specs.Replaying.{is_point_token};
-ghost use Rattle.pc_restore.specs.Lacks.{entries_read, log_header_state, is_rest_faulty, is_damaged, is_header_whole, is_whole, lacks_of, unused_of};
+ghost use Rattle.pc_restore.specs.Lacks.{entries_read, log_header_state, is_rest_faulty, is_damaged, is_header_whole, is_whole, lacks_of, lacks_parts, unused_of, are_empty, is_empty_text};
+ghost use Rattle.pc_restore.specs.Recoveries.{bytes_of};
 
+use crate::reading::PartBytes;
 use crate::reports::is_cut;
 use pc_io::Format;
 use pc_log::{LastToken, read_entry, read_header};
-use pc_recover::Recovered;
+use pc_recover::{Recovered, Skipped};
 use pc_types::{Entry, Phase, Point, Refusal};
 use std::alloc::{AllocError, Global};
 
@@ -38,6 +40,8 @@ pub struct Lacks {
     pub unused: Option<usize>,
     /// The number of parts that were skipped.
     pub skipped: usize,
+    /// Whether each of these has no bytes.
+    pub are_empty: bool,
 }
 
 impl Lacks {
@@ -49,12 +53,20 @@ impl Lacks {
         is_there(self.header) && self.fault.is_none() && self.unused.is_none() && self.skipped == 0
     }
 
-    /// Whether more is lacking than a killed process leaves out: the log isn't there or has no whole header, its rest has a fault
-    /// other than `Short`, or a part was skipped.
+    /// Whether more is lacking than a process leaves out that was killed, or whose machine has stopped: the log isn't there or has no
+    /// whole header, its rest has a fault other than `Short`, or a part was skipped that the log doesn't make up for. It does so for
+    /// parts without bytes, if it reaches back to the token of the recovered point.
     pub fn is_damaged(&self) -> bool
         ensures { result ≡ is_damaged self.now }
     {
-        !is_there(self.header) || is_bad(self.fault) || self.skipped != 0
+        !is_there(self.header) || is_bad(self.fault) || self.lacks_parts()
+    }
+
+    // Whether a part was skipped that the log doesn't make up for.
+    fn lacks_parts(&self) -> bool
+        ensures { result ≡ lacks_parts self.now }
+    {
+        self.skipped != 0 && !(self.are_empty && self.unused.is_none())
     }
 }
 
@@ -77,21 +89,41 @@ fn is_bad(fault: Option<Refusal>) -> bool
     }
 }
 
-/// The gaps of a recovery, if the log is there or not, and has these bytes. Memory is allocated for one entry of the log at a time.
+/// The gaps of a recovery, if the log is there or not, and the parts and the log have these bytes. Memory is allocated for one entry of
+/// the log at a time.
 pub(crate) fn lacks_of(
     alloc: Global,
     is_there: bool,
+    parts: &[PartBytes],
     log: &[u8],
     recovered: &Recovered,
 ) -> Result<Lacks, AllocError>
-    ensures { IfOk result (λ lacks. lacks ≡ lacks_of is_there log.now (recovery_of recovered.now)) }
+    ensures { IfOk result (λ lacks. lacks ≡ lacks_of is_there (bytes_of parts.now) log.now (recovery_of recovered.now)) }
 {
     Ok(Lacks {
         header: header_of(is_there, log),
         fault: recovered.fault,
         unused: unused_of(alloc, recovered.point, recovered.entries, log)?,
         skipped: recovered.skipped.len(),
+        are_empty: are_empty(parts, &recovered.skipped),
     })
+}
+
+// Whether each of the parts that were skipped has no bytes.
+fn are_empty(parts: &[PartBytes], skipped: &[Skipped]) -> bool
+    ensures { result ≡ are_empty (bytes_of parts.now) skipped.now }
+{
+    skipped.iter().all(|one| is_empty_at(parts, one.place))
+}
+
+// Whether the part of this place has no bytes.
+fn is_empty_at(parts: &[PartBytes], place: usize) -> bool
+    ensures { result ≡ is_empty_text (slice_get (bytes_of parts.now) place) }
+{
+    match parts.get(place) {
+        Some(part) => part.bytes.is_empty(),
+        None => false,
+    }
 }
 
 #[tactic(auto, unfolding(pc_log::specs::Reading::log_at))]

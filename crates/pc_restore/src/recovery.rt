@@ -165,7 +165,7 @@ pub(crate) fn recover_read<R: Read + Drop>(
 ) -> Result<Worth, Lost<R>>
     ensures worth { (base : List ℕ) (names parts : List (List ℕ)) (log : List ℕ) → HoldsAll R.remaining folder base names parts log → IfOk result (λ worth.
         (names_of worth.parts.items ≡ names) × (recovery base parts log ≡ Ok (recovery_of worth.recovered)) × IsOfRun base worth.recovered.run
-        × (worth.lacks ≡ lacks_of (is_ok folder.log) log (recovery_of worth.recovered))) }
+        × (worth.lacks ≡ lacks_of (is_ok folder.log) parts log (recovery_of worth.recovered))) }
     ensures rise { IfOk result (λ worth. KeysRise worth.recovered.pairs.items) }
     ensures opened { OnOk result (AreAllOpened folder) }
     ensures cause { IfErr result (λ lost. IsLost R.remaining folder lost × (lost ≢ Lost.Output)) }
@@ -175,7 +175,7 @@ pub(crate) fn recover_read<R: Read + Drop>(
         Ok(recovered) => recovered,
         Err(why) => return Err(Lost::Folder(why)),
     };
-    let lacks = match lacks_of(alloc, files.is_logged, &files.log, &recovered) {
+    let lacks = match lacks_of(alloc, files.is_logged, &files.parts, &files.log, &recovered) {
         Ok(lacks) => lacks,
         Err(_) => return Err(Lost::Folder(Refusal::OutOfMemory)),
     };

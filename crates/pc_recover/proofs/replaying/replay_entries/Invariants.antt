@@ -9,6 +9,7 @@ use Rattle.pc_recover.proofs.replaying.replay_entries.Given as goal
 abbrev pub invariant-loop-rest : goal.invariant-loop-rest
 invariant-loop-rest l = record {
   replay : to_come l.is_behind l.fn.point l.database l.entries (all_at l.format l.last l.rest) ≡ found_replay l.fn.point l.fn.database (all_at l.format no_token l.bytes);
+  left : (all_at l.format l.last l.rest).rest ≡ (all_at l.format no_token l.bytes).rest;
   counted : l.entries + length l.rest ≤ length l.bytes;
 }
 

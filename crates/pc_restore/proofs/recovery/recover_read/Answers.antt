@@ -1,6 +1,7 @@
-use Rattle.std.proofs.Common.{inl, inr, subst, ◌∙◌}
+use Rattle.std.proofs.Common.{ap, inl, inr, subst, ◌∙◌}
 use Rattle.std.proofs.lemmas.Result.{err_from_is_err_and}
 use Rattle.pc_recover.specs.Recovery.{IsOfRun, recovery_of}
+use Rattle.pc_restore.specs.Recoveries.{bytes_of}
 use Rattle.pc_restore.proofs.FolderRecovery.{memory_or, same_lacks, same_recovery, unread_is_lost}
 use Rattle.pc_restore.proofs.RuleRefusals.{rules_refuse}
 use Rattle.pc_restore.proofs.recovery.recover_read.Goals as goal
@@ -33,5 +34,5 @@ returns-clause-worth g c base names parts log holds =
       held.1,
       same_recovery _ _ _ _ _ _ _ held.0 held.2 held.3 c.in-Ok.ensures.rules,
       subst (λ bytes. IsOfRun bytes c.in-Ok.recovered.run) held.0 c.in-Ok.ensures.run,
-      same_lacks _ _ _ _ (recovery_of c.in-Ok.recovered) _ c.in_ok-files.ensures.logged (c.deref.ensures.value ∙ held.3) c.in-Ok-lacks_of.ensures,
+      same_lacks _ _ _ _ _ _ (recovery_of c.in-Ok.recovered) _ c.in_ok-files.ensures.logged (ap bytes_of c.deref.ensures.value ∙ held.2) (c.deref-2.ensures.value ∙ held.3) c.in-Ok-lacks_of.ensures,
     )
