@@ -1,10 +1,9 @@
 //! The pairs recovered from a folder's files, a line for each.
 ghost use Rattle.std.specs.Prelude.{◌≡◌, if◌then◌else◌};
 
-use pc_disk::{
-    Causes, FoundFolder, ReadFolder, RecoveredFolder, open_folder, output_before, tell_unopened,
-};
+use pc_disk::{Causes, FoundFolder, ReadFolder, open_folder, output_before, tell_unopened};
 use pc_explanations::{About, Explainer, explain_output};
+use pc_folders::RecoveredFolder;
 use pc_io::Tally;
 use pc_lines::text_of;
 use pc_options::DumpOptions;
@@ -31,24 +30,28 @@ pub fn dump_folder<'a>(rt: &'a HostRuntime, options: &DumpOptions<'a>) -> io::Re
         causes: &causes,
     };
     let found = RecoveredFolder::find(named)?;
-    dump_in(rt, &causes, options, &found)
+    dump_in(named, options, &found)
 }
 
 // Prints the pairs of the folder that was found; the status.
 fn dump_in<'a>(
-    rt: &'a HostRuntime,
-    causes: &'a Causes,
+    named: ReadFolder<'a>,
     options: &DumpOptions<'_>,
     found: &'a RecoveredFolder,
 ) -> io::Result<u8> {
     let path = found.path.as_str();
-    let explainer = Explainer::new(rt, causes, About::Folder(path), options.is_explained);
-    let stderr = rt.stderr();
+    let about = About::Folder(path);
+    let explainer = Explainer::new(named.rt, named.causes, about, options.is_explained);
+    let stderr = named.rt.stderr();
     let mut errors = explainer.errors(io::writer(&stderr));
-    let status = match text_of(rt.alloc(), options.prefix.unwrap_or("-").as_bytes())? {
+    let prefix = options.prefix.unwrap_or("-").as_bytes();
+    let status = match text_of(named.rt.alloc(), prefix)? {
         Some(prefix) => {
-            let _ = found.tell(&mut errors);
-            dump(&explainer, path, options, &prefix, &mut errors)?
+            if found.tell(named, options.accepts_damage, &mut errors)? {
+                dump(&explainer, path, options, &prefix, &mut errors)?
+            } else {
+                FAILED
+            }
         }
         None => {
             let _ = report_words(b"--prefix", b"no word of bytes", &mut errors);

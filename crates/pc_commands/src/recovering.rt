@@ -1,13 +1,15 @@
 //! Prints the state recovered from a folder's files, or from those of the generation that counts.
-use pc_disk::{
-    Causes, FoundFolder, ReadFolder, RecoveredFolder, open_folder, output_before, tell_unopened,
-};
+use pc_disk::{Causes, FoundFolder, ReadFolder, open_folder, output_before, tell_unopened};
 use pc_explanations::{About, Explainer, Lacking, explain_output};
+use pc_folders::RecoveredFolder;
 use pc_io::Tally;
 use pc_options::RecoverOptions;
 use pc_restore::{EndedRecovery, RecoveryMode, run_recover};
 use std::io;
 use std::io::Write;
+
+/// The status of a recovery of a folder that isn't recovered.
+const FAILED: u8 = 1;
 
 /// Prints the state of the folder as the options say; the status.
 pub fn recover_folder<'a>(rt: &'a HostRuntime, options: &RecoverOptions<'a>) -> io::Result<u8> {
@@ -18,22 +20,25 @@ pub fn recover_folder<'a>(rt: &'a HostRuntime, options: &RecoverOptions<'a>) -> 
         causes: &causes,
     };
     let found = RecoveredFolder::find(named)?;
-    recover_in(rt, &causes, options, &found)
+    recover_in(named, options, &found)
 }
 
 // Prints the state of the folder that was found; the status.
 fn recover_in<'a>(
-    rt: &'a HostRuntime,
-    causes: &'a Causes,
+    named: ReadFolder<'a>,
     options: &RecoverOptions<'_>,
     found: &'a RecoveredFolder,
 ) -> io::Result<u8> {
     let path = found.path.as_str();
-    let explainer = Explainer::new(rt, causes, About::Folder(path), options.is_explained);
-    let stderr = rt.stderr();
+    let about = About::Folder(path);
+    let explainer = Explainer::new(named.rt, named.causes, about, options.is_explained);
+    let stderr = named.rt.stderr();
     let mut errors = explainer.errors(io::writer(&stderr));
-    let _ = found.tell(&mut errors);
-    let status = recover(&explainer, path, options, &mut errors)?;
+    let status = if found.tell(named, false, &mut errors)? {
+        recover(&explainer, path, options, &mut errors)?
+    } else {
+        FAILED
+    };
     explain_output(&explainer, &mut errors);
     Ok(status)
 }

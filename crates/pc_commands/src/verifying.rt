@@ -1,9 +1,8 @@
 //! Files that are read by their own readers, and what recovery makes of a folder of them.
 use crate::parts::open_named;
-use pc_disk::{
-    Causes, FoundFolder, ReadFolder, RecoveredFolder, open_folder, output_before, tell_unopened,
-};
+use pc_disk::{Causes, FoundFolder, ReadFolder, open_folder, output_before, tell_unopened};
 use pc_explanations::{About, Explainer, explain_output};
+use pc_folders::RecoveredFolder;
 use pc_io::Tally;
 use pc_options::VerifyOptions;
 use pc_restore::{Folder, Lost, RecoveryMode, run_recover};
@@ -117,7 +116,9 @@ fn verify_store<W: Write, E: Write>(
     errors: &mut Tally<E>,
 ) -> Result<bool, Refusal> {
     let found = RecoveredFolder::find(named)?;
-    let _ = found.tell(errors);
+    if !found.tell(named, false, errors)? {
+        return Ok(false);
+    }
     verify_folder(named.rt, named.causes, found.path.as_str(), out, errors)
 }
 

@@ -11,7 +11,7 @@ pub fn meaning_of(word: &[u8]) -> Option<&'static [u8]> {
     None
 }
 
-const MEANINGS: [(&[u8], &[u8]); 24] = [
+const MEANINGS: [(&[u8], &[u8]); 26] = [
     (b"Short", b"the bytes end within a field"),
     (
         b"BadMagic",
@@ -49,6 +49,14 @@ const MEANINGS: [(&[u8], &[u8]); 24] = [
         b"it has files of a run, whose names are base.pcb, log.pcl or end in .pcp",
     ),
     (b"Busy", b"another process serves it"),
+    (
+        b"Moved",
+        b"it was renamed or replaced while it was served, or its file `lock` was: what was answered is in what it was",
+    ),
+    (
+        b"Mixed",
+        b"it has the files of a run beside the generations of a served store, which has other pairs",
+    ),
     (
         b"NoStore",
         b"it has no generation that counts: --create begins one",

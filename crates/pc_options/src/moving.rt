@@ -71,18 +71,23 @@ pub struct LoadOptions<'a> {
     pub run: u32,
     /// Whether the lines are JSON.
     pub is_json: bool,
+    /// Whether a served store of the folder may have pairs, which stay beside those of other keys.
+    pub merges: bool,
     /// Whether faults are explained even if standard error is no terminal.
     pub is_explained: bool,
 }
 
 /// The arguments and options of `pcalc load` in a command line.
 pub(crate) fn load_command<'a>(alloc: Global) -> Result<Command<'a>, Error> {
-    let about = "Makes the files of a run from lines of pairs, as dump prints them";
+    let about =
+        "Makes the files of a run, or a served store's next generation, from lines of pairs, as dump prints them";
+    let merge = "Keeps the pairs of other keys that a served store has";
     let said = [
         Said::word("DIR", "The folder, which has no files of a run"),
         Said::word("FILE", "The file of the lines").or("/dev/stdin"),
         run_option(),
         json_option(),
+        Said::flag("merge", merge),
         explain_option(),
     ];
     command_of(alloc, "load", about, &said)
@@ -95,6 +100,7 @@ pub(crate) fn load_options_of<'a>(matches: &ArgMatches<'a>) -> Option<LoadOption
         file: matches.get_str("FILE")?,
         run: matches.get_one::<u32>("run")?,
         is_json: matches.get_flag("json"),
+        merges: matches.get_flag("merge"),
         is_explained: matches.get_flag("explain"),
     })
 }

@@ -116,7 +116,7 @@ pub struct ServeOptions<'a> {
     pub roll: u32,
     /// The number of generations before the current one that are kept, 1 to 9,999,999.
     pub keep: u32,
-    /// The number of log entries that may be answered and not written, at most 16,777,216.
+    /// The number of log entries that may be answered before a flush, at most 16,777,216.
     pub lag: u32,
     /// Whether the log must be on its disk before answers go out.
     pub is_synced: bool,
@@ -355,7 +355,7 @@ pub(crate) fn recovered_folder() -> Said {
 }
 
 fn serve_command<'a>(alloc: Global) -> Result<Command<'a>, Error> {
-    let lag = "How many entries of the log may be answered and not written, 0 to 16777216";
+    let lag = "How many entries of the log may be answered before a flush, 0 to 16777216";
     let damaged =
         "Continues even if the log of what it starts from is missing or damaged, or a part of it was skipped";
     let [create, run, import] = making_options();

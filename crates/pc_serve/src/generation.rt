@@ -69,6 +69,7 @@ fn serve_generation<R: Read + Drop, W: Write + Drop>(
     let log = log_of(store, folder.as_str(), generation.number)?;
     let points = DiskPoints {
         dir: store.dir,
+        lock: store.lock(),
         folder: folder.as_str(),
         is_synced: store.options.is_synced,
     };
@@ -120,6 +121,9 @@ fn next_generation<W: Write + Drop>(
         Err(why) => return Err(Failure::Refused(why)),
     };
     drop(world);
+    if !store.lock().is_held() {
+        return Err(Failure::Refused(Refusal::Device));
+    }
     match open(store, Some(number), base) {
         Ok(
             OpenedStore {

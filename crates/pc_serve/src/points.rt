@@ -1,5 +1,6 @@
 //! The files of points of a store that is served, on the disk.
 use pc_disk::{Noted, ReadFolder, Target, path_in};
+use pc_folders::FolderLock;
 use pc_io::Tally;
 use pc_part::Part;
 use pc_server::PointFiles;
@@ -15,6 +16,8 @@ const ROOM: usize = 65_536;
 #[derive(Drop)]
 pub struct DiskPoints<'a> {
     pub dir: ReadFolder<'a>,
+    /// By which the folder of the store is this process's own.
+    pub lock: &'a FolderLock<'a>,
     /// The folder's path.
     pub folder: &'a str,
     /// Whether to sync a file to the disk before it gets its name.
@@ -22,8 +25,11 @@ pub struct DiskPoints<'a> {
 }
 
 impl<'a> DiskPoints<'a> {
-    // Writes the file of this point under its name.
+    // Writes the file of this point under its name, if the folder is still this process's own.
     fn write(&self, point: Point, file: &Part) -> Result<(), Refusal> {
+        if !self.lock.is_held() {
+            return Err(Refusal::Device);
+        }
         let alloc = self.dir.rt.alloc();
         let bytes = part_name(point);
         // A name of letters and digits is UTF-8.

@@ -3,16 +3,16 @@ ghost use Rattle.std.specs.Prelude.{◌≡◌, ◌≤◌, [], IfOk};
 ghost use Rattle.pc_engine.specs.Stands.{Stands};
 
 use crate::generation::{Failure, Generation, serve_generations};
-use crate::owner::{Unowned, own};
 use crate::terminal::Typed;
 use itoa::Buffer;
 use pc_bases::Base;
 use pc_disk::{
     Causes, FoundFolder, GenerationFolders, INPUT, LOG, LateFile, Noted, ReadFolder,
-    RecoveredFolder, generation_path, open_folder, output_before, path_in, tell_unopened,
+    generation_path, open_folder, output_before, path_in, tell_unopened,
 };
 use pc_engine::World;
 use pc_explanations::{About, Explainer, explain_output};
+use pc_folders::{Doubt, FolderLock, HeldOutput, Leave, Owned, RecoveredFolder, Unowned, own};
 use pc_io::Tally;
 use pc_opening::{OpenedStore, StoreSize, Succession, open_store};
 use pc_options::ServeOptions;
@@ -44,16 +44,18 @@ pub fn serve_folder<'a>(rt: &'a HostRuntime, options: &'a ServeOptions<'a>) -> i
         path: options.dir,
         causes: &causes,
     };
-    let owned = match own(dir, options.creates, options.import.is_some()) {
-        Ok(owned) => owned,
-        Err(why) => {
-            tell_unowned(dir, options, why);
-            return Ok(FAILED);
-        }
+    let leave = Leave {
+        creates: options.creates,
+        imports: options.import.is_some(),
+        accepts_damage: options.accepts_damage,
     };
-    let status = serve_owned(dir, options, drawn, owned.latest);
-    drop(owned);
-    status
+    match own(dir, leave) {
+        Ok(owned) => serve_owned(dir, options, drawn, &owned),
+        Err(why) => {
+            tell_unowned(dir, options, why)?;
+            Ok(FAILED)
+        }
+    }
 }
 
 // The random numbers, drawn before anything is opened.
@@ -88,11 +90,15 @@ fn run_of(drawn: u64) -> u32
 }
 
 // Reports why the folder isn't this process's own.
-fn tell_unowned(dir: ReadFolder<'_>, options: &ServeOptions<'_>, why: Unowned) {
+fn tell_unowned(
+    dir: ReadFolder<'_>,
+    options: &ServeOptions<'_>,
+    why: Unowned,
+) -> Result<(), AllocError> {
     let explainer = Explainer::new(dir.rt, dir.causes, About::Run, options.is_explained);
     let stderr = dir.rt.stderr();
     let mut errors = explainer.errors(io::writer(&stderr));
-    let _ = report_words(options.dir.as_bytes(), why.word(), &mut errors);
+    why.tell(dir, &mut errors)
 }
 
 /// A store to serve.
@@ -101,20 +107,34 @@ pub struct Store<'a> {
     pub dir: ReadFolder<'a>,
     pub options: &'a ServeOptions<'a>,
     drawn: Drawn,
-    latest: Option<u32>,
+    owned: &'a Owned<'a>,
     // The folder from whose state it starts; its path is empty if there is none.
     from: &'a RecoveredFolder,
 }
 
-// Serves the store of a folder that is this process's own, and of which this generation counts; the status.
+impl<'a> Store<'a> {
+    /// By which the folder is this process's own.
+    pub fn lock(&self) -> &'a FolderLock<'a> {
+        let owned = self.owned;
+        &owned.lock
+    }
+}
+
+// Serves the store of a folder that is this process's own; the status.
 fn serve_owned<'a>(
     dir: ReadFolder<'a>,
     options: &'a ServeOptions<'a>,
     drawn: Drawn,
-    latest: Option<u32>,
+    owned: &'a Owned<'a>,
 ) -> io::Result<u8> {
-    let from = start_of(dir, options, latest)?;
-    serve_told(store_of(dir, options, drawn, latest, &from))
+    let from = start_of(dir, options, owned.found.latest)?;
+    serve_told(Store {
+        dir,
+        options,
+        drawn,
+        owned,
+        from: &from,
+    })
 }
 
 // Serves the store, and reports its faults; the status.
@@ -127,10 +147,30 @@ fn serve_told<'a>(store: Store<'a>) -> io::Result<u8> {
     );
     let stderr = store.dir.rt.stderr();
     let mut errors = explainer.errors(io::writer(&stderr));
-    let _ = store.from.tell(&mut errors);
-    let status = serve_from(&store, &mut errors)?;
+    let status = if is_told(&store, &mut errors)? {
+        serve_from(&store, &mut errors)?
+    } else {
+        FAILED
+    };
     explain_output(&explainer, &mut errors);
     Ok(status)
+}
+
+// Reports what is lacking of the folder, and of the one that is imported, if one is; whether the store can start from it.
+fn is_told<E: Write>(store: &Store<'_>, errors: &mut Tally<E>) -> Result<bool, AllocError> {
+    let accepts = store.options.accepts_damage;
+    if let Some(number) = store.owned.found.lost {
+        Doubt::Lost(number).tell(store.dir, accepts, errors)?;
+    }
+    let Some(old) = store.options.import else {
+        return Ok(true);
+    };
+    let imported = ReadFolder {
+        rt: store.dir.rt,
+        path: old,
+        causes: store.dir.causes,
+    };
+    store.from.tell(imported, accepts, errors)
 }
 
 // The folder from whose state the store starts: that of the generation that counts, or else the one that is imported; without a path
@@ -151,10 +191,7 @@ fn start_of(
         }
         (None, None) => String::new(dir.rt.alloc()),
     };
-    Ok(RecoveredFolder {
-        path,
-        generation: None,
-    })
+    Ok(RecoveredFolder::of_path(path))
 }
 
 // The subject of its faults.
@@ -166,30 +203,14 @@ fn about<'a>(options: &ServeOptions<'_>, from: &'a str) -> About<'a> {
     }
 }
 
-fn store_of<'a>(
-    dir: ReadFolder<'a>,
-    options: &'a ServeOptions<'a>,
-    drawn: Drawn,
-    latest: Option<u32>,
-    from: &'a RecoveredFolder,
-) -> Store<'a> {
-    Store {
-        dir,
-        options,
-        drawn,
-        latest,
-        from,
-    }
-}
-
 // Serves the store on standard input and output; the status.
 fn serve_from<E: Write>(store: &Store<'_>, errors: &mut Tally<E>) -> io::Result<u8> {
     let (rt, causes) = (store.dir.rt, store.dir.causes);
     let name = String::from_str(rt.alloc(), INPUT)?;
     let stdin = Typed::new(Noted::new(rt.stdin(), name, causes), rt);
     let mut input = BufReader::with_capacity(rt.alloc(), ROOM, stdin)?;
-    let out = Tally::new(output_before(rt, causes, io::writer(rt))?);
-    serve_lines(store, &mut input, out, errors)
+    let out = HeldOutput::new(output_before(rt, causes, io::writer(rt))?, store.lock());
+    serve_lines(store, &mut input, Tally::new(out), errors)
 }
 
 // Opens the store, and serves it to the lines of this input; the status.
@@ -206,7 +227,7 @@ fn serve_lines<R: Read + Drop, W: Write + Drop, E: Write>(
             return Ok(FAILED);
         }
     };
-    match open(store, store.latest, base) {
+    match open(store, store.owned.found.last(), base) {
         Ok(opened) => serve_opened(store, opened, input, out, errors),
         Err(why) => {
             let _ = report(store.dir.path.as_bytes(), why, errors);
@@ -240,7 +261,7 @@ fn base_of<'a, E: Write>(
     recover_base(alloc, folder, store.options.accepts_damage, errors)
 }
 
-/// Opens a store over its base, and begins the generation after the one that counts.
+/// Opens a store over its base, and begins the generation after this one.
 pub fn open(store: &Store<'_>, latest: Option<u32>, base: Base) -> Result<OpenedStore, Refusal>
     requires { base.point ≡ 0 }
     ensures { IfOk result (λ opened. Stands opened.world []) }
@@ -282,7 +303,7 @@ fn serve_opened<R: Read + Drop, W: Write + Drop, E: Write>(
         ..
     } = opened;
     if put_ready(&world, &mut out).is_err() {
-        return Ok(FAILED);
+        return tell_failure(store, Failure::Answers, errors);
     }
     let first = Generation {
         world,
@@ -315,6 +336,10 @@ fn tell_failure<E: Write>(
     errors: &mut Tally<E>,
 ) -> io::Result<u8> {
     let dir = store.dir.path.as_bytes();
+    if store.lock().has_moved() {
+        let _ = report_words(dir, b"Moved", errors);
+        return Ok(FAILED);
+    }
     let _ = match failure {
         Failure::Input => report(INPUT.as_bytes(), Refusal::Device, errors),
         Failure::Refused(why) => report(dir, why, errors),

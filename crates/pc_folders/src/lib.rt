@@ -1,0 +1,15 @@
+//! The folders that commands name: which one is recovered, who owns the folder of a served store, how its store gets pairs, and how
+//! files of a run begin.
+#![tactic(auto)]
+
+mod filling;
+mod heads;
+mod lock;
+mod owner;
+mod recovered;
+
+pub use filling::{Filling, fill_store};
+pub use heads::{BaseHead, LOG_HEAD, head_log};
+pub use lock::{FolderLock, HeldOutput};
+pub use owner::{Found, Leave, Owned, Unowned, own};
+pub use recovered::{Doubt, RecoveredFolder, has_store};
