@@ -1,12 +1,12 @@
-//! A folder that is made of lines of pairs.
+//! A folder that is made of lines of pairs, or whose served store gets them.
 use crate::run_folder::{Claim, NewFolder};
 use itoa::Buffer;
 use pc_bases::Base;
 use pc_commands::{form_of, open_named};
 use pc_disk::{BASE, Causes, LOG, ReadFolder};
 use pc_explanations::{About, Explainer, explain_output};
+use pc_folders::{Filling, fill_store, has_store};
 use pc_io::Tally;
-use pc_log::encode_header;
 use pc_options::LoadOptions;
 use pc_pairs::{Fault, Unloaded, load_base};
 use pc_runs::{NewFiles, RunFolder, Unusable};
@@ -21,7 +21,8 @@ const FAILED: u8 = 1;
 /// The status of one with a line at fault.
 const BAD_LINE: u8 = 3;
 
-/// Makes the files of a run that has the pairs of the lines, as the options say; the status.
+/// Makes the files of a run that has the pairs of the lines, or begins a served store's next generation with them, as the options
+/// say; the status.
 pub fn load_folder(rt: &HostRuntime, options: &LoadOptions<'_>) -> io::Result<u8> {
     let causes = Causes::new(rt.alloc())?;
     let explainer = Explainer::new(
@@ -48,27 +49,24 @@ fn load<E: Write>(
     let opened = open_named(rt, causes, options.file);
     let text = match read_opened(alloc, opened) {
         Ok(text) => text,
-        Err(why) => {
-            let _ = report(options.file.as_bytes(), why.refusal(), errors);
-            return Ok(FAILED);
-        }
+        Err(why) => return Ok(failed(options.file, why.refusal(), errors)),
     };
     let form = form_of(options.is_json);
     match load_base(alloc, u64::from(options.run), form, &text) {
-        Ok(Some(base)) => make(explainer, options, &base, errors),
-        Ok(None) => {
-            let _ = report(options.dir.as_bytes(), Refusal::Full, errors);
-            Ok(FAILED)
-        }
-        Err(Unloaded::NoMemory) => {
-            let _ = report(options.file.as_bytes(), Refusal::OutOfMemory, errors);
-            Ok(FAILED)
-        }
+        Ok(Some(base)) => keep(explainer, options, base, errors),
+        Ok(None) => Ok(failed(options.dir, Refusal::Full, errors)),
+        Err(Unloaded::NoMemory) => Ok(failed(options.file, Refusal::OutOfMemory, errors)),
         Err(Unloaded::Line(number, fault)) => {
             let _ = tell_line(number, fault, errors);
             Ok(BAD_LINE)
         }
     }
+}
+
+// Reports why the file of this name can't be read or made; the status.
+fn failed<E: Write>(name: &str, why: Refusal, errors: &mut Tally<E>) -> u8 {
+    let _ = report(name.as_bytes(), why, errors);
+    FAILED
 }
 
 // Reports the line that is at fault, and why.
@@ -78,10 +76,11 @@ fn tell_line<E: Write>(number: u64, fault: Fault, errors: &mut Tally<E>) -> Resu
     errors.put_all(&[b"bad line ", line, b" ", fault.name(), b"\n"])
 }
 
-fn make<E: Write>(
+// Keeps the pairs in the folder: as the next generation of a served store, if it is the folder of one, or else as the files of a run.
+fn keep<E: Write>(
     explainer: &Explainer<'_>,
     options: &LoadOptions<'_>,
-    base: &Base,
+    base: Base,
     errors: &mut Tally<E>,
 ) -> io::Result<u8> {
     let dir = ReadFolder {
@@ -89,17 +88,21 @@ fn make<E: Write>(
         path: options.dir,
         causes: explainer.causes,
     };
+    if has_store(dir) {
+        let merges = options.merges;
+        return fill_store(Filling { dir, merges }, base, errors);
+    }
     let claim = Claim::new(dir, true)?;
-    let status = make_in(&claim, base, errors)?;
+    let made = make_in(&claim, &base, errors);
     claim.end();
-    Ok(status)
+    made
 }
 
 // Makes the files in the folder that was claimed.
 fn make_in<E: Write>(claim: &Claim<'_>, base: &Base, errors: &mut Tally<E>) -> io::Result<u8> {
     let RunFolder { name, files } = claim.folder()?;
     let made = match files {
-        Ok(mut folder) => make_files(&mut folder, base),
+        Ok(mut folder) => make_files(claim, &mut folder, base),
         Err(Unusable::NotEmpty) => {
             let _ = report_words(&name, b"NotEmpty", errors);
             return Ok(FAILED);
@@ -111,21 +114,22 @@ fn make_in<E: Write>(claim: &Claim<'_>, base: &Base, errors: &mut Tally<E>) -> i
     };
     match made {
         Ok(()) => Ok(0),
-        Err((file, why)) => {
-            let _ = report(file.as_bytes(), why, errors);
-            Ok(FAILED)
-        }
+        Err((file, why)) => Ok(failed(file, why, errors)),
     }
 }
 
-// Makes the base first, then the log, which has no entry; gives the file that can't be made, and why.
-fn make_files(folder: &mut NewFolder<'_>, base: &Base) -> Result<(), (&'static str, Refusal)> {
-    if let Err(why) = make_base(folder, base) {
-        return Err((BASE, why));
+// Makes the log first, which has no entry, then the base; gives the file that can't be made, and why.
+fn make_files(
+    claim: &Claim<'_>,
+    folder: &mut NewFolder<'_>,
+    base: &Base,
+) -> Result<(), (&'static str, Refusal)> {
+    if let Err(why) = claim.head_log(base.run()) {
+        return Err((LOG, why));
     }
-    match make_log(folder, base.run()) {
+    match make_base(folder, base) {
         Ok(()) => Ok(()),
-        Err(why) => Err((LOG, why)),
+        Err(why) => Err((BASE, why)),
     }
 }
 
@@ -134,11 +138,4 @@ fn make_base(folder: &mut NewFolder<'_>, base: &Base) -> Result<(), Refusal> {
     let put = base.encode(&mut file);
     end_output(put, &mut file)?;
     folder.finish(&FileName::Base, file.into_inner())
-}
-
-fn make_log(folder: &mut NewFolder<'_>, run: u64) -> Result<(), Refusal> {
-    let mut file = Tally::new(folder.make(&FileName::Log)?);
-    let put = encode_header(&mut file, run);
-    end_output(put, &mut file)?;
-    folder.finish(&FileName::Log, file.into_inner())
 }

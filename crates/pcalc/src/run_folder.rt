@@ -1,8 +1,9 @@
 //! The folder in which a run makes its files: it is claimed before anything else is done, and no other process can claim it.
 use pc_disk::{
-    BASE, Causes, Doing, LOG, Noted, ReadFolder, Target, is_run_file, names_in, path_in,
-    sync_folder,
+    BASE, Causes, Doing, LOG, Noted, ReadFolder, Target, is_run_file, is_store_file, names_in,
+    path_in, sync_folder,
 };
+use pc_folders::{BaseHead, LOG_HEAD, head_log};
 use pc_runs::{NewFiles, RunFolder, Unusable};
 use pc_texts::{FileName, part_name};
 use pc_types::Refusal;
@@ -22,10 +23,26 @@ pub struct Claim<'a> {
     dir: ReadFolder<'a>,
     // Whether what is written to the folder's files, and the names that they get, is to reach its device.
     is_synced: bool,
-    // The log's file, which this run has made, or why it has not.
-    log: Result<File, Unmade>,
+    // The log, which this run has made, or why it has not.
+    log: Result<ClaimedLog, Unmade>,
+    // Whether the log has its header, which comes before the base's name: a folder with a base and a log without one is damaged.
+    is_headed: AtomicBool,
     // Whether the base is in the folder: from then on there is something to recover.
     has_begun: AtomicBool,
+}
+
+// The log's file, and its path.
+#[derive(Drop)]
+struct ClaimedLog {
+    file: File,
+    path: String,
+}
+
+impl ClaimedLog {
+    // The folder has no log any more.
+    fn remove(&self, rt: &HostRuntime) {
+        let _ = fs::remove_file(rt, self.path.as_str());
+    }
 }
 
 // Why a run has not made the log.
@@ -42,12 +59,12 @@ impl<'a> Claim<'a> {
     /// allocation failed.
     pub fn new(dir: ReadFolder<'a>, is_synced: bool) -> Result<Claim<'a>, AllocError> {
         let log = claim_folder(dir)?;
-        let has_begun = AtomicBool::new(false);
         Ok(Claim {
             dir,
             is_synced,
             log,
-            has_begun,
+            is_headed: AtomicBool::new(false),
+            has_begun: AtomicBool::new(false),
         })
     }
 
@@ -66,14 +83,36 @@ impl<'a> Claim<'a> {
 
     /// The run has ended. If it ended before its base was in the folder, the folder is left as it was.
     pub fn end(self) {
-        if self.log.is_ok() && !self.has_begun.load(Ordering::SeqCst) {
-            remove_log(self.dir);
+        if self.has_begun.load(Ordering::SeqCst) {
+            return;
         }
+        if let Ok(log) = &self.log {
+            log.remove(self.dir.rt);
+        }
+    }
+
+    /// The log gets the header of the run of this number, unless it has one. If the folder is synced, it reaches the device.
+    pub fn head_log(&self, run: u64) -> Result<(), Refusal> {
+        let log = match &self.log {
+            Ok(log) => log,
+            Err(Unmade::Failed(why)) => return Err(*why),
+            Err(Unmade::Unusable(_)) => return Err(Refusal::Device),
+        };
+        if self.is_headed.swap(true, Ordering::SeqCst) {
+            return Ok(());
+        }
+        let alloc = self.dir.rt.alloc();
+        let path = String::from_str(alloc, log.path.as_str())?;
+        let Ok(file) = log.file.try_clone() else {
+            return Err(Refusal::Device);
+        };
+        let mut file = Noted::new(file, path, self.dir.causes);
+        head_log(alloc, &mut file, run, self.is_synced)
     }
 }
 
 // Makes the log and locks it, if the folder has no file of a run.
-fn claim_folder(dir: ReadFolder<'_>) -> Result<Result<File, Unmade>, AllocError> {
+fn claim_folder(dir: ReadFolder<'_>) -> Result<Result<ClaimedLog, Unmade>, AllocError> {
     if let Err(why) = look(dir, false) {
         return Ok(Err(Unmade::Unusable(why)));
     }
@@ -90,20 +129,16 @@ fn claim_folder(dir: ReadFolder<'_>) -> Result<Result<File, Unmade>, AllocError>
     };
     // A file system may have no locks: the file's name is a hold too.
     let _ = file.try_lock();
+    let log = ClaimedLog { file, path };
     if let Err(why) = look(dir, true) {
-        remove_log(dir);
+        log.remove(dir.rt);
         return Ok(Err(Unmade::Unusable(why)));
     }
-    Ok(Ok(file))
+    Ok(Ok(log))
 }
 
-fn remove_log(dir: ReadFolder<'_>) {
-    if let Ok(path) = path_in(dir.rt.alloc(), dir.path, LOG) {
-        let _ = fs::remove_file(dir.rt, path.as_str());
-    }
-}
-
-// Whether the folder can be used: it can be listed, and has no file of a run but its log, if that is this run's own.
+// Whether the folder can be used: it can be listed, and has no file of a run but its log, if that is this run's own, and none of a
+// served store.
 fn look(dir: ReadFolder<'_>, has_log: bool) -> Result<(), Unusable> {
     let names = match names_in(dir) {
         Ok(names) => names,
@@ -111,7 +146,7 @@ fn look(dir: ReadFolder<'_>, has_log: bool) -> Result<(), Unusable> {
     };
     for name in names.split(|byte| *byte == 0) {
         let is_own = has_log && name == LOG.as_bytes();
-        if is_run_file(name) && !is_own {
+        if is_store_file(name) || is_run_file(name) && !is_own {
             return Err(Unusable::NotEmpty);
         }
     }
@@ -159,11 +194,11 @@ impl<'a> NewFolder<'a> {
     fn claimed_log(&self) -> io::Result<File> {
         let claim = self.claim;
         match &claim.log {
-            Ok(file) => {
+            Ok(log) => {
                 if claim.is_synced {
                     sync_folder(claim.dir.rt, claim.dir.path)?;
                 }
-                file.try_clone()
+                log.file.try_clone()
             }
             Err(_) => Err(io::Error::from(ErrorKind::Other)),
         }
@@ -205,15 +240,26 @@ impl<'a> NewFiles<RunFile<'a>> for NewFolder<'a> {
 
     fn make(&mut self, name: &FileName) -> Result<RunFile<'a>, Refusal> {
         let path = self.path_of(name)?;
+        let claim = self.claim;
+        let mut there = 0;
         let file = match name {
-            FileName::Log => self.make_log(path)?,
+            FileName::Log => {
+                if claim.is_headed.swap(true, Ordering::SeqCst) {
+                    there = LOG_HEAD;
+                }
+                self.make_log(path)?
+            }
             _ => self.make_apart(path)?,
         };
         // A base is written once, and all else rests on it.
-        let claim = self.claim;
         let is_synced = claim.is_synced || matches!(name, FileName::Base);
         match BufWriter::with_capacity(claim.dir.rt.alloc(), ROOM, file) {
-            Ok(kept) => Ok(RunFile { kept, is_synced }),
+            Ok(kept) => Ok(RunFile {
+                kept,
+                is_synced,
+                there,
+                head: BaseHead::new(),
+            }),
             Err(_) => Err(Refusal::OutOfMemory),
         }
     }
@@ -225,7 +271,16 @@ impl<'a> NewFiles<RunFile<'a>> for NewFolder<'a> {
         if matches!(name, FileName::Log) {
             return Ok(());
         }
-        let RunFile { kept, is_synced } = file;
+        let RunFile {
+            kept,
+            is_synced,
+            head,
+            ..
+        } = file;
+        if matches!(name, FileName::Base) {
+            let claim = self.claim;
+            claim.head_log(head.run())?;
+        }
         target.finish(kept.get_ref(), is_synced)?;
         self.made = None;
         if matches!(name, FileName::Base) {
@@ -242,11 +297,22 @@ pub struct RunFile<'a> {
     kept: BufWriter<Noted<'a, File>>,
     // Whether what was written reaches the device if it is flushed.
     is_synced: bool,
+    // How many of the bytes that are written first are in the file already: those of a log's header.
+    there: usize,
+    // Its head, if it is a base.
+    head: BaseHead,
 }
 
 impl<'a> Write for RunFile<'a> {
     fn write(&mut self, buf: &[u8]) -> io::Result<usize> {
-        self.kept.write(buf)
+        if self.there > 0 {
+            let count = self.there.min(buf.len());
+            self.there -= count;
+            return Ok(count);
+        }
+        let count = self.kept.write(buf)?;
+        self.head.note(&buf[..count]);
+        Ok(count)
     }
 
     fn flush(&mut self) -> io::Result<()> {

@@ -4,10 +4,11 @@ use crate::run_folder::Claim;
 use crate::showing::run_shown;
 use pc_commands::open_named;
 use pc_disk::{
-    Causes, FoundFolder, LateFile, Noted, ReadFolder, RecoveredFolder, Target, folder_of,
-    open_folder, output_before, tell_unopened,
+    Causes, FoundFolder, LateFile, Noted, ReadFolder, Target, folder_of, open_folder,
+    output_before, tell_unopened,
 };
 use pc_explanations::{About, Explainer, explain_output, is_explained};
+use pc_folders::RecoveredFolder;
 use pc_io::Tally;
 use pc_jobs::{WorkloadReading, read_workload};
 use pc_options::RunOptions;
@@ -97,15 +98,31 @@ fn run_told<H: Threads + Wait + Sync>(
     let stderr = rt.stderr();
     let behind = Behind::new(setting.progress, threads, io::writer(&stderr));
     let mut errors = explainer.errors(behind);
-    if let Some(from) = setting.from {
-        let _ = from.tell(&mut errors);
-    }
+    let is_told = is_from_told(setting, options, &mut errors)?;
     let status = match options.times {
+        _ if !is_told => FAILED,
         Some(path) => run_timed(setting, threads, options, path, &mut errors)?,
         None => run_shown(setting, threads, options, &mut errors)?,
     };
     explain_output(&explainer, &mut errors);
     Ok(status)
+}
+
+// Reports what is lacking of the folder from whose state it starts, if there is one; whether it can start.
+fn is_from_told<E: Write>(
+    setting: &Setting<'_>,
+    options: &RunOptions<'_>,
+    errors: &mut Tally<E>,
+) -> Result<bool, AllocError> {
+    let (Some(from), Some(path)) = (setting.from, options.from) else {
+        return Ok(true);
+    };
+    let named = ReadFolder {
+        rt: setting.rt,
+        path,
+        causes: setting.causes,
+    };
+    from.tell(named, options.accepts_damage, errors)
 }
 
 // The subject of its faults.
