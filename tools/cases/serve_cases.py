@@ -1,7 +1,7 @@
 """Stores that are served over pipes, for `try_programs.py`: what they answer, and what their folders have after a kill.
 
 A client sends transactions of one session to a served store; transaction N puts N under one of its keys and counts itself. So the state of a folder
-gives their number, and each key is compared. Each answered one must be there, except as many as `--lag` allows, and no
+gives their number, and each key is compared. Each answered one must be there, whatever the lag, and no
 more than were sent. A process is killed at random moments, at each of its calls that change files, and one whose output is closed ends; its disk gets full.
 Of two processes one owns the folder. Many sessions are answered as plain_serving.py says. Lines are also typed at a terminal.
 """
@@ -28,13 +28,10 @@ KEYS = 97
 # transactions sent to a process that is killed, and after how many answers at most it is
 ASKED, MOST_ANSWERED = 200_000, 20_000
 KILLS = 16
-LAG = 500
-# how stores are served that are killed, and how many of their last entries may be lost
-KILLED = (
-    (("S", "--create"), 0),
-    (("S", "--create", "--lag", str(LAG)), LAG),
-    (("S", "--create", "--every", "60", "--roll", "400"), 0),
-)
+# how stores are served that are killed
+KILLED = (("S", "--create"), ("S", "--create", "--lag", "500"), ("S", "--create", "--every", "60", "--roll", "400"))
+# transactions answered by a process with a longer lag, which is then ended
+LAGGING, LONGER = 500, 1_000
 # lines of a transaction
 LINES = 4
 SEED = 63
@@ -278,7 +275,7 @@ def answered_before_kill(program, room, words, numbers, answered):
     return count, process.returncode
 
 
-def killed(program, room, words, lag, chance):
+def killed(program, room, words, chance):
     """What is wrong with one folder whose processes are killed at random moments, each of which continues from the one before. The counts are printed."""
     there = answered = 0
     served(program, room, words, b"")
@@ -289,7 +286,7 @@ def killed(program, room, words, lag, chance):
         else:
             count, status = killed_at_start(program, room, words, chance)
         lines = [] if status == -signal.SIGKILL else [f"status {status}"]
-        least, most = there + max(count - lag, 0), there + (ASKED if after else 0)
+        least, most = there + count, there + (ASKED if after else 0)
         answered += count
         more, there = faults_of(program, os.path.join(room, "S"), least, most)
         yield f"serve {' '.join(words)}, killed after {count} answers, the time {number + 1}", lines + more
@@ -302,6 +299,21 @@ def killed_at_start(program, room, words, chance):
         time.sleep(chance.random() * 0.01)
         process.kill()
     return 0, process.returncode
+
+
+def lagging(program, room):
+    """A process that is ended once it has answered fewer transactions than the lag, each of which is there. The counts are printed."""
+    for number, name in ((signal.SIGKILL, "KILL"), (signal.SIGTERM, "TERM")):
+        with started(program, room, (name, "--create", "--lag", str(LONGER))) as process:
+            process.stdout.readline()
+            got = [asked(process, line + b"\n") for count in range(1, LAGGING + 1) for line in transaction(count).splitlines()]
+            process.send_signal(number)
+            status = process.wait(SECONDS)
+        answered = sum(line.startswith(b"committed ") for line in got)
+        lines = [] if (status, answered) == (-number, LAGGING) else [f"status {status}, {answered} are answered"]
+        more, there = faults_of(program, os.path.join(room, name), answered, answered)
+        print(f"serve --lag {LONGER}, {answered} transactions answered, then {name}: {there} there")
+        yield f"serve --lag {LONGER}, ended by {name}", lines + more
 
 
 def killed_calls(program, room):
@@ -555,7 +567,7 @@ def read_until(stream, end):
 def synced(program, room):
     """When files are flushed to the disk: s for each flush, and r for each rename."""
     library, notes = preload.built(room, preload.NOTE), os.path.join(room, "notes")
-    for words, turns in ((("--sync",), 50), ((), 0)):
+    for words, turns in ((("--sync",), 50), (("--sync", "--lag", "9"), 5), ((), 0)):
         written(room, "notes", b"")
         with started(program, room, (f"N{turns}", "--create", *words), env={**os.environ, "LD_PRELOAD": library, "NOTED_SYNCS": notes}) as process:
             process.stdout.readline()
@@ -573,14 +585,14 @@ def synced(program, room):
 def serves(program, folder):
     """What is wrong with each served store, by its name."""
     chance = random.Random(SEED)
-    for cases in (sessions, refusals, owners, alone, rolls, kept, first_runs, imports, crowds, long_line, unread, closed_output, closed_streams, typed, killed_calls, synced):
+    for cases in (sessions, refusals, owners, alone, rolls, kept, first_runs, imports, crowds, long_line, unread, closed_output, closed_streams, typed, lagging, killed_calls, synced):
         room = os.path.join(folder, cases.__name__)
         os.makedirs(room)
         yield from cases(program, room)
-    for place, (words, lag) in enumerate(KILLED):
+    for place, words in enumerate(KILLED):
         room = os.path.join(folder, f"killed{place}")
         os.makedirs(room)
-        yield from killed(program, room, words, lag, chance)
+        yield from killed(program, room, words, chance)
     if disk_cases.has_disks():
         room = os.path.join(folder, "full")
         os.makedirs(room)

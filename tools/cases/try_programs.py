@@ -13,6 +13,7 @@
     kill_cases.py         commands killed at each call that changes files, and runs into one folder at the same time
     disk_cases.py         commands on a disk that gets full, and how often files are flushed to the disk
     serve_cases.py        stores that are served over pipes, and killed
+    door_cases.py         loads and runs into the folder of a served store, folders that are moved while they are served, and lost bases
     tutorial_cases.py     the commands of docs/TUTORIAL.md
     client_cases.py       the client and the relay of clients/python over served stores: threads, kills, sockets
     embedding_cases.py    the library of pc_c in programs of C, C++ and Python, if there is a C compiler
@@ -46,6 +47,7 @@ from tools.cases import (
     client_cases,
     crash_cases,
     disk_cases,
+    door_cases,
     embedding_cases,
     kill_cases,
     look_cases,
@@ -184,6 +186,13 @@ def serves():
             yield from serve_cases.serves(os.path.abspath(program_of("pcalc")), folder)
 
 
+def doors():
+    """What is wrong with each door into a folder, by its name."""
+    if os.path.exists(program_of("pcalc")):
+        with tempfile.TemporaryDirectory() as folder:
+            yield from door_cases.doors(os.path.abspath(program_of("pcalc")), folder)
+
+
 def tutorial():
     """What is wrong with each command of the tutorial, by its name."""
     if os.path.exists(program_of("pcalc")):
@@ -275,7 +284,7 @@ def counted(parts):
 
 
 def main():
-    passed, failed = counted((stored, cases, crashes, kills, disks, serves, tutorial, clients, embedded, refused_growths.growths, pages, tests))
+    passed, failed = counted((stored, cases, crashes, kills, disks, serves, doors, tutorial, clients, embedded, refused_growths.growths, pages, tests))
     print(f"{passed} passed, {failed} failed")
     return 1 if failed else 0
 

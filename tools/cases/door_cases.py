@@ -1,0 +1,215 @@
+"""The doors into a folder, for `try_programs.py`: what one command does to the store of another one, and what readers then speak of.
+
+Pairs are loaded into a served store, also while it is served; a run is to go into one; files of a run lie beside generations. A served folder
+is renamed, copied over or loses its file `lock` while its process answers: each commit that was answered is in a folder. A generation loses its base. A
+run and a load are killed at each of their calls that change files. Zeros are left of a log, and no bytes of a part. Each case prints what it saw.
+"""
+
+import os
+import shutil
+import subprocess
+
+from tools.cases import preload
+from tools.cases.case import content_of, files_of, written
+from tools.cases.kill_cases import killed_at_each_call
+from tools.cases.serve_cases import SECONDS, answers, asked, generation, served, started
+from tools.oracle import plain_files
+
+HEADER, PAGE = 20, 4096
+RUN = b"points 2\nclient 1\nfill a 30 x\nclient 2\nfill b 30 y\n"
+PUT = b"begin 1\nput 1 %s %s\ncommit 1\n"
+READERS = (("dump", "M"), ("recover", "M"), ("verify", "M"), ("run", "run.pcw", "--from", "M"), ("serve", "N", "--create", "--import", "M"))
+
+
+def call(program, room, *words, given=b""):
+    """The status, the output and the errors of a command."""
+    ran = subprocess.run((program, *words), cwd=room, input=given, capture_output=True, timeout=SECONDS)
+    return ran.returncode, ran.stdout, ran.stderr
+
+
+def differs(got, wanted):
+    return [] if got == wanted else [f"{got} instead of {wanted}"]
+
+
+def loads(program, room):
+    """Pairs that are loaded into a served store."""
+    load = lambda *words, given: call(program, room, "load", *words, given=given)
+    served(program, room, ("S", "--create", "--run", "5"), PUT % (b"a", b"live"))
+    yield "load into a store that has pairs", differs(load("S", given=b"b loaded\n"), (1, b"", b"pcalc: S: NotEmpty\n"))
+    yield "which is as it was", differs(call(program, room, "dump", "S"), (0, b"a live\n", b"generation 1\n"))
+    yield "load --merge into it", differs(load("S", "--merge", given=b"b loaded\na new\n"), (0, b"", b"generation 2\n"))
+    yield "which has both", differs(call(program, room, "dump", "S"), (0, b"a new\nb loaded\n", b"generation 2\n"))
+    with started(program, room, ("S",)) as process:
+        ready = process.stdout.readline()
+        busy = load("S", "--merge", given=b"c late\n")
+        lines = differs((ready, busy), (b"ready run 7 pairs 2\n", (1, b"", b"pcalc: S: Busy\n")))
+        process.stdin.close()
+        process.wait(SECONDS)
+    yield "load into a store that is served", lines
+    served(program, room, ("E", "--create", "--run", "5"), b"")
+    yield "load into a store without pairs", differs(load("E", given=b"b loaded\n"), (0, b"", b"generation 2\n"))
+    yield "which then serves them", answers(program, room, ("E",), ((b"", b"ready run 7 pairs 1"), (b"begin 1", b"begun 1"), (b"get 1 b", b"= loaded")))
+    written(room, "L/lock", b"")
+    yield "load into a folder that has only a lock", differs(load("L", "--run", "9", given=b"k v\n"), (0, b"", b"generation 1\n"))
+    yield "which is a store then", answers(program, room, ("L",), ((b"", b"ready run 10 pairs 1"),))
+    written(room, "run.pcw", RUN)
+    yield "a run into the folder of a store", differs(call(program, room, "run", "run.pcw", "--dir", "S"), (1, b"", b"pcalc: S: NotEmpty\n"))
+    left = sorted(os.listdir(os.path.join(room, "S")))
+    print(f"loads: {left} are in the store's folder")
+    yield "and nothing else is in it", differs(left, ["gen-0000002", "gen-0000003", "lock"])
+
+
+def mixed(program, room):
+    """A base beside generations, as earlier versions have left it."""
+    written(room, "run.pcw", RUN)
+    os.makedirs(os.path.join(room, "M"))
+    call(program, room, "load", "M", given=b"x loaded\n")
+    served(program, room, ("S", "--create"), PUT % (b"a", b"live"))
+    shutil.copytree(os.path.join(room, "S"), os.path.join(room, "M"), dirs_exist_ok=True)
+    for words in READERS:
+        status, out, err = call(program, room, *words)
+        wanted = (4 if words[0] == "verify" else 1, b"", b"pcalc: M: Mixed\n  take M/gen-0000001\n")
+        print(f"mixed: {words[0]} ends with {status}, {err!r}")
+        yield f"{' '.join(words)} of a mixed folder", differs((status, out, err), wanted)
+    yield "the way out", differs(call(program, room, "dump", "M/gen-0000001"), (0, b"a live\n", b""))
+
+
+def own_to_the_end(program, room, name, change):
+    """What a process answers to commits until it ends, of which the folder is changed after the first; and its status and errors."""
+    with started(program, room, (name, "--create")) as process:
+        process.stdout.readline()
+        told = []
+        for number in range(1, 5):
+            for line in (PUT % (b"mine%d" % number, b"v")).splitlines(keepends=True):
+                try:
+                    told.append(asked(process, line))
+                except BrokenPipeError:
+                    told.append(b"")
+            if number == 1:
+                change()
+        try:
+            process.stdin.close()
+        except BrokenPipeError:
+            pass
+        return [line for line in told if line.startswith(b"committed ")], process.wait(SECONDS), process.stderr.read()
+
+
+def moves(program, room):
+    """A served folder that another process takes over."""
+    def moved():
+        os.rename(os.path.join(room, "A"), os.path.join(room, "A2"))
+
+    def copied():
+        shutil.copytree(os.path.join(room, "B"), os.path.join(room, "copy"))
+        os.rename(os.path.join(room, "B"), os.path.join(room, "B2"))
+        os.rename(os.path.join(room, "copy"), os.path.join(room, "B"))
+        served(program, room, ("B",), PUT % (b"yours", b"v"))
+
+    def unlocked():
+        os.unlink(os.path.join(room, "C", "lock"))
+        served(program, room, ("C",), PUT % (b"yours", b"v"))
+
+    for name, change, pairs in (("A", moved, b""), ("B", copied, b"mine1 v\nyours v\n"), ("C", unlocked, b"mine1 v\nyours v\n")):
+        answered, status, err = own_to_the_end(program, room, name, change)
+        found = call(program, room, "dump", name)[1]
+        print(f"moves: {name} has answered {len(answered)} commits, ends with {status}, {err!r}, and has {found!r}")
+        lines = differs((len(answered), status, err), (1, 1, b"pcalc: %s: Moved\n" % name.encode()))
+        yield f"a served folder that was {change.__name__}", lines + differs(found, pairs)
+
+
+def lost_bases(program, room):
+    """A generation whose log has answered commits, and whose base is gone."""
+    served(program, room, ("S", "--create", "--run", "1"), PUT % (b"a", b"1"))
+    served(program, room, ("S",), PUT % (b"b", b"2") + PUT % (b"c", b"3"))
+    os.unlink(os.path.join(generation(os.path.join(room, "S"), 2), "base.pcb"))
+    log = content_of(generation(os.path.join(room, "S"), 2), "log.pcl")
+    err = b"pcalc: S/gen-0000002/base.pcb: NoFile\npcalc: S: Damaged\n"
+    for words in (("serve", "S"), ("serve", "S", "--create"), ("recover", "S"), ("dump", "S"), ("verify", "S"), ("load", "S", "--merge")):
+        yield f"{' '.join(words)} of a store that has lost a base", differs(call(program, room, *words), (4 if words[0] == "verify" else 1, b"", err))
+    lacking = err.splitlines(keepends=True)[0]
+    yield "dump --damaged of it", differs(call(program, room, "dump", "S", "--damaged"), (0, b"a 1\n", lacking + b"generation 1\n"))
+    yield "it is gone on with by --damaged", answers(program, room, ("S", "--damaged"), ((b"", b"ready run 2 pairs 1"),), 0, lacking)
+    there = sorted(os.listdir(os.path.join(room, "S")))
+    print(f"lost_bases: {there} are there, and the log of generation 2 has {len(log)} bytes")
+    yield "above all folders", differs((there, content_of(generation(os.path.join(room, "S"), 2), "log.pcl")), (["gen-0000002", "gen-0000003", "lock"], log))
+    served(program, room, ("O", "--create", "--run", "1"), PUT % (b"a", b"1"))
+    os.unlink(os.path.join(generation(os.path.join(room, "O"), 1), "base.pcb"))
+    lost = b"pcalc: O/gen-0000001/base.pcb: NoFile\n"
+    yield "a store whose only generation has lost its base", answers(program, room, ("O", "--create"), (), 1, lost + b"pcalc: O: Damaged\n")
+    yield "begins anew by --damaged, above it", answers(program, room, ("O", "--create", "--run", "3", "--damaged"), ((b"", b"ready run 3 pairs 0"),), 0, lost)
+
+
+def headless(place, is_whole):
+    """What is wrong with a folder of a killed command: once it has a base, its log has its header."""
+    if not os.path.exists(os.path.join(place, "D", "base.pcb")):
+        return ["it has no base in the end"] if is_whole else []
+    size = os.path.getsize(os.path.join(place, "D", "log.pcl"))
+    return [] if size >= HEADER else [f"a base is named, and the log has {size} bytes"]
+
+
+def first_calls(program, room):
+    """Runs and loads that are killed at each of their calls: their folder is never damaged."""
+    def prepare(place):
+        os.makedirs(os.path.join(place, "D"))
+        written(place, "lines", b"k v\n")
+        written(place, "run.pcw", RUN)
+
+    for name, words in (("a run", ("run", "run.pcw", "--dir", "D")), ("a run with --sync", ("run", "run.pcw", "--dir", "D", "--sync")), ("a load", ("load", "D", "lines"))):
+        count = 0
+        for case, lines in killed_at_each_call(name, (program, *words, *(("--workers", "1") if words[0] == "run" else ())), prepare, headless):
+            count += 1
+            yield case, lines
+        print(f"first_calls: {name} was killed at {count} calls")
+
+
+def flushed(program, room):
+    """What is flushed before the base of a run gets its name: its log's header too, with --sync."""
+    library, notes = preload.built(room, preload.NOTE), os.path.join(room, "notes")
+    written(room, "run.pcw", b"client 1\n")
+    for words, wanted in ((("--sync",), b"sss"), ((), b"ss")):
+        written(room, "notes", b"")
+        os.makedirs(os.path.join(room, "D" + "".join(words)))
+        subprocess.run((program, "run", "run.pcw", "--dir", "D" + "".join(words), *words), cwd=room, env={**os.environ, "LD_PRELOAD": library, "NOTED_SYNCS": notes}, stdin=subprocess.DEVNULL, capture_output=True, timeout=SECONDS)
+        before = content_of(room, "notes").partition(b"r")[0]
+        print(f"flushed: before the base of a run {' '.join(words)} is named there are {len(before)} flushes")
+        yield f"a run {' '.join(words)} flushes before its base is named", differs(before, wanted)
+
+
+def powerless(program, room):
+    """Served folders after a power loss: a log of which zeros are left from each page on, or behind each entry, and parts without bytes."""
+    puts = b"".join(PUT % (b"k%03d" % number, b"v" * (1 + number * 7 % 900)) for number in range(60))
+    served(program, room, ("S", "--create", "--run", "1", "--every", "25", "--sync"), puts)
+    first = generation(os.path.join(room, "S"), 1)
+    whole, starts, refused = content_of(first, "log.pcl"), 0, 0
+    ends = plain_files.read_log(whole).ends
+    for kind, cut in [("page", at) for at in range(PAGE, len(whole), PAGE)] + [("entry", at) for at in ends]:
+        place = os.path.join(room, "copy")
+        shutil.copytree(os.path.join(room, "S"), place)
+        written(first.replace(os.path.join(room, "S"), place), "log.pcl", whole[:cut] + bytes(len(whole) - cut + PAGE))
+        found = plain_files.recover(*files_of(generation(place, 1)))
+        is_sound = found.fault in (None, "Short")
+        wanted = (0, b"ready run 2 pairs %d\n" % len(found.pairs), b"") if is_sound else (1, b"", b"log %s\npcalc: copy/gen-0000001: Damaged\n" % str(found.fault).encode())
+        ran = served(program, room, ("copy",), b"")
+        lines = differs((ran.returncode, ran.stdout, ran.stderr), wanted)
+        lines += [] if len([end for end in ends[1:] if end <= cut]) <= found.entries else [f"{found.entries} entries are whole before byte {cut}"]
+        starts, refused = starts + is_sound, refused + (not is_sound)
+        yield f"zeros from the {kind} at byte {cut} on", lines + ([] if is_sound or kind == "page" else ["it isn't Short"])
+        shutil.rmtree(place)
+    print(f"powerless: {starts} starts, {refused} logs are damaged, which have zeros within an entry")
+    for number in range(1, len([name for name in os.listdir(first) if name.endswith(".pcp")]) + 1):
+        place = os.path.join(room, f"part{number}")
+        shutil.copytree(os.path.join(room, "S"), place)
+        written(generation(place, 1), "part-%05d.pcp" % number, b"")
+        ran = served(program, room, (f"part{number}",), b"")
+        found = plain_files.recover(*files_of(generation(place, 1)))
+        are_empty = all(reason == "Short" for _, reason in found.skipped)
+        print(f"powerless: without the bytes of part {number} the start ends with {ran.returncode}, {ran.stderr!r}")
+        yield f"part {number} without bytes", differs((ran.returncode, ran.stdout), (0, b"ready run 2 pairs 60\n") if are_empty else (1, b""))
+
+
+def doors(program, folder):
+    """What is wrong with each door, by its name."""
+    for cases in (loads, mixed, moves, lost_bases, first_calls, flushed, powerless):
+        room = os.path.join(folder, cases.__name__)
+        os.makedirs(room)
+        yield from cases(program, room)
