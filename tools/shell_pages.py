@@ -1,10 +1,11 @@
 #!/usr/bin/env python3
 """Makes the man page and the shells' completions of pcalc from what the program itself prints for `--help`.
 
-    shell_pages.py PROGRAM FOLDER     writes FOLDER/man/man1/pcalc.1, FOLDER/bash-completion/completions/pcalc,
-                                      FOLDER/zsh/site-functions/_pcalc and FOLDER/fish/vendor_completions.d/pcalc.fish
+    shell_pages.py PROGRAM FOLDER DOC     writes FOLDER/man/man1/pcalc.1, FOLDER/bash-completion/completions/pcalc,
+                                          FOLDER/zsh/site-functions/_pcalc and FOLDER/fish/vendor_completions.d/pcalc.fish
 
-The folder is what `share` is to an installation: `make install` calls this.
+The folder is what `share` is to an installation: `make install` calls this. The man page names pages of the repository's docs/ in DOC, where
+they are installed.
 """
 
 import os
@@ -65,8 +66,8 @@ def escaped(text):
     return "\\&" + text if text.startswith((".", "'")) else text
 
 
-def man_page(version, whole, commands):
-    """The man page: a section for the program, and one for each command."""
+def man_page(version, whole, commands, doc):
+    """The man page: a section for the program, and one for each command. It names pages in the folder `doc`."""
     lines = [f'.TH PCALC 1 "" "{escaped(version)}" "User Commands"', ".SH NAME", f"pcalc \\- {escaped(whole.about)}", ".SH SYNOPSIS"]
     lines += [f".B {escaped(it.usage)}\n.br" for it in commands.values()]
     for name, it in commands.items():
@@ -74,7 +75,7 @@ def man_page(version, whole, commands):
         for section in ("Arguments", "Options"):
             for term, text in it.sections.get(section, []):
                 lines += [".TP", f".B {escaped(term)}", escaped(text)]
-        lines += [line for said in it.after for line in (".PP", escaped(said))]
+        lines += [line for said in it.after for line in (".PP", escaped(said.replace("docs/", f"{doc}/")))]
     return "\n".join(lines) + "\n"
 
 
@@ -138,10 +139,10 @@ def fish_completion(commands):
     return "\n".join(lines) + "\n"
 
 
-def pages(version, whole, commands):
+def pages(version, whole, commands, doc):
     """The text of each page, by its path below `share`."""
     return {
-        "man/man1/pcalc.1": man_page(version, whole, commands),
+        "man/man1/pcalc.1": man_page(version, whole, commands, doc),
         "bash-completion/completions/pcalc": bash_completion(commands),
         "zsh/site-functions/_pcalc": zsh_completion(commands),
         "fish/vendor_completions.d/pcalc.fish": fish_completion(commands),
@@ -149,11 +150,11 @@ def pages(version, whole, commands):
 
 
 def main():
-    if len(sys.argv) != 3:
+    if len(sys.argv) != 4:
         sys.exit(__doc__)
-    program, folder = os.path.abspath(sys.argv[1]), sys.argv[2]
+    program, folder, doc = os.path.abspath(sys.argv[1]), sys.argv[2], sys.argv[3]
     version = subprocess.run([program, "--version"], check=True, capture_output=True, text=True).stdout.strip()
-    for name, text in pages(version, *helps(program)).items():
+    for name, text in pages(version, *helps(program), doc).items():
         path = os.path.join(folder, name)
         os.makedirs(os.path.dirname(path), exist_ok=True)
         with open(path, "w", encoding="utf-8") as it:

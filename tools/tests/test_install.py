@@ -88,10 +88,11 @@ class Pages(unittest.TestCase):
         self.assertEqual(self.help.after, ["What each fault means: docs/MANUAL.md"])
 
     def test_the_man_page_has_each_option(self):
-        page = shell_pages.man_page("pcalc 1.2.3", shell_pages.help_of("A store\n\nUsage: pcalc <COMMAND>\n"), self.commands)
+        page = shell_pages.man_page("pcalc 1.2.3", shell_pages.help_of("A store\n\nUsage: pcalc <COMMAND>\n"), self.commands, "/p/share/doc/pcalc")
         self.assertIn('.TH PCALC 1 "" "pcalc 1.2.3"', page)
         self.assertIn(".B \\-\\-many <N>\nHow many [default: 1]\n", page)
         self.assertIn('.SH "pcalc show"\nPrints what is there.\n', page)
+        self.assertIn("What each fault means: /p/share/doc/pcalc/MANUAL.md\n", page)
 
     def test_completions_know_what_takes_a_file(self):
         self.assertIn("show) words='--many --from --help' ;;", shell_pages.bash_completion(self.commands))
@@ -103,11 +104,15 @@ class Pages(unittest.TestCase):
 
 @unittest.skipUnless(shutil.which("make"), "make is not there")
 class Installs(InFolder):
-    def installed(self):
-        """The program that `make install` takes."""
+    def commands(self):
+        """What `make install` runs."""
         words = ["make", "-n", "-f", os.path.join(os.path.dirname(TOOLS), "Makefile"), "install", "PREFIX=/p"]
         out = subprocess.run(words, cwd=self.folder, capture_output=True, text=True, check=True).stdout
-        return [line for line in out.splitlines() if line.startswith("install -m 755")]
+        return out.splitlines()
+
+    def installed(self):
+        """The program that `make install` takes."""
+        return [line for line in self.commands() if line.startswith("install -m 755")]
 
     def test_the_proved_program_goes_first(self):
         for name in ("crates.txt", "tools/build", "out/pcalc"):
@@ -115,6 +120,14 @@ class Installs(InFolder):
         self.assertEqual(self.installed(), ['install -m 755 "out/pcalc" "/p/bin/pcalc"'])
         self.write("crates/pcalc/out/pcalc", "")
         self.assertEqual(self.installed(), ['install -m 755 "crates/pcalc/out/pcalc" "/p/bin/pcalc"'])
+
+    def test_the_pages_and_the_clients_are_installed(self):
+        for name in ("crates.txt", "tools/build", "out/pcalc"):
+            self.write(name, "")
+        copies = [line.split()[3:] for line in self.commands() if line.startswith("install -m 644")]
+        files = [os.path.relpath(it, os.path.dirname(TOOLS)) for *some, _ in copies for it in some]
+        self.assertEqual(files, ["docs/MANUAL.md", "docs/FORMATS.md", "docs/OPERATIONS.md", "clients/README.md", "clients/python/pcalc.py", "clients/python/relay.py"])
+        self.assertEqual([some[-1] for some in copies], ['"/p/share/doc/pcalc/"', '"/p/share/doc/pcalc/clients.md"', '"/p/lib/python/"'])
 
     def test_the_module_of_python_is_installed_below_the_library(self):
         makefile = os.path.join(os.path.dirname(TOOLS), "embedding", "Makefile")
