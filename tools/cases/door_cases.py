@@ -74,6 +74,23 @@ def mixed(program, room):
     yield "the way out", differs(call(program, room, "dump", "M/gen-0000001"), (0, b"a live\n", b""))
 
 
+def foreign_parts(program, room):
+    """A part of another run in the folder of a run: both have the number 1, which each run has that isn't given another."""
+    for folder, name in (("A", b"a"), ("B", b"b")):
+        written(room, f"{folder}.pcw", b"points 1\nclient 1\nfill %s 30 x\n" % name)
+        os.makedirs(os.path.join(room, folder))
+        call(program, room, "run", f"{folder}.pcw", "--dir", folder)
+    ways = (("run", "A.pcw", "--from", "A"), ("serve", "N", "--create", "--import", "A"))
+    for words in ways:
+        yield f"{' '.join(words)} of a folder with its own part", differs(call(program, room, *words)[::2], (0, b""))
+    shutil.rmtree(os.path.join(room, "N"))
+    shutil.copy(os.path.join(room, "B", "part-00001.pcp"), os.path.join(room, "A"))
+    for words in ways:
+        ended = call(program, room, *words)
+        print(f"foreign_parts: {words[0]} ends with {ended[0]}, {ended[2]!r}")
+        yield f"{' '.join(words)} of one with a part of another run", differs(ended, (1, b"", b"pcalc: A: OtherRun\n"))
+
+
 def own_to_the_end(program, room, name, change):
     """What a process answers to commits until it ends, of which the folder is changed after the first; and its status and errors."""
     with started(program, room, (name, "--create")) as process:
@@ -209,7 +226,7 @@ def powerless(program, room):
 
 def doors(program, folder):
     """What is wrong with each door, by its name."""
-    for cases in (loads, mixed, moves, lost_bases, first_calls, flushed, powerless):
+    for cases in (loads, mixed, foreign_parts, moves, lost_bases, first_calls, flushed, powerless):
         room = os.path.join(folder, cases.__name__)
         os.makedirs(room)
         yield from cases(program, room)

@@ -2,12 +2,14 @@
 //! files of a run begin.
 #![tactic(auto)]
 
+mod agreeing;
 mod filling;
 mod heads;
 mod lock;
 mod owner;
 mod recovered;
 
+pub use agreeing::open_start;
 pub use filling::{Filling, fill_store};
 pub use heads::{BaseHead, LOG_HEAD, head_log};
 pub use lock::{FolderLock, HeldOutput};

@@ -12,7 +12,9 @@ use pc_disk::{
 };
 use pc_engine::World;
 use pc_explanations::{About, Explainer, explain_output};
-use pc_folders::{Doubt, FolderLock, HeldOutput, Leave, Owned, RecoveredFolder, Unowned, own};
+use pc_folders::{
+    Doubt, FolderLock, HeldOutput, Leave, Owned, RecoveredFolder, Unowned, open_start, own,
+};
 use pc_io::Tally;
 use pc_opening::{OpenedStore, StoreSize, Succession, open_store};
 use pc_options::ServeOptions;
@@ -253,7 +255,12 @@ fn base_of<'a, E: Write>(
         path,
         causes: store.dir.causes,
     };
-    let FoundFolder { folder, unopened } = match open_folder(dir) {
+    let opened = if store.options.import.is_some() {
+        open_start(dir)
+    } else {
+        open_folder(dir)
+    };
+    let FoundFolder { folder, unopened } = match opened {
         Ok(found) => found,
         Err(_) => return Err(Lost::Folder(Refusal::OutOfMemory)),
     };

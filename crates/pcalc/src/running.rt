@@ -4,11 +4,11 @@ use crate::run_folder::Claim;
 use crate::showing::run_shown;
 use pc_commands::open_named;
 use pc_disk::{
-    Causes, FoundFolder, LateFile, Noted, ReadFolder, Target, folder_of, open_folder,
-    output_before, tell_unopened,
+    Causes, FoundFolder, LateFile, Noted, ReadFolder, Target, folder_of, output_before,
+    tell_unopened,
 };
 use pc_explanations::{About, Explainer, explain_output, is_explained};
-use pc_folders::RecoveredFolder;
+use pc_folders::{RecoveredFolder, open_start};
 use pc_io::Tally;
 use pc_jobs::{WorkloadReading, read_workload};
 use pc_options::RunOptions;
@@ -381,7 +381,7 @@ fn origin_of<'a, E: Write>(
                 path,
                 causes: setting.causes,
             };
-            let FoundFolder { folder, unopened } = open_folder(dir)?;
+            let FoundFolder { folder, unopened } = open_start(dir)?;
             tell_unopened(&unopened, errors);
             let name = Vec::from_slice(setting.rt.alloc(), path.as_bytes())?;
             Start::Folder(NamedFolder {
