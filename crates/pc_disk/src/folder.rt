@@ -7,11 +7,11 @@ use pc_restore::Folder;
 use pc_texts::{NamedFile, report};
 use pc_types::Refusal;
 use std::alloc::{AllocError, Global};
-use std::fs;
-use std::fs::{FileType, Files};
-use std::io::Write;
+use std::fs::{File, FileType, Files};
+use std::io::{Error, ErrorKind, Write};
 use std::os::unix::fs::FileTypeExt;
 use std::string::String;
+use std::{fs, io};
 
 /// The name of the base in a folder.
 pub const BASE: &str = "base.pcb";
@@ -71,13 +71,19 @@ pub fn path_in(alloc: Global, dir: &str, name: &str) -> Result<String, AllocErro
     Ok(path)
 }
 
-// The file of this name, open, or why it can't be opened.
+// The file of this name, open, or why it can't be opened. In the folder of a generation, which is read at each start, nothing is waited
+// for.
 fn open_named<'a>(
     dir: ReadFolder<'a>,
     name: &str,
 ) -> Result<Result<LateFile<'a>, Refusal>, AllocError> {
     let path = path_in(dir.rt.alloc(), dir.path, name)?;
-    match fs::open(dir.rt, path.as_str()) {
+    let opened = if is_generation(dir.path) {
+        open_plain(dir.rt, path.as_str())
+    } else {
+        fs::open(dir.rt, path.as_str())
+    };
+    match opened {
         Ok(file) => Ok(Ok(LateFile::of_open(dir.rt, dir.causes, path, file))),
         Err(e) => {
             let why = dir.causes.note_unread(Doing::Opening, path.as_str(), e);
@@ -151,6 +157,35 @@ fn is_passed_by(rt: &HostRuntime, path: &str) -> bool {
     match fs::metadata(rt, path) {
         Ok(found) => is_device(&found.file_type()),
         Err(_) => false,
+    }
+}
+
+// Whether the path is that of a generation's folder, by its name.
+fn is_generation(path: &str) -> bool {
+    let mut last = b"".as_slice();
+    for name in path.as_bytes().split(|byte| *byte == b'/') {
+        if !name.is_empty() {
+            last = name;
+        }
+    }
+    number_in(last).is_some()
+}
+
+/// Opens a file to be read, unless it is a pipe, a socket or a device, as `refuse_device` says.
+pub fn open_plain(rt: &HostRuntime, path: &str) -> io::Result<File> {
+    refuse_device(rt, path)?;
+    fs::open(rt, path)
+}
+
+/// Refuses what can be opened only once another process opens it, or read for ever: a pipe, a socket or a device, also if a link leads
+/// to it. It is an error for nothing else, also if there is no such file.
+pub fn refuse_device(rt: &HostRuntime, path: &str) -> io::Result<()> {
+    match fs::metadata(rt, path) {
+        Ok(found) if is_device(&found.file_type()) => Err(Error::new(
+            ErrorKind::InvalidInput,
+            "it is a pipe, a socket or a device",
+        )),
+        _ => Ok(()),
     }
 }
 

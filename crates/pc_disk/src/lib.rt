@@ -12,7 +12,7 @@ mod standard;
 pub use causes::{Cause, Causes, Doing, Noted};
 pub use folder::{
     BASE, FoundFolder, LOCK, LOG, PART_END, ReadFolder, is_run_file, is_store_file, names_in,
-    open_folder, path_in, tell_unopened,
+    open_folder, open_plain, path_in, refuse_device, tell_unopened,
 };
 pub use generations::{GenerationFolders, generation_path};
 pub use late::LateFile;

@@ -1,11 +1,10 @@
 //! The explanation of a fault, printed after its line: which file, the operation, the place, and the system's error.
 use crate::damage::Damage;
 use crate::meanings::meaning_of;
-use pc_disk::{BASE, Cause, Causes, Doing, INPUT, OUTPUT};
+use pc_disk::{BASE, Cause, Causes, Doing, INPUT, OUTPUT, open_plain};
 use pc_io::Tally;
 use pc_texts::put_name;
 use pc_types::Refusal;
-use std::fs::File;
 use std::io;
 use std::io::{IsTerminal, Read, Write};
 
@@ -210,10 +209,10 @@ pub fn put_cause(cause: &Cause, lines: &mut Lines) -> Result<(), Refusal> {
     lines.put(b"\n")
 }
 
-/// All bytes of a plain file, if it can be read. If it can't, that is noted.
+/// All bytes of a plain file, if it can be read. If it can't, or is a pipe, a socket or a device, that is noted.
 pub fn bytes_of(rt: &HostRuntime, causes: &Causes, path: &str) -> Option<Vec<u8>> {
     let mut bytes = Vec::new(rt.alloc());
-    let read = match File::open(rt, path) {
+    let read = match open_plain(rt, path) {
         Ok(mut file) => file.read_to_end(&mut bytes),
         Err(e) => Err(e),
     };

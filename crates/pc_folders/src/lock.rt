@@ -1,6 +1,6 @@
 //! The file by which a process holds the folder that it serves.
 use crate::owner::Unowned;
-use pc_disk::{Doing, LOCK, ReadFolder, path_in};
+use pc_disk::{Doing, LOCK, ReadFolder, path_in, refuse_device};
 use pc_types::Refusal;
 use std::fs::{File, Metadata, TryLockError};
 use std::io::{Error, ErrorKind, Write};
@@ -27,18 +27,14 @@ impl<'a> FolderLock<'a> {
             Ok(path) => path,
             Err(_) => return Err(Unowned::Unusable(Refusal::OutOfMemory)),
         };
-        let opened = File::options()
-            .write(true)
-            .create(true)
-            .open(dir.rt, path.as_str());
-        let file = match opened {
+        let file = match open_lock(dir, path.as_str()) {
             Ok(file) => file,
-            Err(e) => return Err(unusable(dir, path.as_str(), e)),
+            Err(e) => return Err(unlockable(dir, path.as_str(), e)),
         };
         match file.try_lock() {
             Ok(()) => {}
             Err(TryLockError::WouldBlock) => return Err(Unowned::Busy),
-            Err(TryLockError::Error(e)) => return Err(unusable(dir, path.as_str(), e)),
+            Err(TryLockError::Error(e)) => return Err(unlockable(dir, path.as_str(), e)),
         }
         let lock = FolderLock {
             rt: dir.rt,
@@ -79,12 +75,18 @@ impl<'a> FolderLock<'a> {
     }
 }
 
+// The file of this path, to be locked, which is made if there is none.
+fn open_lock(dir: ReadFolder<'_>, path: &str) -> io::Result<File> {
+    refuse_device(dir.rt, path)?;
+    File::options().write(true).create(true).open(dir.rt, path)
+}
+
 fn is_same_file(one: &Metadata, other: &Metadata) -> bool {
     one.dev() == other.dev() && one.ino() == other.ino()
 }
 
-fn unusable(dir: ReadFolder<'_>, path: &str, e: Error) -> Unowned {
-    Unowned::Unusable(dir.causes.note_unmade(Doing::Locking, path, e))
+fn unlockable(dir: ReadFolder<'_>, path: &str, e: Error) -> Unowned {
+    Unowned::Unlockable(dir.causes.note_unmade(Doing::Locking, path, e))
 }
 
 /// An output to which nothing goes unless the folder is still this process's own.

@@ -4,11 +4,12 @@ ghost use Rattle.std.specs.Prelude.{◌≡◌, is_some, if◌then◌else◌};
 use crate::lock::FolderLock;
 use crate::recovered::Doubt;
 use pc_disk::{
-    Doing, GenerationFolders, ReadFolder, folder_of, is_run_file, names_in, sync_folder,
+    Doing, GenerationFolders, LOCK, ReadFolder, folder_of, is_run_file, names_in, path_in,
+    sync_folder,
 };
 use pc_generations::{greatest_generation, latest_generation, lost_generation};
 use pc_io::Tally;
-use pc_texts::report_words;
+use pc_texts::{report, report_words};
 use pc_types::Refusal;
 use std::alloc::AllocError;
 use std::fs;
@@ -27,6 +28,8 @@ pub enum Unowned {
     Damaged(u32),
     /// It can't be used.
     Unusable(Refusal),
+    /// Its file `lock` can't be made, opened or locked.
+    Unlockable(Refusal),
 }
 
 impl Unowned {
@@ -45,6 +48,11 @@ impl Unowned {
                 return Ok(());
             }
             Unowned::Unusable(why) => why.name().as_bytes(),
+            Unowned::Unlockable(why) => {
+                let path = path_in(dir.rt.alloc(), dir.path, LOCK)?;
+                let _ = report(path.as_bytes(), why, errors);
+                return Ok(());
+            }
         };
         let _ = report_words(dir.path.as_bytes(), word, errors);
         Ok(())
