@@ -1,4 +1,5 @@
 //! The system's error for a file that couldn't be opened or read, kept until it is printed.
+use crate::standard::INPUT;
 use pc_io::Tally;
 use pc_texts::put_name;
 use pc_types::Refusal;
@@ -146,8 +147,11 @@ pub(crate) fn why_unmade(e: &Error) -> Refusal {
     Refusal::Device
 }
 
-// Whether the failure is of a file whose path ends with this name, as names are printed.
+// Whether the failure is of a file whose path ends with this name, as names are printed, or of standard input, by its own name.
 fn has_name(alloc: Global, cause: &Cause, name: &[u8]) -> bool {
+    if cause.path.as_str() == INPUT {
+        return name == INPUT.as_bytes();
+    }
     let mut path = Tally::new(Vec::new(alloc));
     let _ = put_name(&mut path, cause.path.as_bytes());
     let path = path.into_inner();

@@ -17,4 +17,4 @@ pub use folder::{
 pub use generations::{GenerationFolders, generation_path};
 pub use late::LateFile;
 pub use making::{Target, folder_of, sync_folder};
-pub use standard::{INPUT, OUTPUT, fill_places, output_before};
+pub use standard::{INPUT, OUTPUT, fill_places, output_before, report_input};

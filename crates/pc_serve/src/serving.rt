@@ -8,7 +8,7 @@ use itoa::Buffer;
 use pc_bases::Base;
 use pc_disk::{
     Causes, FoundFolder, GenerationFolders, INPUT, LOG, LateFile, Noted, ReadFolder,
-    generation_path, open_folder, output_before, path_in, tell_unopened,
+    generation_path, open_folder, output_before, path_in, report_input, tell_unopened,
 };
 use pc_engine::World;
 use pc_explanations::{About, Explainer, explain_output};
@@ -348,7 +348,7 @@ fn tell_failure<E: Write>(
         return Ok(FAILED);
     }
     let _ = match failure {
-        Failure::Input => report(INPUT.as_bytes(), Refusal::Device, errors),
+        Failure::Input => report_input(Refusal::Device, errors),
         Failure::Refused(why) => report(dir, why, errors),
         Failure::Log(number, why) => {
             let folder = generation_path(store.dir, number)?;
