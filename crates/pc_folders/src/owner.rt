@@ -26,6 +26,8 @@ pub enum Unowned {
     NoStore,
     /// The generation of this number has entries in its log, and no base.
     Damaged(u32),
+    /// What has the name of the folder of the generation of this number is none: a file may have been put there, and isn't removed.
+    NoFolder(u32),
     /// It can't be used.
     Unusable(Refusal),
     /// Its file `lock` can't be made, opened or locked.
@@ -45,6 +47,10 @@ impl Unowned {
             Unowned::NoStore => b"NoStore",
             Unowned::Damaged(number) => {
                 Doubt::Lost(number).tell(dir, false, errors)?;
+                return Ok(());
+            }
+            Unowned::NoFolder(number) => {
+                Doubt::NoFolder(number).tell(dir, false, errors)?;
                 return Ok(());
             }
             Unowned::Unusable(why) => why.name().as_bytes(),
@@ -102,7 +108,8 @@ pub struct Owned<'a> {
 }
 
 /// Takes the folder. If there is none, or none with a generation that counts, it is made if that is asked for. If a store is to be
-/// made of another folder, it may have no generation that counts. One that has lost a base is refused, unless damage is accepted.
+/// made of another folder, it may have no generation that counts. One that has lost a base is refused, unless damage is accepted. One
+/// in which something else has the name of a generation's folder is refused.
 pub fn own(dir: ReadFolder<'_>, leave: Leave) -> Result<Owned<'_>, Unowned> {
     if leave.creates {
         make_folder(dir)?;
@@ -128,9 +135,15 @@ pub fn own(dir: ReadFolder<'_>, leave: Leave) -> Result<Owned<'_>, Unowned> {
     Ok(Owned { lock, found })
 }
 
-// The generations of the folder.
+// The generations of the folder, if each has a folder that has the name of one.
 fn find(dir: ReadFolder<'_>) -> Result<Found, Unowned> {
-    match find_among(dir, &GenerationFolders { dir }) {
+    let folders = GenerationFolders { dir };
+    match folders.misplaced() {
+        Ok(None) => {}
+        Ok(Some(number)) => return Err(Unowned::NoFolder(number)),
+        Err(why) => return Err(Unowned::Unusable(why)),
+    }
+    match find_among(dir, &folders) {
         Ok(found) => Ok(found),
         Err(why) => Err(Unowned::Unusable(why)),
     }

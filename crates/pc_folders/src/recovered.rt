@@ -19,6 +19,8 @@ pub enum Doubt {
     Mixed(u32),
     /// This generation, above the one that counts, has answered commits in its log, and no base.
     Lost(u32),
+    /// What has the name of this generation's folder is none.
+    NoFolder(u32),
 }
 
 impl Doubt {
@@ -44,6 +46,11 @@ impl Doubt {
                     let _ = report_words(dir.path.as_bytes(), b"Damaged", errors);
                 }
                 Ok(accepts_damage)
+            }
+            Doubt::NoFolder(number) => {
+                let path = generation_path(dir, number)?;
+                let _ = report(path.as_bytes(), Refusal::Device, errors);
+                Ok(false)
             }
         }
     }
@@ -126,13 +133,17 @@ fn latest_in(dir: ReadFolder<'_>) -> Option<u32> {
     }
 }
 
-// Why the folder of this path may not be the one that is meant: it has a base beside generations, or a generation has lost its
-// base.
+// Why the folder of this path may not be the one that is meant: it has a base beside generations, or what should be the folder of a
+// generation is none, or a generation has lost its base.
 fn doubt_of(dir: ReadFolder<'_>, latest: Option<u32>) -> Result<Option<Doubt>, AllocError> {
     if has_base(dir)? {
         return Ok(latest.map(|number| Doubt::Mixed(number)));
     }
-    match lost_generation(dir.rt.alloc(), &GenerationFolders { dir }, latest) {
+    let folders = GenerationFolders { dir };
+    if let Ok(Some(number)) = folders.misplaced() {
+        return Ok(Some(Doubt::NoFolder(number)));
+    }
+    match lost_generation(dir.rt.alloc(), &folders, latest) {
         Ok(lost) => Ok(lost.map(|number| Doubt::Lost(number))),
         Err(_) => Ok(None),
     }
