@@ -1,5 +1,5 @@
 //! The place of the damage in a file of a collapse or of a folder.
-use crate::explaining::{Lines, bytes_of};
+use crate::explaining::{Lines, Served, bytes_of};
 use crate::meanings::meaning_of;
 use itoa::Buffer;
 use pc_bases::Base;
@@ -7,6 +7,7 @@ use pc_disk::{
     BASE, Causes, FoundFolder, LOG, PART_END, ReadFolder, names_in, open_folder, path_in,
 };
 use pc_faults::{TextKind, locate};
+use pc_generations::{MOST_GENERATIONS, number_in};
 use pc_io::Tally;
 use pc_log::read_log;
 use pc_part::{Part, join};
@@ -88,6 +89,44 @@ impl<'a> Damage<'a> {
             self.put_fault(path.as_str(), None, lines)?;
         }
         Ok(has_fault)
+    }
+
+    /// Prints why the next generation of the store can't begin, if it is refused with `Full`; whether it is: its folder has the last
+    /// one, or it has more pairs than there is room for, or else its run has the greatest number.
+    pub fn put_of_store(&self, store: Served<'_>, lines: &mut Lines) -> Result<bool, Refusal> {
+        if self.word != b"Full".as_slice() {
+            return Ok(false);
+        }
+        if self.has_last_generation(store.dir)? {
+            lines.put(
+                b"  no generation follows the last one, 9999999: go on in another folder, by --create --import ",
+            )?;
+            put_name(lines, store.dir.as_bytes())?;
+            lines.put(b"\n")?;
+            return Ok(true);
+        }
+        match self.pairs_of(store.from)? {
+            Some(pairs) if number_of(&pairs) <= u64::from(store.capacity) => {
+                lines.put(b"  no run follows the last one, 18446744073709551615\n")?;
+                Ok(true)
+            }
+            _ => self.put_of_start(store.from, store.capacity, lines),
+        }
+    }
+
+    // Whether the folder of a served store has the last generation that there is.
+    fn has_last_generation(&self, dir: &str) -> Result<bool, Refusal> {
+        let folder = ReadFolder {
+            rt: self.rt,
+            path: dir,
+            causes: self.causes,
+        };
+        let names = names_in(folder)?;
+        Ok(
+            names
+                .split(|byte| *byte == 0)
+                .any(|name| number_in(name) == Some(MOST_GENERATIONS)),
+        )
     }
 
     /// Prints how many pairs are recovered from the folder, from which a run starts, and for how many keys its store has room, if
@@ -184,4 +223,14 @@ impl<'a> Damage<'a> {
         let meaning = meaning_of(self.word).unwrap_or(self.word);
         lines.put_all(&[b": ", meaning, b"\n"])
     }
+}
+
+// The number that these digits write.
+fn number_of(digits: &[u8]) -> u64 {
+    let mut number = 0u64;
+    for digit in digits {
+        let value = u64::from(digit.saturating_sub(b'0'));
+        number = number.saturating_mul(10).saturating_add(value);
+    }
+    number
 }

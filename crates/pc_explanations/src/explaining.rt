@@ -21,6 +21,19 @@ pub enum About<'a> {
     Run,
     /// A run that starts from this folder, over a store with room for this many keys.
     Start(&'a str, u32),
+    /// A store that is served.
+    Store(Served<'a>),
+}
+
+/// A store that is served, and starts from the state of a folder.
+#[derive(Clone, Copy)]
+pub struct Served<'a> {
+    /// The folder of its generations.
+    pub dir: &'a str,
+    /// The folder from which it starts.
+    pub from: &'a str,
+    /// For how many keys it has room.
+    pub capacity: u32,
 }
 
 /// The information for explaining faults.
@@ -132,6 +145,10 @@ impl<'a> Explainer<'a> {
             About::Folder(dir) => damage.put_of_folder(dir, lines)?,
             About::Start(old, _) if is_of_folder(name, old) => damage.put_of_folder(old, lines)?,
             About::Start(old, capacity) => damage.put_of_start(old, capacity, lines)?,
+            About::Store(store) if is_of_folder(name, store.from) => {
+                damage.put_of_folder(store.from, lines)? || damage.put_of_store(store, lines)?
+            }
+            About::Store(store) => damage.put_of_store(store, lines)?,
             _ => false,
         };
         if is_told {

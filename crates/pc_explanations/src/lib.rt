@@ -6,5 +6,5 @@ mod explaining;
 mod lacking;
 mod meanings;
 
-pub use explaining::{About, Explained, Explainer, explain_output, is_explained};
+pub use explaining::{About, Explained, Explainer, Served, explain_output, is_explained};
 pub use lacking::Lacking;

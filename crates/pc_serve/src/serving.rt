@@ -11,7 +11,7 @@ use pc_disk::{
     generation_path, open_folder, output_before, path_in, report_input, tell_unopened,
 };
 use pc_engine::World;
-use pc_explanations::{About, Explainer, explain_output};
+use pc_explanations::{About, Explainer, Served, explain_output};
 use pc_folders::{
     Doubt, FolderLock, HeldOutput, Leave, Owned, RecoveredFolder, Unowned, open_start, own,
 };
@@ -197,12 +197,15 @@ fn start_of(
 }
 
 // The subject of its faults.
-fn about<'a>(options: &ServeOptions<'_>, from: &'a str) -> About<'a> {
+fn about<'a>(options: &ServeOptions<'a>, from: &'a str) -> About<'a> {
     if from.is_empty() {
-        About::Run
-    } else {
-        About::Start(from, options.capacity)
+        return About::Run;
     }
+    About::Store(Served {
+        dir: options.dir,
+        from,
+        capacity: options.capacity,
+    })
 }
 
 // Serves the store on standard input and output; the status.
