@@ -1,9 +1,11 @@
 //! How a file is made so that nothing is lost: under another name, and renamed once it is whole.
 use crate::causes::{Causes, Doing, Noted, why_unmade};
+use pc_io::Tally;
+use pc_texts::report;
 use pc_types::Refusal;
 use std::alloc::AllocError;
 use std::fs::{File, Metadata};
-use std::io::ErrorKind;
+use std::io::{Error, ErrorKind};
 use std::string::String;
 use std::{fs, io};
 
@@ -115,12 +117,24 @@ impl<'a> Target<'a> {
         }
     }
 
-    /// A file that is not whole is removed, and the file at the destination stays.
+    /// A file that is not whole is removed, and the file at the destination stays. If it can't be removed, a line on standard error names
+    /// it.
     pub fn discard(&mut self) {
         if let Some(apart) = &self.apart {
-            let _ = fs::remove_file(self.rt, apart.as_str());
+            if let Err(e) = fs::remove_file(self.rt, apart.as_str()) {
+                tell_left(self.rt, apart.as_str(), &e);
+            }
             self.apart = None;
         }
+    }
+}
+
+// Reports a file that is still there, since its removal failed by this error.
+fn tell_left(rt: &HostRuntime, path: &str, e: &Error) {
+    if e.kind() != ErrorKind::NotFound {
+        let stderr = rt.stderr();
+        let mut errors = Tally::new(io::writer(&stderr));
+        let _ = report(path.as_bytes(), why_unmade(e), &mut errors);
     }
 }
 

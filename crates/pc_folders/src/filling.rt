@@ -1,6 +1,7 @@
 //! A store gets the pairs of a base: its next generation begins with them.
 ghost use Rattle.std.specs.Prelude.{◌≡◌};
 
+use crate::left::tell_left;
 use crate::owner::{Leave, Owned, own};
 use itoa::Buffer;
 use pc_bases::Base;
@@ -32,7 +33,7 @@ pub struct Filling<'a> {
 
 /// Begins the next generation of the store, which no process may serve meanwhile, with the pairs of this base, after those that it has;
 /// if it has no generation, its first one with this base. Nothing of it changes before. The number of the generation is printed on
-/// the error writer, or why it didn't begin; the status.
+/// the error writer, and which older ones can't be removed; or why it didn't begin; the status.
 pub fn fill_store<E: Write>(
     filling: Filling<'_>,
     base: Base,
@@ -131,6 +132,7 @@ fn begin<E: Write>(
             let mut number = Buffer::new();
             let number = number.format(begun.generation).as_bytes();
             let _ = errors.put_all(&[b"generation ", number, b"\n"]);
+            tell_left(dir, begun, KEEP, errors)?;
             Ok(0)
         }
         Err(why) => {

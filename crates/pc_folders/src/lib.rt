@@ -5,6 +5,7 @@
 mod agreeing;
 mod filling;
 mod heads;
+mod left;
 mod lock;
 mod owner;
 mod recovered;
@@ -12,6 +13,7 @@ mod recovered;
 pub use agreeing::open_start;
 pub use filling::{Filling, fill_store};
 pub use heads::{BaseHead, LOG_HEAD, head_log};
+pub use left::tell_left;
 pub use lock::{FolderLock, HeldOutput};
 pub use owner::{Found, Leave, Owned, Unowned, own};
 pub use recovered::{Doubt, RecoveredFolder, has_store};

@@ -13,10 +13,10 @@ use pc_disk::{
 use pc_engine::World;
 use pc_explanations::{About, Explainer, Served, explain_output};
 use pc_folders::{
-    Doubt, FolderLock, HeldOutput, Leave, Owned, RecoveredFolder, Unowned, open_start, own,
+    Doubt, FolderLock, HeldOutput, Leave, Owned, RecoveredFolder, Unowned, open_start, own, tell_left,
 };
 use pc_io::Tally;
-use pc_opening::{OpenedStore, StoreSize, Succession, open_store};
+use pc_opening::{Begun, OpenedStore, StoreSize, Succession, open_store};
 use pc_options::ServeOptions;
 use pc_restore::{Lost, recover_base, tell_lost};
 use pc_texts::{report, report_words};
@@ -141,12 +141,7 @@ fn serve_owned<'a>(
 
 // Serves the store, and reports its faults; the status.
 fn serve_told<'a>(store: Store<'a>) -> io::Result<u8> {
-    let explainer = Explainer::new(
-        store.dir.rt,
-        store.dir.causes,
-        about(store.options, store.from.path.as_str()),
-        store.options.is_explained,
-    );
+    let explainer = explainer_of(&store);
     let stderr = store.dir.rt.stderr();
     let mut errors = explainer.errors(io::writer(&stderr));
     let status = if is_told(&store, &mut errors)? {
@@ -194,6 +189,17 @@ fn start_of(
         (None, None) => String::new(dir.rt.alloc()),
     };
     Ok(RecoveredFolder::of_path(path))
+}
+
+// Explains the faults of the store.
+fn explainer_of<'a>(store: &Store<'a>) -> Explainer<'a> {
+    let about = about(store.options, store.from.path.as_str());
+    Explainer::new(
+        store.dir.rt,
+        store.dir.causes,
+        about,
+        store.options.is_explained,
+    )
 }
 
 // The subject of its faults.
@@ -271,7 +277,7 @@ fn base_of<'a, E: Write>(
     recover_base(alloc, folder, store.options.accepts_damage, errors)
 }
 
-/// Opens a store over its base, and begins the generation after this one.
+/// Opens a store over its base, and begins the generation after this one. Which older ones can't be removed is reported.
 pub fn open(store: &Store<'_>, latest: Option<u32>, base: Base) -> Result<OpenedStore, Refusal>
     requires { base.point ≡ 0 }
     ensures { IfOk result (λ opened. Stands opened.world []) }
@@ -285,15 +291,28 @@ pub fn open(store: &Store<'_>, latest: Option<u32>, base: Base) -> Result<Opened
         latest,
         keep: options.keep,
     };
+    let alloc = store.dir.rt.alloc();
     let mut folders = GenerationFolders { dir: store.dir };
-    open_store(
-        store.dir.rt.alloc(),
-        &mut folders,
-        succession,
-        base,
-        size,
-        store.drawn.seed,
-    )
+    let seed = store.drawn.seed;
+    match open_store(alloc, &mut folders, succession, base, size, seed) {
+        Ok(opened) => {
+            tell_removal(store, opened.generation, opened.removal);
+            Ok(opened)
+        }
+        Err(why) => Err(why),
+    }
+}
+
+// Reports which generations older than this one can't be removed, if there are any.
+fn tell_removal(store: &Store<'_>, generation: u32, removal: Result<(), Refusal>) {
+    let begun = Begun {
+        generation,
+        removal,
+    };
+    let explainer = explainer_of(store);
+    let stderr = store.dir.rt.stderr();
+    let mut errors = explainer.errors(io::writer(&stderr));
+    let _ = tell_left(store.dir, begun, store.options.keep, &mut errors);
 }
 
 // Serves the store that was opened; the status.
