@@ -7,11 +7,11 @@ use pc_restore::Folder;
 use pc_texts::{NamedFile, report};
 use pc_types::Refusal;
 use std::alloc::{AllocError, Global};
-use std::fs::{File, FileType, Files};
+use std::fs;
+use std::fs::Files;
 use std::io::{Error, ErrorKind, Write};
 use std::os::unix::fs::FileTypeExt;
 use std::string::String;
-use std::{fs, io};
 
 /// The name of the base in a folder.
 pub const BASE: &str = "base.pcb";
@@ -21,6 +21,9 @@ pub const LOG: &str = "log.pcl";
 
 /// The name of the file that the process that serves a folder holds locked.
 pub const LOCK: &str = "lock";
+
+/// What is said of what isn't opened, since it is none of a folder's files.
+pub const NO_FILE: &str = "it is a pipe, a socket or a device";
 
 /// The suffix of the names of parts.
 pub const PART_END: &[u8] = b".pcp";
@@ -78,8 +81,8 @@ fn open_named<'a>(
     name: &str,
 ) -> Result<Result<LateFile<'a>, Refusal>, AllocError> {
     let path = path_in(dir.rt.alloc(), dir.path, name)?;
-    let opened = if is_generation(dir.path) {
-        open_plain(dir.rt, path.as_str())
+    let opened = if is_generation(dir.path) && is_device(dir.rt, path.as_str()) {
+        Err(Error::new(ErrorKind::InvalidInput, NO_FILE))
     } else {
         fs::open(dir.rt, path.as_str())
     };
@@ -105,11 +108,6 @@ pub fn names_in(dir: ReadFolder<'_>) -> Result<Vec<u8>, Refusal> {
 /// Whether recovery reads a file of this name.
 pub fn is_run_file(name: &[u8]) -> bool {
     name == BASE.as_bytes() || name == LOG.as_bytes() || name.ends_with(PART_END)
-}
-
-/// Whether the folder of a served store has this: the file that its process holds locked, or the folder of a generation.
-pub fn is_store_file(name: &[u8]) -> bool {
-    name == LOCK.as_bytes() || number_in(name).is_some()
 }
 
 // The names of the folder's part files, in their byte order.
@@ -146,16 +144,22 @@ fn late_files<'a>(
     Ok(files)
 }
 
-// Whether what has a part's name is none: a folder; or a pipe, a socket or a device, also if a link leads to it, which might be read
-// for ever.
+// Whether what has a part's name is none: a folder, or a device.
 fn is_passed_by(rt: &HostRuntime, path: &str) -> bool {
-    if let Ok(found) = fs::symlink_metadata(rt, path) {
-        if found.is_dir() {
-            return true;
-        }
+    match fs::symlink_metadata(rt, path) {
+        Ok(found) if found.is_dir() => true,
+        _ => is_device(rt, path),
     }
+}
+
+/// Whether this is a pipe, a socket or a device, also if a link leads to it: it may be opened only once another process opens it, or be
+/// read for ever.
+pub fn is_device(rt: &HostRuntime, path: &str) -> bool {
     match fs::metadata(rt, path) {
-        Ok(found) => is_device(&found.file_type()),
+        Ok(found) => {
+            let kind = found.file_type();
+            kind.is_fifo() || kind.is_socket() || kind.is_char_device() || kind.is_block_device()
+        }
         Err(_) => false,
     }
 }
@@ -169,26 +173,4 @@ fn is_generation(path: &str) -> bool {
         }
     }
     number_in(last).is_some()
-}
-
-/// Opens a file to be read, unless it is a pipe, a socket or a device, as `refuse_device` says.
-pub fn open_plain(rt: &HostRuntime, path: &str) -> io::Result<File> {
-    refuse_device(rt, path)?;
-    fs::open(rt, path)
-}
-
-/// Refuses what can be opened only once another process opens it, or read for ever: a pipe, a socket or a device, also if a link leads
-/// to it. It is an error for nothing else, also if there is no such file.
-pub fn refuse_device(rt: &HostRuntime, path: &str) -> io::Result<()> {
-    match fs::metadata(rt, path) {
-        Ok(found) if is_device(&found.file_type()) => Err(Error::new(
-            ErrorKind::InvalidInput,
-            "it is a pipe, a socket or a device",
-        )),
-        _ => Ok(()),
-    }
-}
-
-fn is_device(kind: &FileType) -> bool {
-    kind.is_fifo() || kind.is_socket() || kind.is_char_device() || kind.is_block_device()
 }

@@ -30,22 +30,6 @@ pub fn generation_path(dir: ReadFolder<'_>, number: u32) -> Result<String, Alloc
 }
 
 impl<'a> GenerationFolders<'a> {
-    /// The number of a generation whose folder's name something has that is no folder, and no link that leads nowhere; `None` if there
-    /// is none such. Why it is none is noted.
-    pub fn misplaced(&self) -> Result<Option<u32>, Refusal> {
-        for number in &self.numbers(self.dir.rt.alloc())? {
-            let path = generation_path(self.dir, *number)?;
-            if let Ok(found) = fs::metadata(self.dir.rt, path.as_str()) {
-                if !found.is_dir() {
-                    let none = io::Error::from(ErrorKind::NotADirectory);
-                    self.dir.causes.note(Doing::Opening, path.as_str(), none);
-                    return Ok(Some(*number));
-                }
-            }
-        }
-        Ok(None)
-    }
-
     // The path of a file of a generation.
     fn path_of(&self, number: u32, name: &[u8]) -> Result<String, Refusal> {
         let folder = generation_path(self.dir, number)?;

@@ -11,10 +11,10 @@ mod standard;
 
 pub use causes::{Cause, Causes, Doing, Noted};
 pub use folder::{
-    BASE, FoundFolder, LOCK, LOG, PART_END, ReadFolder, is_run_file, is_store_file, names_in,
-    open_folder, open_plain, path_in, refuse_device, tell_unopened,
+    BASE, FoundFolder, LOCK, LOG, NO_FILE, PART_END, ReadFolder, is_device, is_run_file, names_in,
+    open_folder, path_in, tell_unopened,
 };
 pub use generations::{GenerationFolders, generation_path};
 pub use late::LateFile;
 pub use making::{Target, folder_of, sync_folder};
-pub use standard::{INPUT, OUTPUT, fill_places, output_before, report_input};
+pub use standard::{INPUT, OUTPUT, fill_places, output_before};

@@ -5,7 +5,7 @@ use pc_texts::report;
 use pc_types::Refusal;
 use std::alloc::AllocError;
 use std::fs::{File, Metadata};
-use std::io::{Error, ErrorKind};
+use std::io::ErrorKind;
 use std::string::String;
 use std::{fs, io};
 
@@ -120,21 +120,18 @@ impl<'a> Target<'a> {
     /// A file that is not whole is removed, and the file at the destination stays. If it can't be removed, a line on standard error names
     /// it.
     pub fn discard(&mut self) {
-        if let Some(apart) = &self.apart {
-            if let Err(e) = fs::remove_file(self.rt, apart.as_str()) {
-                tell_left(self.rt, apart.as_str(), &e);
+        let Some(apart) = &self.apart else {
+            return;
+        };
+        match fs::remove_file(self.rt, apart.as_str()) {
+            Err(e) if e.kind() != ErrorKind::NotFound => {
+                let stderr = self.rt.stderr();
+                let mut errors = Tally::new(io::writer(&stderr));
+                let _ = report(apart.as_bytes(), why_unmade(&e), &mut errors);
             }
-            self.apart = None;
+            _ => {}
         }
-    }
-}
-
-// Reports a file that is still there, since its removal failed by this error.
-fn tell_left(rt: &HostRuntime, path: &str, e: &Error) {
-    if e.kind() != ErrorKind::NotFound {
-        let stderr = rt.stderr();
-        let mut errors = Tally::new(io::writer(&stderr));
-        let _ = report(path.as_bytes(), why_unmade(e), &mut errors);
+        self.apart = None;
     }
 }
 

@@ -1,11 +1,5 @@
 //! The standard streams.
-ghost use Rattle.std.specs.Prelude.{◌++◌, codes};
-ghost use Rattle.pc_types.specs.Names.{refusal_name};
-ghost use Rattle.pc_io.specs.Tallies.{Puts};
-
 use crate::causes::{Causes, Noted};
-use pc_io::Tally;
-use pc_types::Refusal;
 use std::alloc::AllocError;
 use std::fs::File;
 use std::io::{BufWriter, Write};
@@ -21,14 +15,6 @@ pub const INPUT: &str = "standard input";
 
 /// How many standard streams there are; they have the first descriptors.
 const STREAMS: i32 = 3;
-
-/// Writes the error line of a command of standard input, by its name as it is. Returns `Device` if and only if the device failed in
-/// this call.
-pub fn report_input<E: Write>(why: Refusal, errors: &mut Tally<E>) -> Result<(), Refusal>
-    ensures { Puts E.contents errors.old errors.new result (codes "pcalc: standard input: " ++ (refusal_name why ++ codes "\n")) }
-{
-    errors.put_all(&[b"pcalc: standard input: ", why.name().as_bytes(), b"\n"])
-}
 
 /// Fills the places of those standard streams that the program was started without, until the files are dropped: else a file that
 /// it opens would take such a place, and what is printed would go into it. They are open for reading, so that printing fails as it

@@ -1,12 +1,12 @@
 //! The explanation of a fault, printed after its line: which file, the operation, the place, and the system's error.
 use crate::damage::Damage;
 use crate::meanings::meaning_of;
-use pc_disk::{BASE, Cause, Causes, Doing, INPUT, OUTPUT, open_plain};
+use pc_disk::{BASE, Cause, Causes, Doing, INPUT, NO_FILE, OUTPUT, is_device};
 use pc_io::Tally;
 use pc_texts::put_name;
 use pc_types::Refusal;
-use std::io;
-use std::io::{IsTerminal, Read, Write};
+use std::io::{Error, ErrorKind, IsTerminal, Read, Write};
+use std::{fs, io};
 
 /// The files that a command is about.
 #[derive(Clone, Copy)]
@@ -229,7 +229,12 @@ pub fn put_cause(cause: &Cause, lines: &mut Lines) -> Result<(), Refusal> {
 /// All bytes of a plain file, if it can be read. If it can't, or is a pipe, a socket or a device, that is noted.
 pub fn bytes_of(rt: &HostRuntime, causes: &Causes, path: &str) -> Option<Vec<u8>> {
     let mut bytes = Vec::new(rt.alloc());
-    let read = match open_plain(rt, path) {
+    let opened = if is_device(rt, path) {
+        Err(Error::new(ErrorKind::InvalidInput, NO_FILE))
+    } else {
+        fs::open(rt, path)
+    };
+    let read = match opened {
         Ok(mut file) => file.read_to_end(&mut bytes),
         Err(e) => Err(e),
     };

@@ -16,4 +16,4 @@ pub use heads::{BaseHead, LOG_HEAD, head_log};
 pub use left::tell_left;
 pub use lock::{FolderLock, HeldOutput};
 pub use owner::{Found, Leave, Owned, Unowned, own};
-pub use recovered::{Doubt, RecoveredFolder, has_store};
+pub use recovered::{Doubt, RecoveredFolder, has_store, is_store_file};

@@ -1,6 +1,6 @@
 //! The file by which a process holds the folder that it serves.
 use crate::owner::Unowned;
-use pc_disk::{Doing, LOCK, ReadFolder, path_in, refuse_device};
+use pc_disk::{Doing, LOCK, NO_FILE, ReadFolder, is_device, path_in};
 use pc_types::Refusal;
 use std::fs::{File, Metadata, TryLockError};
 use std::io::{Error, ErrorKind, Write};
@@ -77,7 +77,9 @@ impl<'a> FolderLock<'a> {
 
 // The file of this path, to be locked, which is made if there is none.
 fn open_lock(dir: ReadFolder<'_>, path: &str) -> io::Result<File> {
-    refuse_device(dir.rt, path)?;
+    if is_device(dir.rt, path) {
+        return Err(Error::new(ErrorKind::InvalidInput, NO_FILE));
+    }
     File::options().write(true).create(true).open(dir.rt, path)
 }
 

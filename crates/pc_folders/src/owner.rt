@@ -2,7 +2,7 @@
 ghost use Rattle.std.specs.Prelude.{◌≡◌, is_some, if◌then◌else◌};
 
 use crate::lock::FolderLock;
-use crate::recovered::Doubt;
+use crate::recovered::{Doubt, misplaced};
 use pc_disk::{
     Doing, GenerationFolders, LOCK, ReadFolder, folder_of, is_run_file, names_in, path_in,
     sync_folder,
@@ -138,7 +138,7 @@ pub fn own(dir: ReadFolder<'_>, leave: Leave) -> Result<Owned<'_>, Unowned> {
 // The generations of the folder, if each has a folder that has the name of one.
 fn find(dir: ReadFolder<'_>) -> Result<Found, Unowned> {
     let folders = GenerationFolders { dir };
-    match folders.misplaced() {
+    match misplaced(&folders) {
         Ok(None) => {}
         Ok(Some(number)) => return Err(Unowned::NoFolder(number)),
         Err(why) => return Err(Unowned::Unusable(why)),

@@ -1,15 +1,15 @@
 //! The folder whose files are recovered if a folder is named: its own, or one in it.
 use itoa::Buffer;
 use pc_disk::{
-    BASE, GenerationFolders, ReadFolder, generation_path, is_store_file, names_in, path_in,
+    BASE, Doing, GenerationFolders, LOCK, ReadFolder, generation_path, names_in, path_in,
 };
-use pc_generations::{latest_generation, lost_generation};
+use pc_generations::{Generations, latest_generation, lost_generation, number_in};
 use pc_io::Tally;
 use pc_texts::{put_name, report, report_words};
 use pc_types::Refusal;
 use std::alloc::AllocError;
 use std::fs;
-use std::io::Write;
+use std::io::{Error, ErrorKind, Write};
 use std::string::String;
 
 /// Why a folder that is named may not be the one that is meant.
@@ -140,7 +140,7 @@ fn doubt_of(dir: ReadFolder<'_>, latest: Option<u32>) -> Result<Option<Doubt>, A
         return Ok(latest.map(|number| Doubt::Mixed(number)));
     }
     let folders = GenerationFolders { dir };
-    if let Ok(Some(number)) = folders.misplaced() {
+    if let Ok(Some(number)) = misplaced(&folders) {
         return Ok(Some(Doubt::NoFolder(number)));
     }
     match lost_generation(dir.rt.alloc(), &folders, latest) {
@@ -149,10 +149,32 @@ fn doubt_of(dir: ReadFolder<'_>, latest: Option<u32>) -> Result<Option<Doubt>, A
     }
 }
 
+/// The number of a generation whose folder's name something has that is no folder, and no link that leads nowhere; `None` if there is
+/// none such. Why it is none is noted.
+pub fn misplaced(folders: &GenerationFolders<'_>) -> Result<Option<u32>, Refusal> {
+    let dir = folders.dir;
+    for number in &folders.numbers(dir.rt.alloc())? {
+        let path = generation_path(dir, *number)?;
+        if let Ok(found) = fs::metadata(dir.rt, path.as_str()) {
+            if !found.is_dir() {
+                let none = Error::from(ErrorKind::NotADirectory);
+                dir.causes.note(Doing::Opening, path.as_str(), none);
+                return Ok(Some(*number));
+            }
+        }
+    }
+    Ok(None)
+}
+
 // Whether the folder has a base of its own.
 fn has_base(dir: ReadFolder<'_>) -> Result<bool, AllocError> {
     let path = path_in(dir.rt.alloc(), dir.path, BASE)?;
     Ok(fs::exists(dir.rt, path.as_str()).unwrap_or(true))
+}
+
+/// Whether the folder of a served store has this: the file that its process holds locked, or the folder of a generation.
+pub fn is_store_file(name: &[u8]) -> bool {
+    name == LOCK.as_bytes() || number_in(name).is_some()
 }
 
 /// Whether the folder is that of a served store, as far as it can be listed.

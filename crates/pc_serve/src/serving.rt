@@ -1,5 +1,7 @@
 //! A store that is served: it goes on as the store of a folder, and answers lines of standard input on standard output.
-ghost use Rattle.std.specs.Prelude.{◌≡◌, ◌≤◌, [], IfOk};
+ghost use Rattle.std.specs.Prelude.{◌≡◌, ◌≤◌, ◌++◌, [], codes, IfOk};
+ghost use Rattle.pc_types.specs.Names.{refusal_name};
+ghost use Rattle.pc_io.specs.Tallies.{Puts};
 ghost use Rattle.pc_engine.specs.Stands.{Stands};
 
 use crate::generation::{Failure, Generation, serve_generations};
@@ -8,7 +10,7 @@ use itoa::Buffer;
 use pc_bases::Base;
 use pc_disk::{
     Causes, FoundFolder, GenerationFolders, INPUT, LOG, LateFile, Noted, ReadFolder,
-    generation_path, open_folder, output_before, path_in, report_input, tell_unopened,
+    generation_path, open_folder, output_before, path_in, tell_unopened,
 };
 use pc_engine::World;
 use pc_explanations::{About, Explainer, Served, explain_output};
@@ -380,4 +382,11 @@ fn tell_failure<E: Write>(
         Failure::Answers => Ok(()),
     };
     Ok(FAILED)
+}
+
+// Reports a fault of standard input, by its name as it is. Returns `Device` if and only if the device failed in this call.
+fn report_input<E: Write>(why: Refusal, errors: &mut Tally<E>) -> Result<(), Refusal>
+    ensures { Puts E.contents errors.old errors.new result (codes "pcalc: standard input: " ++ (refusal_name why ++ codes "\n")) }
+{
+    errors.put_all(&[b"pcalc: standard input: ", why.name().as_bytes(), b"\n"])
 }

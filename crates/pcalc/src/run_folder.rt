@@ -1,9 +1,9 @@
 //! The folder in which a run makes its files: it is claimed before anything else is done, and no other process can claim it.
 use pc_disk::{
-    BASE, Causes, Doing, LOG, Noted, ReadFolder, Target, is_run_file, is_store_file, names_in,
-    path_in, sync_folder,
+    BASE, Causes, Doing, LOG, Noted, ReadFolder, Target, is_run_file, names_in, path_in,
+    sync_folder,
 };
-use pc_folders::{BaseHead, LOG_HEAD, head_log};
+use pc_folders::{BaseHead, LOG_HEAD, head_log, is_store_file};
 use pc_runs::{NewFiles, RunFolder, Unusable};
 use pc_texts::{FileName, part_name};
 use pc_types::Refusal;
