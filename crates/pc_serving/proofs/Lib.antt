@@ -1,4 +1,5 @@
 mod SweepLaws
 mod AnswerLaws
+mod PieceLaws
 mod InputLaws
 pub mod OpenLaws

@@ -7,6 +7,6 @@ mod pace;
 mod request;
 
 pub use answers::Served;
-pub use lines::next_line;
+pub use lines::{MOST_LINE_BYTES, next_line};
 pub use pace::{Pace, Turned};
 pub use request::{Request, read_request};
