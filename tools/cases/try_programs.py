@@ -14,6 +14,7 @@
     disk_cases.py         commands on a disk that gets full, and how often files are flushed to the disk
     serve_cases.py        stores that are served over pipes, and killed
     door_cases.py         loads and runs into the folder of a served store, folders that are moved while they are served, and lost bases
+    edge_cases.py         what is in place of a served store's files, its last generation, removals that fail, and long lines
     tutorial_cases.py     the commands of docs/TUTORIAL.md
     client_cases.py       the client and the relay of clients/python over served stores: threads, kills, sockets
     embedding_cases.py    the library of pc_c in programs of C, C++ and Python, if there is a C compiler
@@ -48,6 +49,7 @@ from tools.cases import (
     crash_cases,
     disk_cases,
     door_cases,
+    edge_cases,
     embedding_cases,
     kill_cases,
     look_cases,
@@ -193,6 +195,13 @@ def doors():
             yield from door_cases.doors(os.path.abspath(program_of("pcalc")), folder)
 
 
+def edges():
+    """What is wrong at each edge of a served store, by its name."""
+    if os.path.exists(program_of("pcalc")):
+        with tempfile.TemporaryDirectory() as folder:
+            yield from edge_cases.edges(os.path.abspath(program_of("pcalc")), folder)
+
+
 def tutorial():
     """What is wrong with each command of the tutorial, by its name."""
     if os.path.exists(program_of("pcalc")):
@@ -284,7 +293,7 @@ def counted(parts):
 
 
 def main():
-    passed, failed = counted((stored, cases, crashes, kills, disks, serves, doors, tutorial, clients, embedded, refused_growths.growths, pages, tests))
+    passed, failed = counted((stored, cases, crashes, kills, disks, serves, doors, edges, tutorial, clients, embedded, refused_growths.growths, pages, tests))
     print(f"{passed} passed, {failed} failed")
     return 1 if failed else 0
 
