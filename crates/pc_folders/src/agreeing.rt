@@ -3,7 +3,7 @@
 
 use crate::heads::BaseHead;
 use pc_bases::Base;
-use pc_disk::{BASE, FoundFolder, ReadFolder, open_folder, path_in};
+use pc_disk::{BASE, FoundFolder, ReadFolder, is_device, open_folder, path_in};
 use pc_io::Tally;
 use pc_restore::recover_base;
 use pc_types::{Key, Refusal, Value};
@@ -32,6 +32,9 @@ pub fn open_start<'a>(dir: ReadFolder<'a>) -> Result<FoundFolder<'a>, AllocError
 // The number of the run of the folder's base; 0 if it can't be read.
 fn run_of(dir: ReadFolder<'_>) -> Result<u64, AllocError> {
     let path = path_in(dir.rt.alloc(), dir.path, BASE)?;
+    if is_device(dir.rt, path.as_str()) {
+        return Ok(0);
+    }
     let mut head = BaseHead::new();
     let Ok(mut file) = File::open(dir.rt, path.as_str()) else {
         return Ok(0);

@@ -15,7 +15,8 @@ use pc_disk::{
 use pc_engine::World;
 use pc_explanations::{About, Explainer, Served, explain_output};
 use pc_folders::{
-    Doubt, FolderLock, HeldOutput, Leave, Owned, RecoveredFolder, Unowned, open_start, own, tell_left,
+    Doubt, FolderLock, HeldOutput, Leave, Owned, RecoveredFolder, Unowned, open_start, own,
+    tell_left,
 };
 use pc_io::Tally;
 use pc_opening::{Begun, OpenedStore, StoreSize, Succession, open_store};
