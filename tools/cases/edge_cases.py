@@ -10,15 +10,15 @@ import shutil
 import socket
 import subprocess
 
-from tools.cases.case import content_of, piped, written
+from tools.cases.case import content_of, written
 from tools.cases.door_cases import PUT, call, differs
-from tools.cases.serve_cases import SECONDS, answers, generation, served, started
+from tools.cases.serve_cases import MOST_LINE, SECONDS, answers, generation, served, started
 
 NOBODY = 65_534
 LAST = 9_999_999
 READERS = (("recover", "S"), ("dump", "S"), ("verify", "S"))
-# the most bytes of a line with its end; a piece of a longer one; how much memory a process may have that gets it
-MOST_LINE, PIECE, MEMORY = 4_194_304, 1 << 20, 160 << 20
+# a piece of a line that is too long, and how much memory a process may have that gets it
+PIECE, MEMORY = 1 << 20, 160 << 20
 
 
 def bound_socket(path):

@@ -461,15 +461,16 @@ def crowds(program, room):
         yield f"and {sessions} sessions leave what was committed", more
 
 
-LONG = 50_000_000
+# the bytes of a line that is too long, and the most that a line has with its end
+LONG, MOST_LINE = 50_000_000, 4_194_304
 
 
 def long_line(program, room):
-    """A line of 50 MB, whole and truncated."""
-    line = b"put 1 " + b"k" * LONG + b" 1\n"
-    lines = b"begin 1\n" + line + b"put 1 fig 7\ncommit 1\n"
+    """A line of 50 MB, whole and truncated, and one with a key as long as a line may be."""
+    line, most = (b"put 1 " + b"k" * size + b" 1\n" for size in (LONG, MOST_LINE - 9))
+    lines = b"begin 1\n" + line + most + b"put 1 fig 7\ncommit 1\n"
     ran = served(program, room, ("S", "--create", "--run", "1"), lines + line[:-1])
-    wanted = b"ready run 1 pairs 0\nbegun 1\nrefused KeyLength\nok\ncommitted 1\n"
+    wanted = b"ready run 1 pairs 0\nbegun 1\nbad line\nrefused KeyLength\nok\ncommitted 1\n"
     more = [] if (ran.returncode, ran.stdout, ran.stderr) == (0, wanted, b"") else [f"status {ran.returncode}, {ran.stdout[:200]!r}, {ran.stderr[:200]!r}"]
     yield "a line of 50 MB", more + ([] if state_of(os.path.join(room, "S")) == keyed({b"fig": b"7"}) else ["the folder's state differs"])
 
