@@ -2,7 +2,8 @@
 
 Pairs are loaded into a served store, also while it is served; a run is to go into one; files of a run lie beside generations. A served folder
 is renamed, copied over or loses its file `lock` while its process answers: each commit that was answered is in a folder. A generation loses its base. A
-run and a load are killed at each of their calls that change files. Zeros are left of a log, and no bytes of a part. Each case prints what it saw.
+run and a load are killed at each of their calls that change files. Zeros are left of a log, and no bytes of a part. Each command
+that goes on from a folder says what it lacks as `recover` does. Each case prints what it saw.
 """
 
 import os
@@ -12,6 +13,7 @@ import subprocess
 from tools.cases import preload
 from tools.cases.case import content_of, files_of, written
 from tools.cases.kill_cases import killed_at_each_call
+from tools.cases.pair_cases import pointed_run
 from tools.cases.serve_cases import SECONDS, answers, asked, generation, served, started
 from tools.oracle import plain_files
 
@@ -192,6 +194,11 @@ def flushed(program, room):
         yield f"a run {' '.join(words)} flushes before its base is named", differs(before, wanted)
 
 
+def unused_line(found, log):
+    """The line of a log of which no entry is used, since the parts reach further, or nothing."""
+    return b"log unused %d\n" % found.entries if found.point and ("token", "resolve", found.point) not in log.entries else b""
+
+
 def powerless(program, room):
     """Served folders after a power loss: a log of which zeros are left from each page on, or behind each entry, and parts without bytes."""
     puts = b"".join(PUT % (b"k%03d" % number, b"v" * (1 + number * 7 % 900)) for number in range(60))
@@ -205,7 +212,8 @@ def powerless(program, room):
         written(first.replace(os.path.join(room, "S"), place), "log.pcl", whole[:cut] + bytes(len(whole) - cut + PAGE))
         found = plain_files.recover(*files_of(generation(place, 1)))
         is_sound = found.fault in (None, "Short")
-        wanted = (0, b"ready run 2 pairs %d\n" % len(found.pairs), b"") if is_sound else (1, b"", b"log %s\npcalc: copy/gen-0000001: Damaged\n" % str(found.fault).encode())
+        unused = unused_line(found, plain_files.read_log(files_of(generation(place, 1))[2]))
+        wanted = (0, b"ready run 2 pairs %d\n" % len(found.pairs), unused) if is_sound else (1, b"", unused + b"log %s\npcalc: copy/gen-0000001: Damaged\n" % str(found.fault).encode())
         ran = served(program, room, ("copy",), b"")
         lines = differs((ran.returncode, ran.stdout, ran.stderr), wanted)
         lines += [] if len([end for end in ends[1:] if end <= cut]) <= found.entries else [f"{found.entries} entries are whole before byte {cut}"]
@@ -224,9 +232,100 @@ def powerless(program, room):
         yield f"part {number} without bytes", differs((ran.returncode, ran.stdout), (0, b"ready run 2 pairs 60\n") if are_empty else (1, b""))
 
 
+def lacking_folders():
+    """The texts of folders that lack something, by what that is: the files of a run of two points, with these changes."""
+    base, parts, log = pointed_run(2)
+    files = {"base.pcb": base.text(), "part-00001.pcp": parts[1].text(), "part-00002.pcp": parts[2].text(), "log.pcl": log.text()}
+    other, foreign = plain_files.Log(1), plain_files.Log(2)
+    other.entries = [plain_files.commit(1, {b"other%d" % number: b"1"}) for number in range(7)]
+    changes = {
+        "nothing": {},
+        "its log": {"log.pcl": None},
+        "all bytes of its log": {"log.pcl": b""},
+        "the end of its log's header": {"log.pcl": files["log.pcl"][: HEADER - 1]},
+        "all entries of its log": {"log.pcl": files["log.pcl"][:HEADER]},
+        "the last byte of its log": {"log.pcl": files["log.pcl"][:-1]},
+        "a log without zeros behind it": {"log.pcl": files["log.pcl"] + bytes(PAGE)},
+        "a log without damage": {"log.pcl": files["log.pcl"] + b"\0\0\0\1\3"},
+        "the log of its own run, of two with its number": {"log.pcl": other.text()},
+        "a log of its run": {"log.pcl": foreign.text()},
+        "its first part": {"part-00001.pcp": None},
+        "a byte of its last part": {"part-00002.pcp": files["part-00002.pcp"][:-1]},
+        "a byte of its first part": {"part-00001.pcp": files["part-00001.pcp"][:-1]},
+        "the end of its first part": {"part-00001.pcp": files["part-00001.pcp"] + b"\0"},
+        "all bytes of its last part": {"part-00002.pcp": b""},
+        "a part of its run": {"part-00002.pcp": plain_files.Part(9, [(2, 2)], {}).text()},
+        "all of that": {"log.pcl": None, "part-00001.pcp": None, "part-00002.pcp": plain_files.Part(9, [(2, 2)], {}).text(), "x y.pcp": b"PCALCP02"},
+    }
+    return {name: {**files, **change} for name, change in changes.items()}
+
+
+def lacks_of(files):
+    """The lines that tell what these files lack, and whether they are damaged; of files that are refused the line of that."""
+    log, parts = files["log.pcl"], [(name.encode(), text) for name, text in sorted(files.items()) if name.endswith(".pcp") and text is not None]
+    try:
+        found = plain_files.recover(files["base.pcb"], parts, log or b"")
+    except plain_files.Refused as why:
+        return b"pcalc: D: %s\n" % why.name.encode(), None
+    lines, is_headless = [], log is None or len(log) < HEADER
+    if is_headless:
+        lines.append(b"log NoFile\n" if log is None else b"log Short\n")
+    else:
+        lines.append(unused_line(found, plain_files.read_log(log)))
+    is_faulty = found.fault not in (None, "Short")
+    lines += [b"log %s\n" % found.fault.encode()] if is_faulty else []
+    lines += [b"skipped %s %s\n" % (name.replace(b" ", rb"\x20"), reason.encode()) for name, reason in found.skipped]
+    makes_up = not any(files[name.decode()] for name, _ in found.skipped) and not is_headless and not unused_line(found, plain_files.read_log(log))
+    return b"".join(lines), is_headless or is_faulty or bool(found.skipped) and not makes_up
+
+
+def parted(err):
+    """The lines that tell what is lacking, and those that explain it, in the order of the alphabet."""
+    lines = err.splitlines()
+    return sorted(it for it in lines if not it.startswith(b"  ")), sorted(it for it in lines if it.startswith(b"  "))
+
+
+GOING_ON = (("dump", "D"), ("run", "run.pcw", "--from", "D"), ("serve", "N", "--create", "--import", "D"))
+
+
+def lacks(program, room):
+    """Each command that goes on from the state of a folder says alike what it lacks, explained or not."""
+    written(room, "run.pcw", b"client 1\n")
+    for name, files in lacking_folders().items():
+        shutil.rmtree(os.path.join(room, "D"), ignore_errors=True)
+        for file, text in files.items():
+            if text is not None:
+                written(room, f"D/{file}", text)
+        told, is_damaged = lacks_of(files)
+        status, out, err = call(program, room, "recover", "D", "--explain")
+        if is_damaged is None:
+            yield f"recover of a folder without {name}", differs((status, err.splitlines()[:1]), (1, told.splitlines()))
+        else:
+            shown = b"".join(line for line in out.splitlines(keepends=True) if line.startswith((b"log ", b"skipped ")))
+            state = told.removesuffix(shown)
+            print(f"lacks: without {name} {told!r} is told, and explained by {err.decode().splitlines()}")
+            is_short = not shown and not state and bool(err)
+            lines = [] if state.count(b"\n") <= 1 and len(err.splitlines()) == told.count(b"\n") + is_short else [f"{shown!r} and {err!r} are told"]
+            yield f"recover of a folder without {name}", lines
+        for words in GOING_ON:
+            for more in ((), ("--damaged",)):
+                is_ended = is_damaged is None or is_damaged and not more
+                wanted = told + (b"pcalc: D: Damaged\n" if is_damaged and not more else b"")
+                shutil.rmtree(os.path.join(room, "N"), ignore_errors=True)
+                got = call(program, room, *words, *more)
+                yield f"{' '.join(words + more)} of a folder without {name}", differs((got[0], got[2]), (int(is_ended), wanted))
+            shutil.rmtree(os.path.join(room, "N"), ignore_errors=True)
+            heads, reasons = parted(call(program, room, *words, "--damaged", "--explain")[2])
+            yield f"{words[0]} explains what a folder lacks without {name}", differs((heads, reasons), (sorted(told.splitlines()), parted(err)[1]))
+            if is_damaged:
+                shutil.rmtree(os.path.join(room, "N"), ignore_errors=True)
+                last = call(program, room, *words, "--explain")[2].splitlines()[-2:]
+                yield f"{words[0]} explains that it is damaged without {name}", differs((last[0], last[1][:2]), (b"pcalc: D: Damaged", b"  "))
+
+
 def doors(program, folder):
     """What is wrong with each door, by its name."""
-    for cases in (loads, mixed, foreign_parts, moves, lost_bases, first_calls, flushed, powerless):
+    for cases in (loads, mixed, foreign_parts, moves, lost_bases, first_calls, flushed, powerless, lacks):
         room = os.path.join(folder, cases.__name__)
         os.makedirs(room)
         yield from cases(program, room)

@@ -52,8 +52,8 @@ def dump_cases(folder):
     folder_of(folder, "logged", keyed({b"a": b"1", b"b": b"2"}), [commit(1, {b"b": None, b"c": b"3"})])
     yield Case("a dump of a base and a log", ("dump", "logged"), 0, b"a 1\nc 3\n")
     os.remove(os.path.join(folder, "logged", "log.pcl"))
-    yield Case("a dump without its log", ("dump", "logged"), 1, err=b"pcalc: logged: Damaged\n")
-    yield Case("a dump without its log, with damage accepted", ("dump", "logged", "--damaged"), 0, b"a 1\nb 2\n")
+    yield Case("a dump without its log", ("dump", "logged"), 1, err=b"log NoFile\npcalc: logged: Damaged\n")
+    yield Case("a dump without its log, with damage accepted", ("dump", "logged", "--damaged"), 0, b"a 1\nb 2\n", b"log NoFile\n")
     yield Case("dump --help", ("dump", "--help"), 0, parts=[b"<DIR>", b"--space <N>", b"--prefix <WORD>", b"--json", b"--point <N>", b"--damaged"])
 
 

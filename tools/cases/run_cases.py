@@ -654,7 +654,7 @@ def damage_cases(folder):
     for name in ("base.pcb", "part-00001.pcp", "part-00002.pcp"):
         written(folder, f"logless/{name}", content_of(folder, f"first/{name}"))
     words = ("run", "next.pcw", "--from", "logless")
-    yield Case("a log that is missing", words, 1, err=b"pcalc: logless: Damaged\n")
+    yield Case("a log that is missing", words, 1, err=b"log NoFile\npcalc: logless: Damaged\n")
     written(folder, "logless/log.pcl", content_of(folder, "first/log.pcl")[:-1])
     yield Case("a log whose last entry is truncated, as after a kill", words, 0, expected)
     nothing = {"made/base.pcb": None, "made/base.pcb.new": None, "made/log.pcl": None}

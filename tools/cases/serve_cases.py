@@ -417,8 +417,8 @@ def imports(program, room):
     yield "but that may be tried again", answers(program, room, ("N", "--create", "--import", "old"), ((b"", b"ready run 7 pairs 60"),))
     yield "a store starts from another one", answers(program, room, ("T", "--create", "--import", "S"), ((b"", b"ready run 8 pairs 61"),), 0, b"generation 1\n")
     written(room, "old/log.pcl", b"")
-    yield "a damaged folder is refused", answers(program, room, ("U", "--create", "--import", "old"), (), 1, b"pcalc: old: Damaged\n")
-    yield "and taken by --damaged", answers(program, room, ("U", "--create", "--import", "old", "--damaged"), ((b"", b"ready run 7 pairs %d" % len(plain_files.recover(*files_of(os.path.join(room, "old"))).pairs)),))
+    yield "a damaged folder is refused", answers(program, room, ("U", "--create", "--import", "old"), (), 1, b"log Short\npcalc: old: Damaged\n")
+    yield "and taken by --damaged", answers(program, room, ("U", "--create", "--import", "old", "--damaged"), ((b"", b"ready run 7 pairs %d" % len(plain_files.recover(*files_of(os.path.join(room, "old"))).pairs)),), 0, b"log Short\n")
     os.makedirs(os.path.join(room, "new"))
     ran = call("run", "run.pcw", "--from", "S", "--dir", "new", "--times", "S/gen-0000001/times")
     err = b"generation 1\npcalc: S/gen-0000001/times: it would stand in the folder of --from\n"

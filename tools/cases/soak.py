@@ -468,7 +468,9 @@ class Serves:
                 states.append(store.pairs())
             wanted = b"".join((plain_serving.Served(pairs, run).ready(), *texts))
             is_whole = (status, out) == (0, wanted)
-            if err or run <= found or not (is_whole or most is not None and status == -signal.SIGKILL and wanted.startswith(out)):
+            # a process that is killed may leave a log that ends before the token of a point whose part is there
+            is_quiet = re.fullmatch(rb"(log unused \d+\n)?", err) is not None
+            if not is_quiet or run <= found or not (is_whole or most is not None and status == -signal.SIGKILL and wanted.startswith(out)):
                 return [f"killed after {most} lines of {lines[at:]}", f"expected {wanted!r}", f"status {status}, {out!r} and {err!r}"]
             answered = self.answered(out, wanted, texts)
             pairs, wrong = self.recovered(place)

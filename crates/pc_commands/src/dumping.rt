@@ -72,6 +72,9 @@ fn dump<E: Write>(
     let (rt, causes) = (explainer.rt, explainer.causes);
     let mut out = Tally::new(output_before(rt, causes, io::writer(rt))?);
     let dir = ReadFolder { rt, path, causes };
+    if options.point.is_none() {
+        explainer.tell_truncated(errors);
+    }
     let choice = Choice {
         point: options.point.map(|point| Point(point)),
         space: options.space,

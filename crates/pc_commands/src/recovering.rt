@@ -1,6 +1,8 @@
 //! Prints the state recovered from a folder's files, or from those of the generation that counts.
-use pc_disk::{Causes, FoundFolder, ReadFolder, open_folder, output_before, tell_unopened};
-use pc_explanations::{About, Explainer, Lacking, explain_output};
+use pc_disk::{
+    Causes, FoundFolder, LateFile, ReadFolder, open_folder, output_before, tell_unopened,
+};
+use pc_explanations::{About, Explainer, Lacking, SkippedLines, explain_output};
 use pc_folders::RecoveredFolder;
 use pc_io::Tally;
 use pc_options::RecoverOptions;
@@ -50,33 +52,28 @@ fn recover<E: Write>(
     errors: &mut Tally<E>,
 ) -> io::Result<u8> {
     let (rt, causes) = (explainer.rt, explainer.causes);
-    let mut out = Tally::new(output_before(rt, causes, io::writer(rt))?);
+    let stdout = output_before(rt, causes, io::writer(rt))?;
+    let mut out = Tally::new(SkippedLines::new(rt.alloc(), stdout));
     let dir = ReadFolder { rt, path, causes };
-    recover_to(dir, explainer, options, &mut out, errors)
+    let ended = recover_to(dir, options, &mut out, errors)?;
+    if let (true, Some(lacks)) = (explainer.is_on, &ended.lacks) {
+        let skipped = out.into_inner().into_lines();
+        let _ = Lacking { dir }.put(lacks, &skipped, errors);
+    }
+    Ok(ended.status)
 }
 
-fn recover_to<W: Write, E: Write>(
-    dir: ReadFolder<'_>,
-    explainer: &Explainer<'_>,
+fn recover_to<'a, W: Write, E: Write>(
+    dir: ReadFolder<'a>,
     options: &RecoverOptions<'_>,
     out: &mut Tally<W>,
     errors: &mut Tally<E>,
-) -> io::Result<u8> {
+) -> io::Result<EndedRecovery<LateFile<'a>>> {
     let FoundFolder { folder, unopened } = open_folder(dir)?;
     tell_unopened(&unopened, errors);
     let mode = RecoveryMode {
         is_strict: options.is_strict,
         has_pairs: true,
     };
-    let ended = run_recover(dir.rt.alloc(), dir.path, folder, mode, out, errors);
-    if explainer.is_on {
-        tell_lacks(dir, &ended, errors);
-    }
-    Ok(ended.status)
-}
-
-fn tell_lacks<R, E: Write>(dir: ReadFolder<'_>, ended: &EndedRecovery<R>, errors: &mut Tally<E>) {
-    if let Some(lacks) = &ended.lacks {
-        let _ = Lacking { dir, lacks: *lacks }.put(errors);
-    }
+    Ok(run_recover(dir.rt.alloc(), dir.path, folder, mode, out, errors))
 }

@@ -193,8 +193,8 @@ impl<'a> Damage<'a> {
         Ok(())
     }
 
-    /// Describes the fault of a text, and its place.
-    pub fn put_text_fault(
+    // Describes the fault of a text, and its place.
+    fn put_text_fault(
         &self,
         kind: TextKind,
         path: &str,

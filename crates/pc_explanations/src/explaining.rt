@@ -1,7 +1,8 @@
 //! The explanation of a fault, printed after its line: which file, the operation, the place, and the system's error.
 use crate::damage::Damage;
+use crate::lacking::Lacking;
 use crate::meanings::meaning_of;
-use pc_disk::{BASE, Cause, Causes, Doing, INPUT, NO_FILE, OUTPUT, is_device};
+use pc_disk::{BASE, Cause, Causes, Doing, INPUT, NO_FILE, OUTPUT, ReadFolder, is_device};
 use pc_io::Tally;
 use pc_texts::put_name;
 use pc_types::Refusal;
@@ -124,10 +125,33 @@ impl<'a> Explainer<'a> {
     /// The lines that explain this one: none if it reports no fault, or an allocation failed.
     fn explanation(&self, line: &[u8]) -> Vec<u8> {
         let mut lines = Tally::new(Vec::new(self.rt.alloc()));
-        if let Some((name, word)) = fault_in(line) {
-            let _ = self.explain(name, word, &mut lines);
-        }
+        let _ = match (fault_in(line), self.recovered()) {
+            (Some((name, word)), _) => self.explain(name, word, &mut lines),
+            (None, Some(dir)) => Lacking { dir }.put_line(line, &mut lines),
+            (None, None) => Ok(()),
+        };
         lines.into_inner()
+    }
+
+    // The folder of which what it lacks is reported, if there is one.
+    fn recovered(&self) -> Option<ReadFolder<'a>> {
+        let path = match self.about {
+            About::Folder(path) => path,
+            About::Start(path, _) => path,
+            _ => return None,
+        };
+        Some(ReadFolder {
+            rt: self.rt,
+            path,
+            causes: self.causes,
+        })
+    }
+
+    /// Writes the line of the truncated log of the folder from whose state a command goes on, if it is, and if faults are explained.
+    pub fn tell_truncated<E: Write>(&self, errors: &mut Tally<E>) {
+        if let (true, Some(dir)) = (self.is_on, self.recovered()) {
+            let _ = Lacking { dir }.put_truncated(errors);
+        }
     }
 
     // Explains the fault of this word, which was reported by this name.
@@ -141,6 +165,8 @@ impl<'a> Explainer<'a> {
             word,
         };
         let is_told = match self.about {
+            // The lines before say what is damaged.
+            _ if word == b"Damaged".as_slice() => false,
             About::Parts(paths) => damage.put_of_parts(paths, lines)?,
             About::Folder(dir) => damage.put_of_folder(dir, lines)?,
             About::Start(old, _) if is_of_folder(name, old) => damage.put_of_folder(old, lines)?,

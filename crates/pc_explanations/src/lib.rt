@@ -5,6 +5,8 @@ mod damage;
 mod explaining;
 mod lacking;
 mod meanings;
+mod skipped;
 
 pub use explaining::{About, Explained, Explainer, Served, explain_output, is_explained};
 pub use lacking::Lacking;
+pub use skipped::SkippedLines;

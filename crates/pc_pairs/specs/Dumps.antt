@@ -10,7 +10,7 @@ use Rattle.pc_types.specs.declared.refusal.Refusal.TheVariants.{Device, OutOfMem
 use Rattle.pc_io.specs.declared.tally.Tally.{Tally}
 use Rattle.pc_model.specs.Database.{Database}
 use Rattle.pc_recover.specs.Recovery.{Recovery, recovery}
-use Rattle.pc_restore.specs.Bases.{IsBaseUnmade, TellsDamage}
+use Rattle.pc_restore.specs.Bases.{IsBaseUnmade, TellsLacks}
 use Rattle.pc_restore.specs.Lacks.{lacks_of, refuses}
 use Rattle.pc_restore.specs.Recoveries.{HoldsAll}
 use Rattle.pc_restore.specs.declared.recovery.Folder.{Folder}
@@ -71,11 +71,11 @@ PutsUntil contents old new (Err why) text =
     SendsBeginning contents old new text × (((why ≡ Device) × HasRisen (failures_of old) (failures_of new)) ⊎ ((why ≡ OutOfMemory) × (failures_of new ≡ failures_of old)))
 
 -- what is recovered of the folder was written: the lines of its chosen pairs. The folder isn't damaged, or damage is accepted, and what
--- is damaged was reported. Said where the files' bytes are known.
+-- it lacks was reported. Said where the files' bytes are known.
 abbrev pub Dumps : {R T E : Type 0} → (R → Option (List ℕ)) → (T → Option (List ℕ)) → (E → Option (List ℕ)) → Folder R → Choice → Bool → Tally T → Tally T → Tally E → Tally E → Type 0
 Dumps remaining contents reported folder choice accepts_damage old new told_old told_new = (base : List ℕ) (names parts : List (List ℕ)) (log : List ℕ) → HoldsAll remaining folder base names parts log →
     (found : Recovery) × (recovery base parts log ≡ Ok found) × Appends (contents (inner_of old)) (contents (inner_of new)) (dump_text choice found.pairs)
-    × (refuses accepts_damage (lacks_of (is_ok folder.log) parts log found) ≡ false) × TellsDamage reported told_old told_new names found
+    × (refuses accepts_damage (lacks_of (is_ok folder.log) parts log found) ≡ false) × TellsLacks reported told_old told_new names found (lacks_of (is_ok folder.log) parts log found)
 
 -- the same of a beginning of the lines
 abbrev pub DumpsInPart : {R T : Type 0} → (R → Option (List ℕ)) → (T → Option (List ℕ)) → Folder R → Choice → Tally T → Tally T → Type 0

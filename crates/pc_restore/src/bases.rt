@@ -1,14 +1,18 @@
 //! A base for a run that goes on from the state recovered from a folder's files.
 ghost use Rattle.std.specs.Prelude.{◌≡◌, ◌⊎◌, ◌+◌, ◌≤◌, ◌<◌, ◌^◌, None, length, IfErr, IfOk, IfSome};
 ghost use Rattle.pc_types.specs.declared.limits.TheConstants.{MOST_FILE_ENTRIES};
+ghost use Rattle.pc_io.specs.Tallies.{Puts};
 ghost use Rattle.pc_model.specs.Database.{KeysRise, database_of};
 ghost use Rattle.pc_part.specs.Parts.{IsWithinLimit};
-ghost use Rattle.pc_restore.specs.Bases.{IsBaseMade, IsBaseUnmade};
+ghost use Rattle.pc_recover.specs.Recovery.{recovery_of};
+ghost use Rattle.pc_restore.specs.Bases.{IsBaseMade, IsBaseUnmade, lacks_text, log_state_line, unused_line};
 ghost use Rattle.pc_restore.specs.Lacks.{refuses};
+ghost use Rattle.pc_restore.specs.Recoveries.{names_of};
 
-use crate::lacks::Lacks;
+use crate::lacks::{Lacks, LogHeader};
+use crate::reading::PartBytes;
 use crate::recovery::{Folder, Lost, Worth, recover_read};
-use crate::reports::put_damage;
+use crate::reports::{put_count, put_damage};
 use pc_bases::Base;
 use pc_io::Tally;
 use pc_recover::Recovered;
@@ -17,9 +21,9 @@ use std::alloc::Global;
 use std::io::{Read, Write};
 
 /// A base for a run that goes on from the state recovered from a folder's files: it has the recovered pairs, its point is 0,
-/// and its run's number is that of the folder's base plus 1. The gaps of the folder's files are reported on the error writer, as
-/// far as it takes that: a line of the fault of the log's rest, if it was not only truncated, and one of each part that was
-/// skipped.
+/// and its run's number is that of the folder's base plus 1. What the folder's files lack is reported on the error writer, as
+/// far as it takes that: a line of the log, if it isn't there, ends within its header, or has no entry that is used; one of the fault
+/// of its rest, if it was not only truncated; and one of each part that was skipped.
 ///
 /// If nothing is recovered nothing is reported, and the cause is returned. Nor is there a base if the number of the folder's run is
 /// 2^64 - 1, the greatest one, or if there are more pairs than the 4,294,967,295 that a base may have: then the error is `Full`. If
@@ -41,13 +45,50 @@ pub fn recover_base<R: Read + Drop, E: Write>(
     } = recover_read(alloc, folder)?;
     match next_run(&recovered) {
         Some(run) => {
-            let _ = put_damage(errors, &parts, &recovered);
+            let _ = put_lacks(errors, &parts, &recovered, &lacks);
             if refuses(accepts_damage, &lacks) {
                 return Err(Lost::Damaged);
             }
             Ok(start(run, recovered))
         }
         None => Err(Lost::Folder(Refusal::Full)),
+    }
+}
+
+// Writes a line for each thing that the folder of parts with these names lacks.
+fn put_lacks<E: Write>(
+    errors: &mut Tally<E>,
+    parts: &[PartBytes],
+    recovered: &Recovered,
+    lacks: &Lacks,
+) -> Result<(), Refusal>
+    ensures { Puts E.contents errors.old errors.new result (lacks_text (names_of parts.now) (recovery_of recovered.now) lacks.now) }
+{
+    put_log_state(errors, lacks.header, lacks.unused)?;
+    put_damage(errors, parts, recovered)
+}
+
+// The line of a log that isn't there, that ends within its header, or of which no entry is used.
+fn put_log_state<E: Write>(
+    errors: &mut Tally<E>,
+    header: LogHeader,
+    unused: Option<usize>,
+) -> Result<(), Refusal>
+    ensures { Puts E.contents errors.old errors.new result (log_state_line header unused) }
+{
+    match header {
+        LogHeader::Missing => errors.put(b"log NoFile\n"),
+        LogHeader::Cut => errors.put(b"log Short\n"),
+        LogHeader::Whole => put_unused(errors, unused),
+    }
+}
+
+fn put_unused<E: Write>(errors: &mut Tally<E>, unused: Option<usize>) -> Result<(), Refusal>
+    ensures { Puts E.contents errors.old errors.new result (unused_line unused) }
+{
+    match unused {
+        Some(count) => put_count(errors, b"log unused ", count as u64),
+        None => Ok(()),
     }
 }
 

@@ -83,8 +83,12 @@ fn put_point<W: Write>(out: &mut Tally<W>, point: Point) -> Result<(), Refusal>
     out.put_all(&[b"point ", buffer.format(point.0).as_bytes(), b"\n"])
 }
 
-// A line of a word and a number.
-fn put_count<W: Write>(out: &mut Tally<W>, word: &[u8], number: u64) -> Result<(), Refusal>
+/// Writes a line of a word and a number.
+pub(crate) fn put_count<W: Write>(
+    out: &mut Tally<W>,
+    word: &[u8],
+    number: u64,
+) -> Result<(), Refusal>
     ensures { Puts W.contents out.old out.new result (count_line word.now number) }
 {
     let mut buffer = Buffer::new();

@@ -148,6 +148,7 @@ fn serve_told<'a>(store: Store<'a>) -> io::Result<u8> {
     let stderr = store.dir.rt.stderr();
     let mut errors = explainer.errors(io::writer(&stderr));
     let status = if is_told(&store, &mut errors)? {
+        explainer.tell_truncated(&mut errors);
         serve_from(&store, &mut errors)?
     } else {
         FAILED

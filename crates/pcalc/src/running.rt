@@ -99,6 +99,9 @@ fn run_told<H: Threads + Wait + Sync>(
     let behind = Behind::new(setting.progress, threads, io::writer(&stderr));
     let mut errors = explainer.errors(behind);
     let is_told = is_from_told(setting, options, &mut errors)?;
+    if is_told {
+        explainer.tell_truncated(&mut errors);
+    }
     let status = match options.times {
         _ if !is_told => FAILED,
         Some(path) => run_timed(setting, threads, options, path, &mut errors)?,

@@ -295,19 +295,18 @@ fn with_log(alloc: Global, length: usize) -> Folder<Tape<'static>> {
 #[test]
 fn makes_no_base_beside_a_log_without_its_header(rt: HostRuntime) {
     let folder = alone(rt.alloc(), Tape::new(&EMPTY_BASE, false));
-    assert!(rt; is_refused(rt.alloc(), folder, "pcalc: d\\x20d: Damaged\n"));
+    let told = "log NoFile\npcalc: d\\x20d: Damaged\n";
+    assert!(rt; is_refused(rt.alloc(), folder, told));
     for length in [0usize, 1, 19] {
         let folder = with_log(rt.alloc(), length);
-        assert!(rt;
-            is_refused(rt.alloc(), folder, "pcalc: d\\x20d: Damaged\n"),
-            "{length}"
-        );
+        let told = "log Short\npcalc: d\\x20d: Damaged\n";
+        assert!(rt; is_refused(rt.alloc(), folder, told), "{length}");
     }
 }
 
-// Whether a base is made of the folder if damage isn't accepted, and nothing is reported.
-fn is_taken(alloc: Global, folder: Folder<Tape>) -> bool {
-    let mut errors = Tally::new(Sink::of(b""));
+// Whether a base is made of the folder if damage isn't accepted, and just this is reported.
+fn is_taken(alloc: Global, folder: Folder<Tape>, told: &str) -> bool {
+    let mut errors = Tally::new(Sink::of(told.as_bytes()));
     recover_base(alloc, folder, false, &mut errors).is_ok() && went_out(errors)
 }
 
@@ -316,17 +315,17 @@ fn is_taken(alloc: Global, folder: Folder<Tape>) -> bool {
 fn makes_a_base_beside_a_log_that_is_cut_off(rt: HostRuntime) {
     for length in 20..=SIX_ENTRIES.len() {
         let folder = with_log(rt.alloc(), length);
-        assert!(rt; is_taken(rt.alloc(), folder), "{length}");
+        assert!(rt; is_taken(rt.alloc(), folder, ""), "{length}");
     }
 }
 
-// Nor is one that ends before the token of the point whose part is there.
+// Nor is one that ends before the token of the point whose part is there, but that is reported.
 #[test]
 fn makes_a_base_of_a_point_whose_token_is_cut_off(rt: HostRuntime) -> Result<(), Fail> {
     let parts = parts_of(rt.alloc(), &[("part-00001.pcp", Ok(&TWO_KEYS), false)])?;
     let mut folder = with_log(rt.alloc(), 20);
     folder.parts = Ok(parts);
-    assert!(rt; is_taken(rt.alloc(), folder));
+    assert!(rt; is_taken(rt.alloc(), folder, "log unused 0\n"));
     Ok(())
 }
 

@@ -6,9 +6,9 @@ use Rattle.pc_model.specs.Database.{database_of}
 use Rattle.pc_model.specs.Files.{BaseFile}
 use Rattle.pc_recover.specs.Recovery.{recovery_of}
 use Rattle.pc_restore.specs.declared.lacks.Lacks.{Lacks}
+use Rattle.pc_restore.specs.Bases.{lacks_text}
 use Rattle.pc_restore.specs.Lacks.{is_damaged, refuses}
 use Rattle.pc_restore.specs.Recoveries.{names_of}
-use Rattle.pc_restore.specs.Reports.{damage_text}
 use Rattle.pc_restore.proofs.FolderBases.{has_next, no_next, refused}
 use Rattle.pc_restore.proofs.bases.recover_base.Goals as goal
 
@@ -43,8 +43,9 @@ returns-then-refuses-clause-cause g c =
               has_next recovered.run _ (2 ^ 64) MOST_FILE_ENTRIES recovered.pairs.items c.in_ok-parts.ensures.rise c.in-Some.ensures.next.0 c.in-Some.ensures.next.1 c.in-Some.ensures.next.2,
               subst (λ (lacks : Lacks). is_damaged lacks ≡ true) worth.3 damaged.1,
               (
-                c.put_damage.result,
-                subst (λ (ns : List (List ℕ)). Puts g.E.Write.contents c.args.errors.now c.put_damage.new.out c.put_damage.result (damage_text ns (recovery_of recovered))) (ap names_of c.deref.ensures.value ∙ worth.0) c.put_damage.ensures,
+                c.put_lacks.result,
+                subst (λ (lacks : Lacks). Puts g.E.Write.contents c.args.errors.now c.put_lacks.new.errors c.put_lacks.result (lacks_text names (recovery_of recovered) lacks)) worth.3
+                    (subst (λ (ns : List (List ℕ)). Puts g.E.Write.contents c.args.errors.now c.put_lacks.new.errors c.put_lacks.result (lacks_text ns (recovery_of recovered) c.in_ok-parts.field-0.lacks)) (ap names_of c.deref.ensures.value ∙ worth.0) c.put_lacks.ensures),
               ),
             );
       },
@@ -64,8 +65,9 @@ returns-in-Some-clause-made g c =
             c.start.ensures ∙ ap (λ (run : ℕ). record { run = run; point = 0; pairs = database_of recovered.pairs.items }) c.in-Some.ensures.next.0,
             subst (λ (lacks : Lacks). refuses c.args.accepts_damage lacks ≡ false) worth.3 (sym c.refuses.ensures ∙ c.if-refuses.false),
             (
-              c.put_damage.result,
-              subst (λ (ns : List (List ℕ)). Puts g.E.Write.contents c.args.errors.now c.put_damage.new.out c.put_damage.result (damage_text ns (recovery_of recovered))) (ap names_of c.deref.ensures.value ∙ worth.0) c.put_damage.ensures,
+              c.put_lacks.result,
+              subst (λ (lacks : Lacks). Puts g.E.Write.contents c.args.errors.now c.put_lacks.new.errors c.put_lacks.result (lacks_text names (recovery_of recovered) lacks)) worth.3
+                  (subst (λ (ns : List (List ℕ)). Puts g.E.Write.contents c.args.errors.now c.put_lacks.new.errors c.put_lacks.result (lacks_text ns (recovery_of recovered) c.in_ok-parts.field-0.lacks)) (ap names_of c.deref.ensures.value ∙ worth.0) c.put_lacks.ensures),
             ),
           );
     }
