@@ -2,8 +2,9 @@
 """Runs a workload into a folder, joins parts, recovers a folder, and runs the tests of the crates `TESTERS` that are named for it, once for each growth
 of memory that they ask for, with that growth refused. `try_programs.py` does so in the gate; by hand this prints its counts.
 
-The run, `pcalc run --dir`, must end whichever growth is refused: with status 1, nothing printed and at most one fault reported, or with status 0,
-and then with all of its transactions, or with one given up and all others. So must a collapse and a recovery, which print and write everything. A test's name
+The run, `pcalc run --dir`, must end whichever growth is refused: with status 1, nothing printed and one fault reported, by the name of a file or folder that it
+is about, or with status 0, and then with all of its transactions, or with one given up and all others. So must the other commands, which print and write
+everything. Only while the command line is read is no fault reported: such growths come first. No log is left where no base is. A test's name
 ends in `at_each_refused_growth`: it asks again after an allocation failure, and checks that the end is the same as with ample memory, so it passes
 whichever growth is refused. How many growths a run asks for varies with its threads.
 
@@ -22,7 +23,7 @@ if __name__ == "__main__":
     sys.path.insert(0, os.path.join(os.path.dirname(os.path.abspath(__file__)), "..", ".."))
 
 from tools import ROOT
-from tools.cases import preload
+from tools.cases import look_cases, preload
 from tools.cases.case import written
 from tools.oracle import plain_files
 from tools.oracle.plain_store import keyed
@@ -38,7 +39,8 @@ ALL = len(NAMES) * COUNT
 CREW = ("--workers", "3", "--collapsers", "3")
 MARK = "at_each_refused_growth"
 REFUSED = b"a growth was refused\n"
-FAULT = re.compile(rb"(pcalc: [\w.-]+: (OutOfMemory|NoThread)\n)?")
+FAULT = re.compile(rb"pcalc: ([\w./-]+): (?:OutOfMemory|NoThread)\n")
+PART = re.compile(rb"part-\d{5}\.pcp")
 MOST_GROWTHS = 10_000
 LANES = os.cpu_count() or 1
 SECONDS = 60
@@ -68,17 +70,18 @@ def refused_each(call):
             yield from some
             if len(some) < LANES or any(result[0] is None for _, result in some):
                 return
-    yield MOST_GROWTHS, (None, b"", b"no end of growths", True, False)
+    yield MOST_GROWTHS, (None, b"", b"no end of growths", True, False, False)
 
 
 class Command:
-    """Words of the program, the files that they need, what may be printed with status 0, and which file then has which text."""
+    """Words of the program, the files that they need, what may be printed with status 0, and which file then has which text. With status 1 nothing
+    is printed, or, of a command that prints as it goes, a beginning."""
 
-    def __init__(self, name, words, files, printed, output=(os.devnull, b"")):
-        self.name, self.words, self.files, self.printed, self.output = name, words, files, printed, output
+    def __init__(self, name, words, files, printed, output=(os.devnull, b""), prints_as_it_goes=False):
+        self.name, self.words, self.files, self.printed, self.output, self.prints_as_it_goes = name, words, files, printed, output, prints_as_it_goes
 
     def call(self, library, program, room, number):
-        """The result with the growth of this number refused, in a folder of its own, and whether the output is right."""
+        """The result with the growth of this number refused, in a folder of its own, and whether the output is right, and no log is left alone."""
         folder = os.path.join(room, str(number))
         os.makedirs(os.path.join(folder, "left"))
         for name, text in self.files.items():
@@ -88,38 +91,62 @@ class Command:
         if os.path.exists(path):
             with open(path, "rb") as it:
                 text = it.read()
+        left = os.listdir(os.path.join(folder, "left"))
         shutil.rmtree(folder)
-        return *result, text == self.output[1]
+        return *result, text == self.output[1], "log.pcl" not in left or "base.pcb" in left
 
-    def is_right(self, status, printed, err, is_written):
-        """Whether it has ended as it must."""
+    def is_right(self, status, printed, err, is_written, is_clean):
+        """Whether it has ended as it must, but that it may have reported nothing."""
         if status == 0:
             return printed in self.printed and not err and is_written
-        return status == 1 and not printed and FAULT.fullmatch(err) is not None and not (is_written and self.output[1])
+        is_begun = any(text.startswith(printed) for text in self.printed) if self.prints_as_it_goes else not printed
+        return status == 1 and is_begun and is_clean and (not err or self.is_told(err)) and not (is_written and self.output[1])
+
+    def is_told(self, err):
+        """Whether a fault is reported, by a name that the command is about."""
+        found = FAULT.fullmatch(err)
+        about = [word.encode() for word in (*self.words, *map(os.path.basename, self.files), "base.pcb", "log.pcl")]
+        return found is not None and (PART.fullmatch(found[1]) is not None or any(found[1] == word or found[1].startswith(word + b"/") for word in about))
 
 
 PARTS = {f"{point}.pcp": plain_files.Part(1, [(point, point)], keyed({b"a key of many letters": (point, b"%d" % point), b"b": (point, None)})) for point in (1, 2, 3)}
 # The second one is of format 01, as the base is.
 TEXTS = {name: part.text(plain_files.FIRST if name == "2.pcp" else plain_files.SECOND) for name, part in PARTS.items()}
 LOG = plain_files.Log(1)
-LOG.entries = [plain_files.commit(1, {b"another key of many letters": b"x"}, 7)]
+PHASES = [("token", phase, point) for point in (1, 2, 3) for phase in ("prepare", "resolve", "capture", "complete", "rest")]
+LOG.entries = [*PHASES, plain_files.commit(1, {b"another key of many letters": b"x"}, 7)]
 FOLDER = {"base.pcb": plain_files.Base(1, 0, keyed({b"c": b"a value of many letters"})).text(plain_files.FIRST), "log.pcl": LOG.text(), **TEXTS}
-STATE = plain_files.recover(FOLDER["base.pcb"], [*TEXTS.items()], FOLDER["log.pcl"]).text()
+FOUND = plain_files.recover(FOLDER["base.pcb"], [*TEXTS.items()], FOLDER["log.pcl"])
+STATE, PAIRS = FOUND.text(), len(FOUND.pairs)
+DUMPED = b"".join(STATE.splitlines(keepends=True)[-PAIRS:])
+KINDS = (("base.pcb", "base"), *((name, "part") for name in TEXTS), ("log.pcl", "log"))
+VERIFIED = b"".join(name.encode() + look_cases.found_in(kind, FOLDER[name])[0] for name, kind in KINDS) + STATE.removesuffix(DUMPED)
+OLD = {"growths.pcw": b"client 1\n", **{f"old/{name}": text for name, text in FOLDER.items()}}
+FROM_OLD = b"commits 0\ngave up 0\npoints 0\ncollapsed none\ncheck ok\n"
 COMMANDS = (
     Command("a run into a folder", ("run", "growths.pcw", "--dir", "left", *CREW), {"growths.pcw": WORKLOAD}, [printed_with(0), printed_with(1)]),
     Command("a collapse", ("collapse", "all.pcp", *TEXTS), TEXTS, [b"points 1-3 entries 2\n"], ("all.pcp", plain_files.all_joined([*PARTS.values()]).text())),
     Command("a recovery", ("recover", "."), FOLDER, [STATE]),
+    Command("a dump", ("dump", "."), FOLDER, [DUMPED]),
+    Command("a run from a folder", ("run", "growths.pcw", "--from", "old", *CREW), OLD, [FROM_OLD]),
+    Command("a load", ("load", "left", "lines"), {"lines": DUMPED}, [b""], ("left/log.pcl", plain_files.Log(1).text())),
+    Command("a verification", ("verify", "old"), OLD, [VERIFIED], prints_as_it_goes=True),
+    Command("a store that is served", ("serve", "left", "--create", "--run", "1"), {}, [b"ready run 1 pairs 0\n"], prints_as_it_goes=True),
+    Command("an import", ("serve", "left", "--create", "--import", "old"), OLD, [b"ready run 2 pairs %d\n" % PAIRS], prints_as_it_goes=True),
 )
 
 
 def ended(library, program, room, command):
     """What is wrong with the calls of a command, a line each; the counts are printed."""
-    ends, lines = {0: 0, 1: 0}, []
-    for number, (status, printed, err, _, is_written) in refused_each(lambda number: command.call(library, program, room, number)):
+    ends, lines, silent = {0: 0, 1: 0}, [], 0
+    for number, (status, printed, err, _, is_written, is_clean) in refused_each(lambda number: command.call(library, program, room, number)):
         ends[status] = ends.get(status, 0) + 1
-        if not command.is_right(status, printed, err, is_written):
-            lines.append("growth %d: status %s, printed %r and %r, written %s" % (number, status, printed, err, is_written))
-    print("%s: %d growths, refused in turn; status 1 at %d, status 0 at %d" % (command.name, sum(ends.values()), ends[1], ends[0]), flush=True)
+        is_silent = status == 1 and not err
+        if not command.is_right(status, printed, err, is_written, is_clean) or is_silent and number != silent + 1:
+            lines.append("growth %d: status %s, printed %r and %r, written %s, clean %s" % (number, status, printed, err, is_written, is_clean))
+        silent += is_silent
+    counts = (command.name, sum(ends.values()), ends[1], silent, ends[0])
+    print("%s: %d growths, refused in turn; status 1 at %d, the first %d of them without a line; status 0 at %d" % counts, flush=True)
     return lines if ends[1] else [*lines, "none ended with status 1"]
 
 

@@ -106,30 +106,35 @@ class Growths(InFolder):
 
     def test_growths_without_an_end_are_reported(self):
         self.replace(refused_growths, LANES=2, MOST_GROWTHS=5)
-        self.assertEqual([*refused_growths.refused_each(self.calls(100))][-1], (5, (None, b"", b"no end of growths", True, False)))
+        self.assertEqual([*refused_growths.refused_each(self.calls(100))][-1], (5, (None, b"", b"no end of growths", True, False, False)))
 
     def test_how_a_run_may_end(self):
         run = refused_growths.COMMANDS[0]
         whole, less = refused_growths.printed_with(0), refused_growths.printed_with(1)
         for right in ((0, whole, b""), (0, less, b""), (1, b"", b""), (1, b"", b"pcalc: growths.pcw: OutOfMemory\n"), (1, b"", b"pcalc: growths.pcw: NoThread\n")):
-            self.assertTrue(run.is_right(*right, True), right)
-        self.assertFalse(run.is_right(0, whole, b"", False))
-        self.assertTrue(run.is_right(1, b"", b"", False))
+            self.assertTrue(run.is_right(*right, True, True), right)
+        self.assertFalse(run.is_right(0, whole, b"", False, True))
+        self.assertTrue(run.is_right(1, b"", b"", False, True))
+        self.assertFalse(run.is_right(1, b"", b"", False, False))
         for wrong in (
             (0, refused_growths.printed_with(2), b""),
             (0, whole, b"pcalc: growths.pcw: OutOfMemory\n"),
             (1, whole, b""),
             (1, b"", b"pcalc: growths.pcw: Full\n"),
             (1, b"", b"pcalc: growths.pcw: OutOfMemory\n" * 2),
+            (1, b"", b"pcalc: other.pcw: OutOfMemory\n"),
             (101, b"", b""),
             (None, b"", b""),
         ):
-            self.assertFalse(run.is_right(*wrong, True), wrong)
+            self.assertFalse(run.is_right(*wrong, True, True), wrong)
 
     def test_what_is_wrong_with_runs(self):
-        """Some must end with status 1."""
-        done, lost = (0, refused_growths.printed_with(0), b"", True, True), (1, b"", b"", True, False)
-        for ends, wrong in (([done, lost], 0), ([done, done], 1), ([done, lost, (2, b"", b"", True, True)], 1), ([lost, (*done[:4], False)], 1)):
+        """Some must end with status 1; without a line only the first, and no log is left without a base."""
+        done, silent = (0, refused_growths.printed_with(0), b"", True, True, True), (1, b"", b"", True, False, True)
+        lost = (1, b"", b"pcalc: left: OutOfMemory\n", True, False, True)
+        right = ([done, lost], [silent, silent, lost, done])
+        wrong = ([done, done], [done, lost, (2, b"", b"", True, True, True)], [lost, (*done[:4], False, True)], [done, silent], [silent, lost, silent], [(*lost[:5], False)])
+        for ends, wrong in [*((ends, 0) for ends in right), *((ends, 1) for ends in wrong)]:
             with mock.patch.object(refused_growths, "refused_each", return_value=enumerate(ends, 1)):
                 found = self.printed(refused_growths.ended, "library", "pcalc", self.folder, refused_growths.COMMANDS[0])[0]
                 self.assertEqual(len(found), wrong)
@@ -139,7 +144,7 @@ class Growths(InFolder):
         for written, is_right in (("right", True), ("wrong", False), ("", False)):
             script = f"printf {written} >out" if written else "true"
             command = refused_growths.Command("one", ("-c", script), {"in": b"x"}, [b""], ("out", b"right"))
-            self.assertEqual(command.call("", "sh", self.folder, 3)[-1], is_right)
+            self.assertEqual(command.call("", "sh", self.folder, 3)[-2:], (is_right, True))
         self.assertEqual(os.listdir(self.folder), [])
 
     def test_what_is_wrong_with_a_test(self):

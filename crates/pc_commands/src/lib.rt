@@ -12,7 +12,7 @@ mod verifying;
 pub use dumping::{dump_folder, form_of};
 pub use joining::join_parts;
 pub use logging::show_log;
-pub use parts::open_named;
+pub use parts::{is_same_file, open_named};
 pub use recovering::recover_folder;
 pub use stepping::step_script;
 pub use verifying::verify_paths;

@@ -5,6 +5,7 @@ use pc_texts::NamedFile;
 use pc_types::Refusal;
 use std::fs::File;
 use std::io::Read;
+use std::os::unix::fs::MetadataExt;
 use std::string::String;
 use std::{fs, io};
 
@@ -99,6 +100,14 @@ pub fn open_named<'a>(
     match fs::open(rt, path) {
         Ok(file) => Ok(Noted::new(file, named, causes)),
         Err(e) => Err(causes.note_unread(Doing::Opening, path, e)),
+    }
+}
+
+/// Whether both paths lead to one file or folder.
+pub fn is_same_file(rt: &HostRuntime, one: &str, other: &str) -> bool {
+    match (fs::metadata(rt, one), fs::metadata(rt, other)) {
+        (Ok(one), Ok(other)) => one.dev() == other.dev() && one.ino() == other.ino(),
+        _ => false,
     }
 }
 

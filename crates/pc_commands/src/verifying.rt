@@ -155,6 +155,7 @@ fn verify_files<R: Read + Drop, W: Write, E: Write>(
                 are_whole = are_whole && is_whole;
             }
         }
+        Err(Refusal::OutOfMemory) => return Err(Refusal::OutOfMemory),
         Err(why) => {
             let _ = report(dir.path.as_bytes(), why, errors);
             are_whole = false;
@@ -164,7 +165,8 @@ fn verify_files<R: Read + Drop, W: Write, E: Write>(
     Ok(are_whole && is_whole)
 }
 
-// The result of recovering the folder, without the pairs; whether it lacks nothing.
+// The result of recovering the folder, without the pairs; whether it lacks nothing. It is an error if the output failed, or if memory
+// ran out, which is reported.
 fn put_summary<W: Write, E: Write>(
     dir: ReadFolder<'_>,
     out: &mut Tally<W>,
@@ -179,8 +181,19 @@ fn put_summary<W: Write, E: Write>(
         has_pairs: false,
     };
     let ended = run_recover(dir.rt.alloc(), dir.path, folder, mode, out, errors);
-    match ended.lost {
+    match &ended.lost {
         Some(Lost::Output) => Err(Refusal::Device),
+        Some(lost) if is_for_memory(lost) => Err(Refusal::Device),
         _ => Ok(ended.status == 0),
     }
+}
+
+// Whether nothing was recovered because memory ran out.
+fn is_for_memory<R>(lost: &Lost<R>) -> bool {
+    let why = match lost {
+        Lost::Base(why) | Lost::Part(_, why) | Lost::Log(why) => why.refusal(),
+        Lost::Folder(why) => *why,
+        Lost::Damaged | Lost::Output => return false,
+    };
+    why == Refusal::OutOfMemory
 }

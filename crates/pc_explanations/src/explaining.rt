@@ -4,7 +4,7 @@ use crate::lacking::Lacking;
 use crate::meanings::meaning_of;
 use pc_disk::{BASE, Cause, Causes, Doing, INPUT, NO_FILE, OUTPUT, ReadFolder, is_device};
 use pc_io::Tally;
-use pc_texts::put_name;
+use pc_texts::{put_name, report};
 use pc_types::Refusal;
 use std::io::{Error, ErrorKind, IsTerminal, Read, Write};
 use std::{fs, io};
@@ -138,6 +138,7 @@ impl<'a> Explainer<'a> {
         let path = match self.about {
             About::Folder(path) => path,
             About::Start(path, _) => path,
+            About::Store(store) => store.from,
             _ => return None,
         };
         Some(ReadFolder {
@@ -198,6 +199,18 @@ impl<'a> Explainer<'a> {
             None => causes.first(),
         }
     }
+}
+
+/// How a command has ended. That memory ran out is reported by this name, since a command that ends with that has reported nothing.
+pub fn tell_ended(rt: &HostRuntime, name: &str, ended: io::Result<u8>) -> io::Result<u8> {
+    if let Err(e) = &ended {
+        if e.kind() == io::ErrorKind::OutOfMemory {
+            let stderr = rt.stderr();
+            let mut errors = Tally::new(io::writer(&stderr));
+            let _ = report(name.as_bytes(), Refusal::OutOfMemory, &mut errors);
+        }
+    }
+    ended
 }
 
 /// Standard output's failure, if it failed: it is reported only if faults are explained.

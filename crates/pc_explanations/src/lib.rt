@@ -7,6 +7,8 @@ mod lacking;
 mod meanings;
 mod skipped;
 
-pub use explaining::{About, Explained, Explainer, Served, explain_output, is_explained};
+pub use explaining::{
+    About, Explained, Explainer, Served, explain_output, is_explained, tell_ended,
+};
 pub use lacking::Lacking;
 pub use skipped::SkippedLines;

@@ -150,6 +150,26 @@ pub enum Task<'a> {
     Serve(ServeOptions<'a>),
 }
 
+impl<'a> Task<'a> {
+    /// The file or the folder that it is about, as it was given.
+    pub fn name(&self) -> &'a str {
+        match self {
+            Task::Step(options) => options.script,
+            Task::Run(options) => options.workload,
+            Task::Collapse(options) => options.target,
+            Task::Recover(options) => options.dir,
+            Task::Log(options) => options.file,
+            Task::Verify(options) => match options.paths.first() {
+                Some(path) => *path,
+                None => "",
+            },
+            Task::Dump(options) => options.dir,
+            Task::Load(options) => options.dir,
+            Task::Serve(options) => options.dir,
+        }
+    }
+}
+
 /// The task of the command line, or the error to print: a fault, or the help that was asked for.
 pub fn task_of<'a>(alloc: Global, words: &'a [&'a str]) -> Result<Option<Task<'a>>, Error> {
     let matches = command(alloc)?.try_get_matches_from(words)?;

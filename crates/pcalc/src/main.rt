@@ -12,6 +12,7 @@ use clap::error::ErrorKind;
 use loading::load_folder;
 use pc_commands::{dump_folder, join_parts, recover_folder, show_log, step_script, verify_paths};
 use pc_disk::fill_places;
+use pc_explanations::tell_ended;
 use pc_options::{Task, task_of, unreadable};
 use pc_serve::serve_folder;
 use running::run_clients;
@@ -45,7 +46,10 @@ fn run_command<H: Threads + Wait + Sync>(rt: &HostRuntime, threads: &H) -> io::R
         words.push(text.as_str())?;
     }
     match task_of(alloc, &words) {
-        Ok(Some(task)) => run_task(rt, threads, task),
+        Ok(Some(task)) => {
+            let name = task.name();
+            tell_ended(rt, name, run_task(rt, threads, task))
+        }
         Ok(None) => Ok(2),
         Err(e) => tell(rt, Err(e)),
     }

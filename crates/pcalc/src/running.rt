@@ -2,7 +2,7 @@
 use crate::gate::RunGate;
 use crate::run_folder::Claim;
 use crate::showing::run_shown;
-use pc_commands::open_named;
+use pc_commands::{is_same_file, open_named};
 use pc_disk::{
     Causes, FoundFolder, LateFile, Noted, ReadFolder, Target, folder_of, output_before,
     tell_unopened,
@@ -20,12 +20,11 @@ use pc_types::Refusal;
 use std::alloc::{AllocError, Global};
 use std::fs::File;
 use std::hash::RandomState;
+use std::io;
 use std::io::{BufWriter, Read, Write};
-use std::os::unix::fs::MetadataExt;
 use std::string::String;
 use std::sync::Wait;
 use std::thread::Threads;
-use std::{fs, io};
 
 /// The status of a run that failed.
 const FAILED: u8 = 1;
@@ -200,14 +199,6 @@ fn why_not_times(
     None
 }
 
-// Whether both paths lead to one file or folder.
-fn is_same_file(rt: &HostRuntime, one: &str, other: &str) -> bool {
-    match (fs::metadata(rt, one), fs::metadata(rt, other)) {
-        (Ok(one), Ok(other)) => one.dev() == other.dev() && one.ino() == other.ino(),
-        _ => false,
-    }
-}
-
 // Writes the times, and gives their file its name; the status.
 fn put_times<'a, E: Write>(
     setting: &Setting<'_>,
@@ -260,7 +251,10 @@ pub fn run<H: Threads + Wait + Sync, E: Write>(
         path,
         causes: setting.causes,
     };
-    let claim = Claim::new(dir, options.is_synced)?;
+    let Ok(claim) = Claim::new(dir, options.is_synced) else {
+        let _ = report(path.as_bytes(), Refusal::OutOfMemory, errors);
+        return Ok(FAILED);
+    };
     let status = run_opened(setting, threads, options, seed, Some(&claim), errors);
     claim.end();
     status
