@@ -46,10 +46,7 @@ fn run_command<H: Threads + Wait + Sync>(rt: &HostRuntime, threads: &H) -> io::R
         words.push(text.as_str())?;
     }
     match task_of(alloc, &words) {
-        Ok(Some(task)) => {
-            let name = task.name();
-            tell_ended(rt, name, run_task(rt, threads, task))
-        }
+        Ok(Some(task)) => tell_ended(rt, task.name(), run_task(rt, threads, task)),
         Ok(None) => Ok(2),
         Err(e) => tell(rt, Err(e)),
     }
