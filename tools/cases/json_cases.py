@@ -61,10 +61,19 @@ def round_cases(folder, pairs):
         yield Case(f"a dump in JSON of what was loaded, {name}", ("dump", made, "--json"), 0, lines)
 
 
+def members_of(pairs):
+    """The members of an object, none of which comes twice."""
+    members = dict(pairs)
+    if len(members) != len(pairs):
+        raise ValueError("a member comes twice")
+    return members
+
+
 def pair_of(line):
     """The pair of a line, or None."""
     try:
-        members = json.loads(line.decode(), parse_float=lambda _: None, parse_constant=lambda _: None, parse_int=lambda it: None if it == "-0" else int(it))
+        numbers = {"parse_float": lambda _: None, "parse_constant": lambda _: None, "parse_int": lambda it: None if it == "-0" else int(it)}
+        members = json.loads(line.decode(), object_pairs_hook=members_of, **numbers)
     except ValueError:
         return None
     space = members.pop("space", 0) if isinstance(members, dict) else None
@@ -97,8 +106,24 @@ FAULTS = {
     b'{"key":"a","value":"b","space":65536}': b"Malformed", b'{"key":"a","value":"b","space":-1}': b"Malformed",
     b'{"key":"a","value":"b","space":1.0}': b"Malformed", b'{"key":"a","value":"b","space":1e0}': b"Malformed",
     b'{"key":"a","value":"b","space":"1"}': b"Malformed", b'{"key":"\xff","value":"b"}': b"Malformed", b'{"key":"\\ud800","value":"b"}': b"Malformed",
+    b'{"key":"a","key":"a","value":"b"}': b"Malformed", b'{"key":"a","value":"b","value":"c"}': b"Malformed",
+    b'{"space":1,"key":"a","value":"b","space":1}': b"Malformed", b'{"key64":"YQ==","value":"b","key64":"YQ=="}': b"Malformed",
+    b'{"key":"a","\\u006bey":"b","value":"c"}': b"Malformed", b'{"key":"a","value":"b","value64":"YQ==","value":"b"}': b"Malformed",
+    b'{"key":"a","value":{"x":1,"x":2}}': b"Malformed", b'{"key":"a","value":"b","space":{"key":"a"}}': b"Malformed",
     b"[" * 100_000: b"Malformed", b'{"key":"","value":"b"}': b"KeyLength", b'{"key64":"","value":"b"}': b"KeyLength",
     b'{"key":"%s","value":"b"}' % (b"x" * 256): b"KeyLength", b'{"key":"a","value":"%s"}' % (b"v" * 65_536): b"ValueLength", b'{"key":"k","value":""}': b"Twice",
+}
+
+
+# Lines at fault, and why they are.
+REASONS = {
+    b"": b"Malformed it isn't JSON", b'{"key":"\xff","value":"b"}': b"Malformed it isn't UTF-8", b"[]": b"Malformed it is no object", b"{}": b"Malformed it has no key",
+    b'{"key":"a"}': b"Malformed it has no value", b'{"key":1,"value":"b"}': b"Malformed its key is no text", b'{"key":"a","value":null}': b"Malformed its value is no text",
+    b'{"key":"a","key64":"YQ==","value":"b"}': b"Malformed it has a key of either kind", b'{"key64":"YQ","value":"b"}': b"Malformed its key64 is no base64",
+    b'{"key":"a","value64":7}': b"Malformed its value64 is no base64", b'{"key":"a","value":"b","space":65536}': b"Malformed its space is no number from 0 to 65535",
+    b'{"key":"a","value":"b","space":1,"more":1}': b"Malformed it has a member of another name", b'{"key":"a","value":"b","ttl":5}': b"Malformed it has a member of another name",
+    b'{"key":"a","key":"b","value":"c"}': b"Malformed one of its members is written twice", b'{"key":"","value":"b"}': b"KeyLength its key has not 1 to 255 bytes",
+    b'{"key":"a","value":"%s"}' % (b"v" * 65_536): b"ValueLength its value has more than 65535 bytes", b'{"key":"k","value":""}': b"Twice an earlier line has its key",
 }
 
 

@@ -1,6 +1,7 @@
 -- A pair that is written is read back.
 use Rattle.std.proofs.Common.{◌≡◌, ℕ, suc, ◌<◌, ◌≤◌, ◌==◌, nat_lt, Bool, true, false, List, [], ◌∷◌, ◌++◌, length, BTreeMap, String, Global, string_bytes, Option, Some, None, refl, sym, ap, ◌∙◌, append-nil, arith, rules, codes, decimal}
-use Rattle.std.specs.Prelude.{if◌then◌else◌, option_and_then}
+use Rattle.std.specs.Borrow.{Bor}
+use Rattle.std.specs.Prelude.{if◌then◌else◌, option_and_then, option_map, unwrap_or}
 use Rattle.std.specs.Result.{result_ok}
 use Rattle.std.specs.Str.{IsUtf8, is_utf8}
 use Rattle.std.proofs.lemmas.Bool.{false_from_ne_true}
@@ -11,7 +12,11 @@ use Rattle.pc_types.specs.Bytes.{IsBytes}
 use Rattle.base64.specs.Engines.{standard}
 use Rattle.base64.specs.GeneralPurpose.{decode_of, encode_of}
 use Rattle.base64.proofs.EngineFacts.{IsAscii-encode_of, decode_of-encode_of}
-use Rattle.json.specs.Json.{if_last, value}
+use Rattle.json.specs.Json as json
+use Rattle.json.specs.Json.{document, if_last, value}
+use Rattle.json.specs.Strict.{keys}
+use Rattle.json.specs.Value as json_value
+use Rattle.json.specs.declared.value.Value as written
 use Rattle.json.specs.Lex.{tokens}
 use Rattle.json.specs.Tree.{HasNumbers, depth, json_tokens}
 use Rattle.json.proofs.Printed.Decimals.{IsNumber-decimal}
@@ -28,7 +33,7 @@ use Rattle.serde_json.proofs.Numbers.{number_of-decimal}
 use Rattle.serde_json.proofs.Texts.{print-outline}
 use Rattle.serde_json.specs.declared.value.Value.{Value, the_lemmas}
 use Rattle.serde_json.specs.declared.value.Value.TheVariants as variant
-use Rattle.pc_json.specs.JsonLines.{json_of, json_pair, json_text, object_pair, with_bytes}
+use Rattle.pc_json.specs.JsonLines.{json_of, json_pair, json_text, line_pair, member_count, names_in, names_written, object_pair, with_bytes}
 
 pub view_string : (s : String Global) → view (variant.String s) ≡ string (string_bytes s)
 view_string s = search (rules, the_lemmas)
@@ -42,6 +47,12 @@ length_of (m ∷ members) = ap suc (length_of members)
 
 not_utf8 : (bytes : List ℕ) → ¬ IsUtf8 bytes → is_utf8 bytes ≡ false
 not_utf8 bytes other = false_from_ne_true (is_utf8 bytes) (λ is. other (IsUtf8-from_is_utf8 bytes is))
+
+-- ---- the names that are written
+
+pub names_of : {A : Type 0} (members : List (Bor (List ℕ) × written.Value A)) → length (keys (json_value.members_view members)) ≡ length members
+names_of [] = refl
+names_of (m ∷ members) = ap suc (names_of members)
 
 -- ---- members
 
@@ -58,11 +69,11 @@ as_base64 name name64 bytes text members same utf8 =
 -- ---- lines
 
 pub no_line : (line : List ℕ) → ¬ IsUtf8 line → None ≡ json_pair line
-no_line line other = sym (ap (λ x. if x then option_and_then object_pair (read line) else None) (not_utf8 line other))
+no_line line other = sym (ap (λ x. if x then option_and_then (line_pair line) (read line) else None) (not_utf8 line other))
 
-pub line_is : (line text : List ℕ) (found : Option Data) → text ≡ line → IsUtf8 line → read text ≡ found → json_pair line ≡ option_and_then object_pair found
+pub line_is : (line text : List ℕ) (found : Option Data) → text ≡ line → IsUtf8 line → read text ≡ found → json_pair line ≡ option_and_then (line_pair text) found
 line_is line text found same utf8 is =
-    ap (λ x. if x then option_and_then object_pair (read line) else None) (is_utf8-from_IsUtf8 line utf8) ∙ ap (λ t. option_and_then object_pair (read t)) (sym same) ∙ ap (option_and_then object_pair) is
+    ap (λ x. if x then option_and_then (line_pair line) (read line) else None) (is_utf8-from_IsUtf8 line utf8) ∙ ap (λ t. option_and_then (line_pair t) (read t)) (sym same) ∙ ap (option_and_then (line_pair text)) is
 
 decoded_again : (bytes : List ℕ) → IsBytes bytes → result_ok (decode_of standard (encode_of standard bytes)) ≡ Some bytes
 decoded_again bytes fit = ap result_ok (decode_of-encode_of standard bytes refl fit)
@@ -129,6 +140,31 @@ module _ (space : ℕ) (own worth : List ℕ) (small : space < 65536) where
   shallow true false false = omega arith
   shallow false true false = omega arith
   shallow false false false = omega arith
+
+  counted : (a b none : Bool) → names_in (outline (made a b none)) == member_count (made a b none) ≡ true
+  counted true true true = refl
+  counted true false true = refl
+  counted false true true = refl
+  counted false false true = refl
+  counted true true false = refl
+  counted true false false = refl
+  counted false true false = refl
+  counted false false false = refl
+
+  document_again : document (json_text space own worth) ≡ Some (outline (json_of space own worth))
+  document_again =
+      let a = is_utf8 worth in
+      let b = is_utf8 own in
+      let none = space == 0 in
+      let it = outline (json_of space own worth) in
+      let again : tokens (json_text space own worth) ≡ json_tokens it ++ [] =
+      ap tokens (sym (print-outline (json_of space own worth))) ∙ tokens-print (json_tokens it) (ArePrintable-json_tokens it (numbered a b none)) ∙ sym (append-nil (json_tokens it)) in
+      ap (λ ts. option_and_then (λ p. if_last p.0 p.1) (value json.max_depth ts)) again
+      ∙ ap (λ o. option_and_then (λ p. if_last p.0 p.1) o) (value-json_tokens it json.max_depth [] (let less = shallow a b none in omega (arith, less)))
+
+  once_again : names_written (json_text space own worth) == member_count (json_of space own worth) ≡ true
+  once_again =
+      ap (λ found. unwrap_or (option_map names_in found) 0 == member_count (json_of space own worth)) document_again ∙ counted (is_utf8 worth) (is_utf8 own) (space == 0)
 
   read_again : read (json_text space own worth) ≡ Some (json_of space own worth)
   read_again =
@@ -210,4 +246,5 @@ module _ (space : ℕ) (own worth : List ℕ) (small : space < 65536) where
 pub json_again : (space : ℕ) (own worth : List ℕ) → space < 65536 → IsBytes own → IsBytes worth → json_pair (json_text space own worth) ≡ Some (space, own, worth)
 json_again space own worth small own_fits worth_fits =
     line_is (json_text space own worth) (json_text space own worth) (Some (json_of space own worth)) refl (utf8_text space own worth small) (read_again space own worth small)
+    ∙ ap (λ x. if x then object_pair (json_of space own worth) else None) (once_again space own worth small)
     ∙ pair_again space own worth small own_fits worth_fits

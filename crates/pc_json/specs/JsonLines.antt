@@ -1,9 +1,12 @@
 -- A pair as an object of JSON, and the pair of a line of JSON.
-use Rattle.std.specs.Prelude.{ℕ, ◌==◌, nat_lt, List, Option, Some, None, option_and_then, option_map, unwrap_or, codes, if◌then◌else◌}
+use Rattle.std.specs.Prelude.{ℕ, ◌==◌, nat_lt, List, length, Bool, Option, Some, None, option_and_then, option_map, unwrap_or, codes, if◌then◌else◌}
 use Rattle.std.specs.Result.{result_ok}
 use Rattle.std.specs.Str.{is_utf8}
 use Rattle.base64.specs.Engines.{standard}
 use Rattle.base64.specs.GeneralPurpose.{decode_of, encode_of}
+use Rattle.json.specs.Json as json
+use Rattle.json.specs.Json.{Json, document}
+use Rattle.json.specs.Strict.{keys}
 use Rattle.serde_json.specs.Data.{Data, Members, no_members, number, object, put, string, unsigned}
 use Rattle.serde_json.specs.Events.{members_len}
 use Rattle.serde_json.specs.Find.{as_number, as_object, as_str, as_u64, get}
@@ -82,6 +85,19 @@ object_pair found =
     let space = get (codes "space") found in
     if member_count found == most space then whole_pair (space_member space) (bytes_under (codes "key") (codes "key64") found) (bytes_under (codes "value") (codes "value64") found) else None
 
+-- how often the names of an object's members are written; 0 for any other value
+abbrev pub names_in : Json → ℕ
+names_in (json.object members) = length (keys members)
+names_in other = 0
+
+-- those of a text
+abbrev pub names_written : List ℕ → ℕ
+names_written text = unwrap_or (option_map names_in (document text)) 0
+
+-- the pair of the object of a line, in which each name is written once
+abbrev pub line_pair : List ℕ → Data → Option Pair
+line_pair line found = if names_written line == member_count found then object_pair found else None
+
 -- the pair of a line, which is JSON in UTF-8
 abbrev pub json_pair : List ℕ → Option Pair
-json_pair line = if is_utf8 line then option_and_then object_pair (read line) else None
+json_pair line = if is_utf8 line then option_and_then (line_pair line) (read line) else None

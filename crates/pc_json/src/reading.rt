@@ -1,11 +1,13 @@
 //! A line of JSON is read as a pair.
-ghost use Rattle.std.specs.Prelude.{◌≡◌, Some, None, IfOk, option_map, codes};
+ghost use Rattle.std.specs.Prelude.{◌≡◌, Some, None, IfOk, length, option_map, codes};
+ghost use Rattle.json.specs.Value.{value_view};
 ghost use Rattle.serde_json.specs.Find.{get};
 ghost use Rattle.serde_json.specs.View.{view};
-ghost use Rattle.pc_json.specs.JsonLines.{bytes_in, bytes_under, json_pair, member_count, most, object_pair, read_pair, space_member, space_number, text_under};
+ghost use Rattle.pc_json.specs.JsonLines.{bytes_in, bytes_under, json_pair, line_pair, member_count, most, names_in, names_written, object_pair, read_pair, space_member, space_number, text_under};
 
 use base64::DecodeAllocError;
 use base64::engine::general_purpose::STANDARD;
+use json::Scratch;
 use serde_json::{Category, Value};
 use std::alloc::{AllocError, Global};
 
@@ -18,7 +20,7 @@ pub struct JsonPair {
 }
 
 /// The pair of a line, without the line's end. `None` if the line isn't JSON in UTF-8, or not an object that has just a key, a
-/// value and, optionally, a space from 0 to 65,535. Its only error is a failed allocation.
+/// value and, optionally, a space from 0 to 65,535, each of them once. Its only error is a failed allocation.
 pub fn read_json(alloc: Global, line: &[u8]) -> Result<Option<JsonPair>, AllocError>
     ensures { IfOk result (λ found. option_map read_pair found ≡ json_pair line.now) }
 {
@@ -26,12 +28,50 @@ pub fn read_json(alloc: Global, line: &[u8]) -> Result<Option<JsonPair>, AllocEr
         return Ok(None);
     };
     match Value::from_str(alloc, text) {
-        Ok(value) => object_pair(alloc, &value),
+        Ok(value) => line_pair(alloc, text, &value),
         Err(why) => match why.classify() {
             Category::Memory => Err(AllocError),
             _ => Ok(None),
         },
     }
+}
+
+// The pair of the object of a line, in which each name is written once.
+fn line_pair(alloc: Global, text: &str, found: &Value) -> Result<Option<JsonPair>, AllocError>
+    ensures { IfOk result (λ pair. option_map read_pair pair ≡ line_pair text.now (view found.now)) }
+{
+    if names_written(alloc, text)? != member_count(found) {
+        return Ok(None);
+    }
+    object_pair(alloc, found)
+}
+
+// How often the names of the members of a text's object are written.
+fn names_written(alloc: Global, text: &str) -> Result<usize, AllocError>
+    ensures { IfOk result (λ count. count ≡ names_written text.now) }
+{
+    let mut scratch = Scratch::new(alloc);
+    match json::Value::parse(alloc, text, &mut scratch) {
+        Ok(written) => Ok(names_in(&written)),
+        Err(json::Error::Invalid) => Ok(0),
+        Err(_) => Err(AllocError),
+    }
+}
+
+fn names_in(written: &json::Value<'_>) -> usize
+    ensures { result ≡ names_in (value_view written.now) }
+{
+    if let json::Value::Object(members) = written {
+        count_of(members)
+    } else {
+        0
+    }
+}
+
+fn count_of(members: &[(&str, json::Value<'_>)]) -> usize
+    ensures { result ≡ length members.now }
+{
+    members.len()
 }
 
 // The pair of an object.
