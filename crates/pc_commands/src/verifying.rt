@@ -8,7 +8,7 @@ use pc_options::VerifyOptions;
 use pc_restore::{Folder, Lost, RecoveryMode, run_recover};
 use pc_texts::{NamedFile, end_output, report};
 use pc_types::Refusal;
-use pc_verify::{FileKind, verify_file};
+use pc_verify::{FileKind, Verified, verify_file};
 use std::alloc::Global;
 use std::io::{Read, Write};
 use std::{fs, io};
@@ -106,7 +106,17 @@ fn verify<R: Read + Drop, W: Write>(
     out: &mut Tally<W>,
 ) -> Result<bool, Refusal> {
     let name = Vec::from_slice(alloc, name.as_bytes())?;
-    verify_file(alloc, kind, NamedFile { name, opened }, out)
+    verify_named(alloc, kind, NamedFile { name, opened }, out)
+}
+
+fn verify_named<R: Read + Drop, W: Write>(
+    alloc: Global,
+    kind: FileKind,
+    file: NamedFile<R>,
+    out: &mut Tally<W>,
+) -> Result<bool, Refusal> {
+    let Verified { is_whole, .. } = verify_file(alloc, kind, file, out)?;
+    Ok(is_whole)
 }
 
 // The folder itself, or that of the generation that counts.
@@ -151,7 +161,7 @@ fn verify_files<R: Read + Drop, W: Write, E: Write>(
     match parts {
         Ok(files) => {
             for file in files {
-                let is_whole = verify_file(alloc, FileKind::Part, file, out)?;
+                let is_whole = verify_named(alloc, FileKind::Part, file, out)?;
                 are_whole = are_whole && is_whole;
             }
         }

@@ -46,6 +46,11 @@ IsFinding kind.Log bytes (found.Log head entries) = (log : LogRead) × (log_at b
 IsFinding kind.Log bytes (found.Fault why byte) = ((rest_of_log (length bytes) (log_at bytes)).fault ≡ Some why) × (byte ≡ length bytes - ((rest_of_log (length bytes) (log_at bytes)).bytes - 1))
 IsFinding kind bytes other = ⊥
 
+-- whether it is about bytes that were read
+abbrev pub is_of_text : Finding → Bool
+is_of_text (found.Unread why) = false
+is_of_text other = true
+
 -- whether it is a whole text
 abbrev pub is_sound : Finding → Bool
 is_sound (found.Fault why byte) = false

@@ -6,4 +6,4 @@ mod lines;
 mod verify;
 
 pub use findings::FileKind;
-pub use verify::verify_file;
+pub use verify::{Verified, verify_file};
