@@ -219,9 +219,12 @@ fn damaged(alloc: Global) -> Result<Folder<Tape<'static>>, AllocError> {
     Ok(folder)
 }
 
-// What is recovered of them; the damage is from the 18th byte to the 59th.
+// What is recovered of them.
 const RECOVERED: [u8; 75] = *b"point 1\nentries 1\nlog BadKind\n\
     skipped part-00003.pcp Gap 2\npairs 2\na 1\nb 1\n";
+
+// What they lack: the log ends before the token of the recovered point, too.
+const LACKED: [u8; 54] = *b"log unused 1\nlog BadKind\nskipped part-00003.pcp Gap 2\n";
 
 // If fewer bytes go out than there are, the status is 1, else it is 0, or 4 of a strict recovery; nothing is reported.
 #[test]
@@ -245,9 +248,9 @@ const NEXT_BASE: [u8; 44] = *b"PCALCB02\
     \x00\x01\x00\x00a\x00\x00\x00\x011\
     \x00\x01\x00\x00b\x00\x00\x00\x011";
 
-// Whether the base is made of the damaged folder, and its damage goes out as far as a writer with this much room takes it.
+// Whether the base is made of the damaged folder, and what that lacks goes out as far as a writer with this much room takes it.
 fn is_made(alloc: Global, folder: Folder<Tape>, room: usize) -> bool {
-    let mut errors = Tally::new(Sink::new(&RECOVERED[18..59], room));
+    let mut errors = Tally::new(Sink::new(&LACKED, room));
     let Ok(base) = recover_base(alloc, folder, true, &mut errors) else {
         return false;
     };
@@ -256,10 +259,10 @@ fn is_made(alloc: Global, folder: Folder<Tape>, room: usize) -> bool {
     went_out(errors) && is_answered(out, encoded)
 }
 
-// A writer that takes less of the damage than there is keeps no base from being made.
+// A writer that takes less of that than there is keeps no base from being made.
 #[test]
 fn makes_a_base_of_a_damaged_folder(rt: HostRuntime) -> Result<(), Fail> {
-    for room in 0..43usize {
+    for room in 0..LACKED.len() + 2 {
         let folder = damaged(rt.alloc())?;
         assert!(rt; is_made(rt.alloc(), folder, room), "{room}");
     }
@@ -279,7 +282,7 @@ fn is_refused(alloc: Global, folder: Folder<Tape>, told: &str) -> bool {
 // Damage is reported before.
 #[test]
 fn makes_no_base_of_a_damaged_folder(rt: HostRuntime) -> Result<(), Fail> {
-    let told = "log BadKind\nskipped part-00003.pcp Gap 2\npcalc: d\\x20d: Damaged\n";
+    let told = "log unused 1\nlog BadKind\nskipped part-00003.pcp Gap 2\npcalc: d\\x20d: Damaged\n";
     assert!(rt; is_refused(rt.alloc(), damaged(rt.alloc())?, told));
     Ok(())
 }
