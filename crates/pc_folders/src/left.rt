@@ -4,6 +4,7 @@ use pc_generations::Generations;
 use pc_io::Tally;
 use pc_opening::Begun;
 use pc_texts::report;
+use pc_types::Refusal;
 use std::alloc::AllocError;
 use std::io::Write;
 
@@ -15,23 +16,41 @@ pub fn tell_left<E: Write>(
     keep: u32,
     errors: &mut Tally<E>,
 ) -> Result<(), AllocError> {
-    let Err(why) = begun.removal else {
+    let Begun {
+        generation,
+        removal,
+    } = begun;
+    let Err(why) = removal else {
         return Ok(());
     };
-    let folders = GenerationFolders { dir };
-    let mut numbers = match folders.numbers(dir.rt.alloc()) {
-        Ok(numbers) => numbers,
+    match older_in(dir, generation.saturating_sub(keep)) {
+        Ok(left) => tell_each(dir, &left, why, errors),
         Err(_) => {
             let _ = report(dir.path.as_bytes(), why, errors);
-            return Ok(());
+            Ok(())
         }
-    };
+    }
+}
+
+// The generations of the folder with lower numbers, in order.
+fn older_in(dir: ReadFolder<'_>, least: u32) -> Result<Vec<u32>, Refusal> {
+    let folders = GenerationFolders { dir };
+    let mut numbers = folders.numbers(dir.rt.alloc())?;
+    numbers.retain(|number| *number < least);
     numbers.sort_unstable();
-    for older in &numbers {
-        if begun.generation.saturating_sub(*older) > keep {
-            let path = generation_path(dir, *older)?;
-            let _ = report(path.as_bytes(), why, errors);
-        }
+    Ok(numbers)
+}
+
+// Reports each of these generations.
+fn tell_each<E: Write>(
+    dir: ReadFolder<'_>,
+    numbers: &[u32],
+    why: Refusal,
+    errors: &mut Tally<E>,
+) -> Result<(), AllocError> {
+    for number in numbers {
+        let path = generation_path(dir, *number)?;
+        let _ = report(path.as_bytes(), why, errors);
     }
     Ok(())
 }

@@ -1,7 +1,5 @@
 //! A store that is served: it goes on as the store of a folder, and answers lines of standard input on standard output.
-ghost use Rattle.std.specs.Prelude.{◌≡◌, ◌≤◌, ◌++◌, [], codes, IfOk};
-ghost use Rattle.pc_types.specs.Names.{refusal_name};
-ghost use Rattle.pc_io.specs.Tallies.{Puts};
+ghost use Rattle.std.specs.Prelude.{◌≡◌, ◌≤◌, [], IfOk};
 ghost use Rattle.pc_engine.specs.Stands.{Stands};
 
 use crate::generation::{Failure, Generation, serve_generations};
@@ -387,8 +385,6 @@ fn tell_failure<E: Write>(
 }
 
 // Reports a fault of standard input, by its name as it is. Returns `Device` if and only if the device failed in this call.
-fn report_input<E: Write>(why: Refusal, errors: &mut Tally<E>) -> Result<(), Refusal>
-    ensures { Puts E.contents errors.old errors.new result (codes "pcalc: standard input: " ++ (refusal_name why ++ codes "\n")) }
-{
+fn report_input<E: Write>(why: Refusal, errors: &mut Tally<E>) -> Result<(), Refusal> {
     errors.put_all(&[b"pcalc: standard input: ", why.name().as_bytes(), b"\n"])
 }
