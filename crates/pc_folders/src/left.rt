@@ -49,8 +49,18 @@ fn tell_each<E: Write>(
     errors: &mut Tally<E>,
 ) -> Result<(), AllocError> {
     for number in numbers {
-        let path = generation_path(dir, *number)?;
-        let _ = report(path.as_bytes(), why, errors);
+        tell_one(dir, *number, why, errors)?;
     }
+    Ok(())
+}
+
+fn tell_one<E: Write>(
+    dir: ReadFolder<'_>,
+    number: u32,
+    why: Refusal,
+    errors: &mut Tally<E>,
+) -> Result<(), AllocError> {
+    let path = generation_path(dir, number)?;
+    let _ = report(path.as_bytes(), why, errors);
     Ok(())
 }
