@@ -68,6 +68,9 @@ fn state_of(dir: ReadFolder<'_>, has_parts: bool) -> Result<Option<Base>, AllocE
     let Ok(base) = recover_base(alloc, folder, true, &mut told) else {
         return Ok(None);
     };
+    if told.failures() > 0 {
+        return Err(AllocError);
+    }
     let told = told.into_inner();
     let lacks_log = told
         .split(|byte| *byte == b'\n')
