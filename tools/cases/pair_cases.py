@@ -260,6 +260,25 @@ def key_in(text):
     return None if own is None or int(found[1]) > 65_535 or found.end() == len(text) else (int(found[1]), own)
 
 
+# Lines at fault, and why they are.
+REASONS = {
+    b"a": b"Malformed a word is missing", b"": b"Malformed a word is missing", b"a b c": b"Malformed there are too many words", b"a  b": b"Malformed there are too many words",
+    b"\\s0:a b": b"Malformed the first word is no key", b"a\tb c": b"Malformed the first word is no key", b"a \\q": b"Malformed the second word is no value",
+    b"a b\r\r": b"Malformed a CR stands at its end", b" a": b"KeyLength the first word is no key of 1 to 255 bytes", b"- b": b"KeyLength the first word is no key of 1 to 255 bytes",
+    b"a " + b"v" * 65_536: b"ValueLength the second word is no value of at most 65535 bytes", b"k 1": b"Twice an earlier line has its key",
+}
+
+
+def reason_cases(folder, reasons, lines, *words):
+    """What `load --explain` says of the third line."""
+    os.makedirs(os.path.join(folder, "reasons"), exist_ok=True)
+    for line, why in reasons.items():
+        fault, _, reason = why.partition(b" ")
+        written(folder, "lines", lines + line + b"\nm x\n")
+        err = b"bad line 3 %s\nlines:3: %s\n" % (fault, reason)
+        yield Case(f"why a line is bad that is {line[:40]}", ("load", "reasons", "lines", "--explain", *words), 3, err=err, files={"reasons/base.pcb": None})
+
+
 def load_cases(folder):
     """Folders that are made of lines."""
     pairs = odd_pairs()
@@ -294,6 +313,8 @@ def load_cases(folder):
     yield Case("no lines for a folder that isn't there", ("load", "nowhere", "lines"), 1, err=b"pcalc: nowhere: NoFile\n")
     yield Case("no lines", ("load", "spare", "lines", "--run", "9"), 0, files={"spare/base.pcb": plain_files.Base(9, 0, {}).text(), "spare/log.pcl": plain_files.Log(9).text()})
     yield Case("a folder of no pairs", ("dump", "spare"), 0, b"")
+    yield from reason_cases(folder, REASONS, b"k v\nl w\n")
+    yield from reason_cases(folder, json_cases.REASONS, b'{"key":"k","value":"v"}\n{"value":"w","key":"l","space":0}\n', "--json")
     yield Case("load --help", ("load", "--help"), 0, parts=[b"<DIR>", b"[FILE]", b"--json", b"--run <N>"])
 
 

@@ -1,6 +1,7 @@
 //! The commands that read files: they join parts, recover and check folders, print logs and pairs, and run scripts.
 #![tactic(auto)]
 
+mod bad_lines;
 mod dumping;
 mod joining;
 mod logging;
@@ -9,6 +10,7 @@ mod recovering;
 mod stepping;
 mod verifying;
 
+pub use bad_lines::BadPair;
 pub use dumping::{dump_folder, form_of};
 pub use joining::join_parts;
 pub use logging::show_log;

@@ -1,14 +1,13 @@
 //! A folder that is made of lines of pairs, or whose served store gets them.
 use crate::run_folder::{Claim, NewFolder};
-use itoa::Buffer;
 use pc_bases::Base;
-use pc_commands::{form_of, open_named};
+use pc_commands::{BadPair, form_of, open_named};
 use pc_disk::{BASE, Causes, LOG, ReadFolder};
 use pc_explanations::{About, Explainer, explain_output};
 use pc_folders::{Filling, fill_store, has_store};
 use pc_io::Tally;
 use pc_options::LoadOptions;
-use pc_pairs::{Fault, Unloaded, load_base};
+use pc_pairs::{Unloaded, load_base};
 use pc_runs::{NewFiles, RunFolder, Unusable};
 use pc_texts::{FileName, end_output, read_opened, report, report_words};
 use pc_types::Refusal;
@@ -57,7 +56,13 @@ fn load<E: Write>(
         Ok(None) => Ok(failed(options.dir, Refusal::Full, errors)),
         Err(Unloaded::NoMemory) => Ok(failed(options.file, Refusal::OutOfMemory, errors)),
         Err(Unloaded::Line(number, fault)) => {
-            let _ = tell_line(number, fault, errors);
+            let bad = BadPair {
+                form,
+                text: &text,
+                number,
+                fault,
+            };
+            let _ = bad.tell(alloc, options.file, explainer.is_on, errors);
             Ok(BAD_LINE)
         }
     }
@@ -67,13 +72,6 @@ fn load<E: Write>(
 fn failed<E: Write>(name: &str, why: Refusal, errors: &mut Tally<E>) -> u8 {
     let _ = report(name.as_bytes(), why, errors);
     FAILED
-}
-
-// Reports the line that is at fault, and why.
-fn tell_line<E: Write>(number: u64, fault: Fault, errors: &mut Tally<E>) -> Result<(), Refusal> {
-    let mut buffer = Buffer::new();
-    let line = buffer.format(number).as_bytes();
-    errors.put_all(&[b"bad line ", line, b" ", fault.name(), b"\n"])
 }
 
 // Keeps the pairs in the folder: as the next generation of a served store, if it is the folder of one, or else as the files of a run.
