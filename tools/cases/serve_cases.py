@@ -172,8 +172,8 @@ def refusals(program, room):
     log = os.path.join(room, "three", "gen-0000001", "log.pcl")
     shutil.copy(log, os.path.join(room, "log"))
     os.unlink(log)
-    yield "a generation without its log is damaged", answers(program, room, ("three",), (), 1, b"pcalc: three/gen-0000001: Damaged\n")
-    yield "and is gone on with by --damaged", answers(program, room, ("three", "--damaged"), ((b"", b"ready run 2 pairs 0"),))
+    yield "a generation without its log is damaged", answers(program, room, ("three",), (), 1, b"log NoFile\npcalc: three/gen-0000001: Damaged\n")
+    yield "and is gone on with by --damaged", answers(program, room, ("three", "--damaged"), ((b"", b"ready run 2 pairs 0"),), 0, b"log NoFile\n")
 
 
 def rolls(program, room):
