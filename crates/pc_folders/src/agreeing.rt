@@ -3,9 +3,10 @@
 
 use crate::heads::BaseHead;
 use pc_bases::Base;
-use pc_disk::{BASE, FoundFolder, ReadFolder, is_device, open_folder, path_in};
+use pc_disk::{BASE, FoundFolder, LateFile, ReadFolder, is_device, open_folder, path_in};
 use pc_io::Tally;
-use pc_restore::recover_base;
+use pc_restore::{Folder, recover_base};
+use pc_texts::NamedFile;
 use pc_types::{Key, Refusal, Value};
 use std::alloc::AllocError;
 use std::fs::File;
@@ -18,15 +19,26 @@ const USUAL_RUN: u64 = 1;
 /// reaches the recovered point, the state is recovered without the parts too: if it has other pairs then, the parts are of another run,
 /// and are refused as such. It is an error only if an allocation failed.
 pub fn open_start<'a>(dir: ReadFolder<'a>) -> Result<FoundFolder<'a>, AllocError> {
-    let mut found = open_folder(dir)?;
-    let has_parts = match &found.folder.parts {
-        Ok(parts) => !parts.is_empty(),
-        Err(_) => false,
+    let FoundFolder { folder, unopened } = open_folder(dir)?;
+    let Folder { base, parts, log } = folder;
+    let parts = match parts {
+        Ok(files) => own_parts(dir, files)?,
+        Err(why) => Err(why),
     };
-    if has_parts && run_of(dir)? == USUAL_RUN && has_foreign_parts(dir)? {
-        found.folder.parts = Err(Refusal::OtherRun);
+    let folder = Folder { base, parts, log };
+    Ok(FoundFolder { folder, unopened })
+}
+
+// The parts, unless they are of another run.
+fn own_parts<'a>(
+    dir: ReadFolder<'a>,
+    files: Vec<NamedFile<LateFile<'a>>>,
+) -> Result<Result<Vec<NamedFile<LateFile<'a>>>, Refusal>, AllocError> {
+    let are_foreign = !files.is_empty() && run_of(dir)? == USUAL_RUN && has_foreign_parts(dir)?;
+    if are_foreign {
+        return Ok(Err(Refusal::OtherRun));
     }
-    Ok(found)
+    Ok(Ok(files))
 }
 
 // The number of the run of the folder's base; 0 if it can't be read.
@@ -60,10 +72,17 @@ fn has_foreign_parts(dir: ReadFolder<'_>) -> Result<bool, AllocError> {
 // The state that is recovered with the parts, or without them; `None` if there is none, or if it lacks something of the log.
 fn state_of(dir: ReadFolder<'_>, has_parts: bool) -> Result<Option<Base>, AllocError> {
     let alloc = dir.rt.alloc();
-    let FoundFolder { mut folder, .. } = open_folder(dir)?;
-    if !has_parts {
-        folder.parts = Ok(Vec::new(alloc));
-    }
+    let FoundFolder {
+        folder,
+        unopened: _,
+    } = open_folder(dir)?;
+    let Folder { base, parts, log } = folder;
+    let parts = if has_parts {
+        parts
+    } else {
+        Ok(Vec::new(alloc))
+    };
+    let folder = Folder { base, parts, log };
     let mut told = Tally::new(Vec::new(alloc));
     let Ok(base) = recover_base(alloc, folder, true, &mut told) else {
         return Ok(None);
