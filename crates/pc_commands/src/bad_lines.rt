@@ -21,8 +21,15 @@ pub struct BadPair<'a> {
     pub fault: Fault,
 }
 
-// A reason, in pieces.
-type Words = [&'static [u8]; 3];
+// A reason: words, the name of a member, and the words after it; all but the first are empty if it is about no member.
+#[derive(Clone, Copy)]
+struct Reason(&'static [u8], &'static str, &'static [u8]);
+
+impl Reason {
+    fn plain(words: &'static [u8]) -> Reason {
+        Reason(words, "", b"")
+    }
+}
 
 impl<'a> BadPair<'a> {
     /// Reports it, and, if that is explained, the reason by the name of the text's file.
@@ -48,28 +55,25 @@ impl<'a> BadPair<'a> {
         name: &str,
         errors: &mut Tally<E>,
     ) -> Result<(), Refusal> {
-        let reason = self.reason(alloc)?;
+        let Reason(first, member, last) = self.reason(alloc)?;
         let mut buffer = Buffer::new();
         put_name(errors, name.as_bytes())?;
         errors.put_all(&[b":", buffer.format(self.number).as_bytes(), b": "])?;
-        errors.put_all(&reason)?;
-        errors.put(b"\n")
+        errors.put_all(&[first, member.as_bytes(), last, b"\n"])
     }
 
-    fn reason(&self, alloc: Global) -> Result<Words, AllocError> {
+    fn reason(&self, alloc: Global) -> Result<Reason, AllocError> {
         let is_json = matches!(self.form, Form::Json);
         Ok(match self.fault {
-            Fault::Twice => [b"an earlier line has its key", b"", b""],
-            Fault::KeyLength if is_json => [b"its key has not 1 to 255 bytes", b"", b""],
-            Fault::KeyLength => [b"the first word is no key of 1 to 255 bytes", b"", b""],
-            Fault::ValueLength if is_json => [b"its value has more than 65535 bytes", b"", b""],
-            Fault::ValueLength => [
+            Fault::Twice => Reason::plain(b"an earlier line has its key"),
+            Fault::KeyLength if is_json => Reason::plain(b"its key has not 1 to 255 bytes"),
+            Fault::KeyLength => Reason::plain(b"the first word is no key of 1 to 255 bytes"),
+            Fault::ValueLength if is_json => Reason::plain(b"its value has more than 65535 bytes"),
+            Fault::ValueLength => Reason::plain(
                 b"the second word is no value of at most 65535 bytes",
-                b"",
-                b"",
-            ],
+            ),
             Fault::Malformed if is_json => json_reason(alloc, self.line())?,
-            Fault::Malformed => [words_reason(alloc, self.line())?, b"", b""],
+            Fault::Malformed => Reason::plain(words_reason(alloc, self.line())?),
         })
     }
 
@@ -105,15 +109,15 @@ fn words_reason(alloc: Global, line: &[u8]) -> Result<&'static [u8], AllocError>
 }
 
 // Why a line of JSON isn't the object of a pair.
-fn json_reason(alloc: Global, line: &[u8]) -> Result<Words, AllocError> {
+fn json_reason(alloc: Global, line: &[u8]) -> Result<Reason, AllocError> {
     let Ok(text) = str::from_utf8(line) else {
-        return Ok([b"it isn't UTF-8", b"", b""]);
+        return Ok(Reason::plain(b"it isn't UTF-8"));
     };
     match Value::from_str(alloc, text) {
         Ok(found) => object_reason(alloc, &found),
         Err(why) => match why.classify() {
             Category::Memory => Err(AllocError),
-            _ => Ok([b"it isn't JSON", b"", b""]),
+            _ => Ok(Reason::plain(b"it isn't JSON")),
         },
     }
 }
@@ -122,9 +126,9 @@ fn json_reason(alloc: Global, line: &[u8]) -> Result<Words, AllocError> {
 const NAMES: [(&str, &str); 2] = [("key", "key64"), ("value", "value64")];
 
 // Why an object isn't that of a pair: if nothing is wrong with its members, one is written twice.
-fn object_reason(alloc: Global, found: &Value) -> Result<Words, AllocError> {
+fn object_reason(alloc: Global, found: &Value) -> Result<Reason, AllocError> {
     let Some(members) = found.as_object() else {
-        return Ok([b"it is no object", b"", b""]);
+        return Ok(Reason::plain(b"it is no object"));
     };
     for (name, name64) in NAMES {
         if let Some(reason) = bytes_reason(alloc, found, name, name64)? {
@@ -135,13 +139,13 @@ fn object_reason(alloc: Global, found: &Value) -> Result<Words, AllocError> {
     if let Some(space) = found.get("space") {
         most = 3;
         if !is_space(space) {
-            return Ok([b"its space is no number from 0 to 65535", b"", b""]);
+            return Ok(Reason::plain(b"its space is no number from 0 to 65535"));
         }
     }
     if members.len() > most {
-        return Ok([b"it has a member of another name", b"", b""]);
+        return Ok(Reason::plain(b"it has a member of another name"));
     }
-    Ok([b"one of its members is written twice", b"", b""])
+    Ok(Reason::plain(b"one of its members is written twice"))
 }
 
 fn is_space(space: &Value) -> bool {
@@ -157,14 +161,14 @@ fn bytes_reason(
     found: &Value,
     name: &'static str,
     name64: &'static str,
-) -> Result<Option<Words>, AllocError> {
+) -> Result<Option<Reason>, AllocError> {
     match (found.get(name), found.get(name64)) {
-        (None, None) => Ok(Some([b"it has no ", name.as_bytes(), b""])),
-        (Some(_), Some(_)) => Ok(Some([b"it has a ", name.as_bytes(), b" of either kind"])),
+        (None, None) => Ok(Some(Reason(b"it has no ", name, b""))),
+        (Some(_), Some(_)) => Ok(Some(Reason(b"it has a ", name, b" of either kind"))),
         (Some(text), None) if text.as_str().is_some() => Ok(None),
-        (Some(_), None) => Ok(Some([b"its ", name.as_bytes(), b" is no text"])),
+        (Some(_), None) => Ok(Some(Reason(b"its ", name, b" is no text"))),
         (None, Some(text)) if is_base64(alloc, text)? => Ok(None),
-        (None, Some(_)) => Ok(Some([b"its ", name64.as_bytes(), b" is no base64"])),
+        (None, Some(_)) => Ok(Some(Reason(b"its ", name64, b" is no base64"))),
     }
 }
 

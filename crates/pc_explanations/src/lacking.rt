@@ -5,7 +5,7 @@ use itoa::Buffer;
 use pc_disk::{LOG, ReadFolder, names_in, path_in};
 use pc_faults::{TextKind, locate};
 use pc_io::Tally;
-use pc_log::read_log;
+use pc_log::{LogText, read_log};
 use pc_restore::{Lacks, LogHeader};
 use pc_texts::put_name;
 use pc_types::Refusal;
@@ -125,10 +125,11 @@ impl<'a> Lacking<'a> {
         let Ok(text) = read_log(alloc, &bytes) else {
             return Ok(None);
         };
-        let Some(why) = text.fault else {
+        let LogText { rest, fault, .. } = text;
+        let Some(why) = fault else {
             return Ok(None);
         };
-        let end = bytes.len().saturating_sub(text.rest);
+        let end = bytes.len().saturating_sub(rest);
         let is_zero = bytes.iter().skip(end).all(|byte| *byte == 0);
         Ok(Some(LogRest {
             path,

@@ -24,7 +24,7 @@ pub fn tell_left<E: Write>(
         return Ok(());
     };
     match older_in(dir, generation.saturating_sub(keep)) {
-        Ok(left) => tell_each(dir, &left, why, errors),
+        Ok(left) => tell_each(dir, &left, &why, errors),
         Err(_) => {
             let _ = report(dir.path.as_bytes(), why, errors);
             Ok(())
@@ -45,11 +45,11 @@ fn older_in(dir: ReadFolder<'_>, least: u32) -> Result<Vec<u32>, Refusal> {
 fn tell_each<E: Write>(
     dir: ReadFolder<'_>,
     numbers: &[u32],
-    why: Refusal,
+    why: &Refusal,
     errors: &mut Tally<E>,
 ) -> Result<(), AllocError> {
     for number in numbers {
-        tell_one(dir, *number, why, errors)?;
+        tell_one(dir, *number, *why, errors)?;
     }
     Ok(())
 }
