@@ -1,5 +1,5 @@
 -- The output of a file's line.
-use Rattle.std.specs.Prelude.{◌≡◌, ◌⊎◌, ℕ, Bool, true, List, Option, Some, None, Ok, Err}
+use Rattle.std.specs.Prelude.{◌≡◌, ◌≢◌, ◌⊎◌, ℕ, Bool, true, List, Option, Some, None, Ok, Err}
 use Rattle.std.specs.declared.result.Result.{Result}
 use Rattle.pc_io.specs.Counted.{HasRisen}
 use Rattle.pc_io.specs.Tallies.{Puts, failures_of}
@@ -14,10 +14,10 @@ use Rattle.pc_verify.specs.declared.findings.Finding.TheVariants as found
 use Rattle.pc_verify.specs.Findings.{IsFinding, is_of_text, is_sound}
 use Rattle.pc_verify.specs.Lines.{finding_line}
 
--- The finding about a file, with its reader if that failed: why it can't be opened; or `Device`, and the reader has counted the read that
+-- The finding about a file, with its reader if that failed: why it can't be opened, if not for memory; or `Device`, and the reader has counted the read that
 -- failed; or what its bytes are, said if they are known.
 abbrev pub IsFindingAbout : {R : Type 0} → (R → Option (List ℕ)) → FileKind → Result R Refusal → Option (Tally R) → Finding → Type 0
-IsFindingAbout remaining kind (Err why) failed finding = (finding ≡ found.Unread why) × (failed ≡ None)
+IsFindingAbout remaining kind (Err why) failed finding = (finding ≡ found.Unread why) × (failed ≡ None) × (why ≢ OutOfMemory)
 IsFindingAbout remaining kind (Ok reader) (Some failed) finding = (finding ≡ found.Unread Device) × HasRisen 0 (failures_of failed)
 IsFindingAbout remaining kind (Ok reader) None finding = (is_of_text finding ≡ true) × ((bytes : List ℕ) → HoldsBytes remaining (Ok reader) bytes → IsFinding kind bytes finding)
 

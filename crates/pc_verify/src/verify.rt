@@ -1,5 +1,5 @@
 //! A file, from its reader to its line.
-ghost use Rattle.std.specs.Prelude.{◌≡◌, true, None, IfOk, IfErr};
+ghost use Rattle.std.specs.Prelude.{◌≡◌, ◌≢◌, true, None, IfOk, IfErr};
 ghost use Rattle.pc_types.specs.declared.refusal.Refusal.{Refusal};
 ghost use Rattle.pc_verify.specs.declared.findings.Finding.{Finding};
 ghost use Rattle.pc_verify.specs.Findings.{IsFinding, is_of_text};
@@ -87,7 +87,7 @@ fn found_in<R>(alloc: Global, kind: FileKind, bytes: &[u8]) -> Result<Found<R>, 
 
 // The finding about a file that can't be opened for this, unless an allocation failed.
 fn found_absent<R>(why: Refusal) -> Result<Found<R>, Refusal>
-    ensures found { IfOk result (λ found. (found.finding ≡ Finding.Unread why) × (found.failed ≡ None)) }
+    ensures found { IfOk result (λ found. (found.finding ≡ Finding.Unread why) × (found.failed ≡ None) × (why ≢ Refusal.OutOfMemory)) }
     ensures memory { IfErr result (λ why. why ≡ Refusal.OutOfMemory) }
 {
     if why == Refusal::OutOfMemory {
