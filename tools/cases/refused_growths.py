@@ -113,8 +113,11 @@ PARTS = {f"{point}.pcp": plain_files.Part(1, [(point, point)], keyed({b"a key of
 # The second one is of format 01, as the base is.
 TEXTS = {name: part.text(plain_files.FIRST if name == "2.pcp" else plain_files.SECOND) for name, part in PARTS.items()}
 LOG = plain_files.Log(1)
-PHASES = [("token", phase, point) for point in (1, 2, 3) for phase in ("prepare", "resolve", "capture", "complete", "rest")]
-LOG.entries = [*PHASES, plain_files.commit(1, {b"another key of many letters": b"x"}, 7)]
+PHASES = ("prepare", "resolve", "capture", "complete", "rest")
+# What the parts have was committed before each point.
+for POINT in (1, 2, 3):
+    LOG.entries += [plain_files.commit(1, {b"a key of many letters": b"%d" % POINT, b"b": None}), *(("token", phase, POINT) for phase in PHASES)]
+LOG.entries.append(plain_files.commit(1, {b"another key of many letters": b"x"}, 7))
 FOLDER = {"base.pcb": plain_files.Base(1, 0, keyed({b"c": b"a value of many letters"})).text(plain_files.FIRST), "log.pcl": LOG.text(), **TEXTS}
 FOUND = plain_files.recover(FOLDER["base.pcb"], [*TEXTS.items()], FOLDER["log.pcl"])
 STATE, PAIRS = FOUND.text(), len(FOUND.pairs)
