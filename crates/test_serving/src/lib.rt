@@ -4,4 +4,6 @@
 #[cfg(test)]
 mod devices;
 #[cfg(test)]
+mod kills;
+#[cfg(test)]
 mod serving;

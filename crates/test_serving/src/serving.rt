@@ -143,7 +143,7 @@ fn filled_generation_leaves_the_rest(rt: HostRuntime) -> Result<(), Fail> {
 }
 
 // The number of commits answered.
-fn commits_in(sent: &[u8]) -> usize {
+pub(crate) fn commits_in(sent: &[u8]) -> usize {
     let mut commits = 0usize;
     for line in sent.split(|byte| *byte == b'\n') {
         if line.starts_with(b"committed ") {
